@@ -2,7 +2,7 @@
 use Rattle.std.proofs.Common.{◌≡◌, ℕ, ◌+◌, ◌-◌, ◌<◌, ◌≤◌, inl, inr, List, [], ◌∷◌, ◌++◌, refl, ap, sym, ◌∙◌, subst, arith, append_assoc, append-nil, map, length, take, Option, Some, None, length-append, drop, ap₂, not}
 use Rattle.std.specs.Prelude.{option_to_list, All}
 use Rattle.std.specs.List.{AllByRecursion, filter, flat_map, copy_within}
-use Rattle.std.proofs.lemmas.List.{map-append, length_push, length-map, get_or-map, take-append-le}
+use Rattle.std.proofs.lemmas.List.{map-append, length-map, get_or-map, take-append-le}
 use Rattle.std.proofs.lemmas.List.Elements.{All-append, All-filter, All-from_recursion, All-map}
 use Rattle.std.proofs.lemmas.List.Filters.{length-filter_both}
 use Rattle.std.proofs.lemmas.List.Edits.{take-paste}
@@ -13,8 +13,9 @@ use Rattle.links.specs.declared.links.Link.{Link}
 use Rattle.gr_text.specs.Lines.{IsLine, ended, EndsLines}
 use Rattle.gr_text.specs.Statement.{Statement, Problem, ArcLine, Says, Say}
 use Rattle.gr_text.specs.Graph.{IsArcOf, AreLawfulLines}
-use Rattle.gr_text.specs.ArcLines.{AreArcLines, BeginsWithArc}
+use Rattle.gr_text.specs.ArcLines.{AreArcLines, FillsRoom, BeginsWithArc}
 use Rattle.gr_text.specs.LinesSoFar.{AreKept, IsWithinSize}
+use Rattle.gr_text.specs.declared.arc_lines.ArcLines.{ArcLines}
 use Rattle.gr_text.specs.declared.sizes.Size.{Size}
 use Rattle.gr_text.proofs.Alls.{All-both}
 use Rattle.gr_text.proofs.Cuts.{EndsLines-none, EndsLines-more, EndsLines-line}
@@ -59,15 +60,6 @@ arcs_append n k m xs ys links others a b = record {
 pub arcs_more : (n k : ℕ) (done rest : List ℕ) (links : List Link) (link : Option Link) (after : List ℕ) → AreArcLines n k done links → (first : BeginsWithArc n rest link after)
     → AreArcLines n (k + 1) (done ++ ended first.line) (links ++ option_to_list link)
 arcs_more n k done rest links link after are first = arcs_append n k 1 done (ended first.line) links (option_to_list link) are (arcs_one n rest link after first)
-
--- each line has a byte at least, that of its line feed
-ended_few : (lines : List (List ℕ)) → length lines ≤ length (flat_map ended lines)
-ended_few [] = omega arith
-ended_few (line ∷ lines) =
-    omega (arith, ended_few lines, length-append (ended line) (flat_map ended lines), length_push line 10)
-
-pub lines_few : (bytes : List ℕ) (lines : List (List ℕ)) → EndsLines bytes lines [] → length lines ≤ length bytes
-lines_few bytes lines cut = omega (arith, ended_few lines, ap length cut.whole, length-append (flat_map ended lines) [])
 
 -- the links of arcs are no more than these, and have their ends
 pub links_few : (arcs : List Arc) (links : List Link) → AreLinksOf arcs links → length links ≤ length arcs
@@ -120,3 +112,18 @@ moved front back middle a b at few more =
     ap₂ (λ (xs : List Link) (k : ℕ). take (a + b) (paste whole a xs k)) behind count
     ∙ take-paste whole a back b (omega (arith, few, length-append front back)) more
     ∙ ap (λ xs. xs ++ take b back) (take-append-le a front back few)
+
+pub fills_both : (n middle : ℕ) (bytes xs ys : List ℕ) (first second : ArcLines) (front back new : List Link) → bytes ≡ xs ++ ys → length front ≡ middle
+    → FillsRoom n xs first front → FillsRoom n ys second back → new ≡ copy_within (front ++ back) middle (middle + second.links) first.links
+    → length new ≡ length (front ++ back) → FillsRoom n bytes (record { lines = first.lines + second.lines; links = first.links + second.links }) new
+fills_both n middle bytes xs ys first second front back new whole at a b is long =
+    let count = first.lines + second.lines in
+    let links : take (first.links + second.links) new ≡ take first.links front ++ take second.links back =
+    ap (take (first.links + second.links)) is ∙ moved front back middle first.links second.links at a.within b.within in
+    record {
+      within = omega (arith, long, length-append front back, a.within, b.within);
+      few = omega (arith, ap length whole, length-append xs ys, a.few, b.few);
+      are = subst (λ (zs : List ℕ). AreArcLines n count zs (take (first.links + second.links) new)) (sym whole)
+          (subst (AreArcLines n count (xs ++ ys)) (sym links)
+          (arcs_append n first.lines second.lines xs ys (take first.links front) (take second.links back) a.are b.are));
+    }

@@ -31,10 +31,10 @@ has_read_on reader text is short counted stands = record {
       (sym is) (short, counted, stands);
 }
 
-pub takes_lines : (old : ReaderValue) (so_far : LinesSoFarValue) (count : ℕ) (piece : List ℕ) → old.fault ≡ None → old.partial.begun ≡ false
+lines_taken : (old : ReaderValue) (so_far : LinesSoFarValue) (count : ℕ) (piece : List ℕ) → old.fault ≡ None → old.partial.begun ≡ false
     → old.fed + length piece ≤ old.limit → AddsLines count piece old.so_far so_far
     → TakesPiece piece old (record old { fed = old.fed + length piece; number = old.number + count; so_far = so_far })
-takes_lines old so_far count piece none fresh fits adds = record {
+lines_taken old so_far count piece none fresh fits adds = record {
   limit = refl;
   within = fits;
   grows = refl;
@@ -44,6 +44,13 @@ takes_lines old so_far count piece none fresh fits adds = record {
       (Stands-lines old so_far (old.fed + length piece) count text piece stands fresh adds);
   fault = none;
 }
+
+pub takes_lines : (was old : ReaderValue) → was ≡ old → (so_far : LinesSoFarValue) (count : ℕ) (piece : List ℕ) → was.fault ≡ None → was.partial.begun ≡ false
+    → was.fed + length piece ≤ was.limit → AddsLines count piece was.so_far so_far
+    → TakesPiece piece old (record was { fed = was.fed + length piece; number = was.number + count; so_far = so_far })
+takes_lines was old same so_far count piece none fresh fits adds =
+    subst (λ (v : ReaderValue). TakesPiece piece v (record was { fed = was.fed + length piece; number = was.number + count; so_far = so_far })) same
+    (lines_taken was so_far count piece none fresh fits adds)
 
 -- one part after another
 pub fed_then : {X Y : Type 0} (x : X) (r : Result Y ReadFault) (first second : List ℕ) (old mid new : ReaderValue) → IsFed (Ok x) first old mid

@@ -24,6 +24,7 @@ pub record AreArcLines (n count : ℕ) (bytes : List ℕ) (links : List Link) : 
 -- the bytes are such lines, and their links stand in front in the room
 pub record FillsRoom (n : ℕ) (bytes : List ℕ) (found : ArcLines) (room : List Link) : Type 0 where
   pub within : found.links ≤ length room
+  pub few : found.lines ≤ length bytes
   pub are : AreArcLines n found.lines bytes (take found.links room)
 
 -- the room keeps its length; where an answer is given, the bytes are such lines, and their links stand in front in it

@@ -83,6 +83,7 @@ pub record AddsLines (count : ℕ) (bytes : List ℕ) (old new : LinesSoFarValue
   pub lines : List (List ℕ)
   pub cut : EndsLines bytes lines []
   pub each_line : length lines ≡ count
+  pub few : count ≤ length bytes
   pub gives : (before : List (List ℕ)) → Gives old before → Gives new (before ++ lines)
 
 -- the graph of whole lines

@@ -4,6 +4,7 @@
 //! ```text
 //! source --sourced--> pieces --reader--> bytes --partial_line/words or usual_line--> lines
 //! lines --verdicts/lines_so_far--> graph
+//! pieces --feeders--> whole arc lines --parallel, by threads--> parts --arc_lines--> links
 //! forest --spelled--> lines --piece--> 8 KiB --writer--> sink
 //! ```
 //!
@@ -17,7 +18,8 @@
 //! fault comes first, `specs/Fault`, then `verdicts`; the limits of vertices, arc lines, bytes and weights, the crate
 //! `limits`, and for wider numbers `cap` in `specs/Word`, then `words` and `verdicts`. A byte goes into a `Word` (the
 //! field that is coming), a field into `LineFields` (those of its line), a line into `LinesSoFar` (what the whole lines
-//! say); an arc line in its usual form that lies whole in a piece is read at once, by `usual_line`.
+//! say); an arc line in its usual form that lies whole in a piece is read at once, by `usual_line`. Threads share such
+//! lines alone (`feeders`); all else is read in the order of the text.
 #![tactic(auto)]
 
 mod arc_lines;

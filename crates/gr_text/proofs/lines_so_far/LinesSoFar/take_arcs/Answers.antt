@@ -32,6 +32,7 @@ returns g c =
       lines = fills.are.lines;
       cut = fills.are.cut;
       each_line = fills.are.each_line;
+      few = fills.few;
       gives = λ before gives.
           let known = subst (λ (v : LinesSoFarValue). Gives v before) (sym c.self.view_is) gives in
           let kept = subst (λ (s : Option Size). AreKept s was.count was.links.items before) c.in_ok-size.was known in
