@@ -10,9 +10,11 @@ pub mod OrNot
 pub mod Sorts
 pub mod Faulty
 pub mod Cuts
+pub mod ArcLineParts
 pub mod Standing
 pub mod Feeding
 pub mod Ending
+pub mod Pieces
 pub mod Sourcing
 pub mod Handing
 pub mod ForestLines

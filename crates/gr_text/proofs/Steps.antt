@@ -84,7 +84,7 @@ links_of_arc arc (Some link) loop key =
     let differ : arc.tail ≢ arc.head = λ same. let never : true ≡ false = loop.1 same in cc in
     AreLinksOf-link [] [] arc link refl (grind (arith, nat_tests)) key
 
-AreLinksOf-append : (arcs more : List Arc) (links others : List Link) → AreLinksOf arcs links → AreLinksOf more others → AreLinksOf (arcs ++ more) (links ++ others)
+pub AreLinksOf-append : (arcs more : List Arc) (links others : List Link) → AreLinksOf arcs links → AreLinksOf more others → AreLinksOf (arcs ++ more) (links ++ others)
 AreLinksOf-append arcs more links others are also =
     map-append key_of links others
     ∙ ap (λ (ks : List Key). ks ++ map key_of others) are

@@ -33,6 +33,10 @@ IsWrong (Makes (ArcLine arc)) (Stated n m arcs) kind = ((length arcs ≡ m) × (
     ⊎ ((length arcs < m) × ¬ (HasEnds n arc) × (kind ≡ EndOutOfRange))
     ⊎ ((length arcs < m) × HasEnds n arc × ¬ (IsWeight arc.weight) × (kind ≡ WeightOutOfRange))
 
+-- what is wrong with an arc of a graph of n vertices
+abbrev pub IsWrongArc : ℕ → Arc → GrKind → Type 0
+IsWrongArc n arc kind = (¬ (HasEnds n arc) × (kind ≡ EndOutOfRange)) ⊎ (HasEnds n arc × ¬ (IsWeight arc.weight) × (kind ≡ WeightOutOfRange))
+
 -- the kind of a line's fault, by its sort and by what the lines before it say
 pub record IsFaultAfter (before : List (List ℕ)) (line : List ℕ) (kind : GrKind) : Type 0 where
   pub so_far : SaidSoFar

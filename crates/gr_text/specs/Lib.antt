@@ -10,6 +10,7 @@ pub mod Word
 pub mod LinesSoFar
 pub mod PartialLine
 pub mod UsualArc
+pub mod ArcLines
 pub mod Reader
 pub mod Sourced
 pub mod Written

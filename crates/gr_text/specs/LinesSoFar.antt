@@ -4,6 +4,7 @@ use Rattle.limits.specs.declared.TheConstants.{MAX_ARCS, MAX_VERTICES}
 use Rattle.links.specs.Arc.{Arc}
 use Rattle.links.specs.Link.{AreLinksOf, EndsUpTo}
 use Rattle.links.specs.declared.links.Link.{Link}
+use Rattle.gr_text.specs.Lines.{EndsLines}
 use Rattle.gr_text.specs.Statement.{Problem, ArcLine, IsSilent, Says, Say}
 use Rattle.gr_text.specs.Graph.{GraphValue, IsArcOf, AreLawfulLines}
 use Rattle.gr_text.specs.Fault.{IsFaultAfter, Lacks}
@@ -76,6 +77,14 @@ IsTaken result kept number lines line = MatchResult result (λ _. Gives kept (li
 -- one more arc is kept, of this link, or a loop
 abbrev pub AddsLink : LinesSoFarValue → LinesSoFarValue → Option Link → Type 0
 AddsLink old new link = (new.size ≡ old.size) × (new.count ≡ old.count + 1) × (new.links ≡ old.links ++ option_to_list link)
+
+-- the bytes are so many lines, each ended by a line feed; behind any lines of which `old` is kept, `new` is kept of all
+pub record AddsLines (count : ℕ) (bytes : List ℕ) (old new : LinesSoFarValue) : Type 0 where
+  pub lines : List (List ℕ)
+  pub cut : EndsLines bytes lines []
+  pub each_line : length lines ≡ count
+  pub few : count ≤ length bytes
+  pub gives : (before : List (List ℕ)) → Gives old before → Gives new (before ++ lines)
 
 -- the graph of whole lines
 abbrev pub IsGraphOfLines : List (List ℕ) → GraphValue → Type 0

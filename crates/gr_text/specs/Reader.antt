@@ -1,5 +1,5 @@
 -- What a reader has read, and what it answers.
-use Rattle.std.specs.Prelude.{◌≡◌, ℕ, ◌+◌, ◌<◌, ◌≤◌, ◌⊎◌, List, length, take, Option, MatchOption, Result, Ok, Err}
+use Rattle.std.specs.Prelude.{◌≡◌, ℕ, ◌+◌, ◌<◌, ◌≤◌, ◌⊎◌, List, ◌++◌, length, take, Option, None, Some, MatchOption, Result, Ok, Err, OnOk, MatchResult}
 use Rattle.gr_text.specs.Lines.{EndsLines}
 use Rattle.gr_text.specs.Graph.{GraphValue, IsGraphOf}
 use Rattle.gr_text.specs.Fault.{IsFirstFault, IsEndedFault, HasLawfulLines}
@@ -56,6 +56,18 @@ pub record HasRead (reader : ReaderValue) (text : List ℕ) : Type 0 where
   pub outcome : MatchOption reader.fault
       ((length text ≤ reader.limit) × (length text ≡ reader.fed) × Stands reader text)
       (λ f. StopsBy f reader.limit text)
+
+-- a reader was fed this piece, and answered so
+pub record IsFed {X : Type 0} (result : Result X ReadFault) (piece : List ℕ) (old new : ReaderValue) : Type 0 where
+  pub limit : new.limit ≡ old.limit
+  pub within : new.fed ≤ new.limit
+  pub grows : OnOk result (new.fed ≡ old.fed + length piece)
+  pub fed : (text : List ℕ) → HasRead old text → HasRead new (text ++ piece)
+  pub fault : MatchResult result (λ _. new.fault ≡ None) (λ e. new.fault ≡ Some e)
+
+-- a reader was fed this piece without a fault
+abbrev pub TakesPiece : List ℕ → ReaderValue → ReaderValue → Type 0
+TakesPiece piece old new = IsFed {X = Unit {0}} (Ok (tt {0})) piece old new
 
 -- what a reader answers for a whole text: the graph that it means, where it is within the limit, or why there is none
 abbrev pub IsRead : ℕ → List ℕ → Result GraphValue ReadFault → Type 0

@@ -50,12 +50,15 @@ KeepsNumber kept field = (n : ℕ) × Writes field n × IsCapped kept n
 abbrev pub KeepsSigned : Signed → List ℕ → Type 0
 KeepsSigned kept field = (z : ℤ) × WritesSigned field z × IsCappedSigned kept z
 
--- a line that states a problem, and one that gives an arc, of which these numbers are kept
+-- a line that states a problem, an arc, and a line that gives an arc, of which these numbers are kept
 abbrev pub KeepsProblem : ℕ → ℕ → List ℕ → Type 0
 KeepsProblem n m line = (k l : ℕ) × Says line (Problem k l) × IsCapped n k × IsCapped m l
 
+abbrev pub AreKeptOf : ℕ → ℕ → Signed → Arc → Type 0
+AreKeptOf u v w arc = IsCapped u arc.tail × IsCapped v arc.head × IsCappedSigned w arc.weight
+
 abbrev pub KeepsArc : ℕ → ℕ → Signed → List ℕ → Type 0
-KeepsArc u v w line = (arc : Arc) × Says line (ArcLine arc) × IsCapped u arc.tail × IsCapped v arc.head × IsCappedSigned w arc.weight
+KeepsArc u v w line = (arc : Arc) × Says line (ArcLine arc) × AreKeptOf u v w arc
 
 -- fields that begin with this one and whatever follows make no such statement
 abbrev pub NeverSay : List ℕ → List (List ℕ) → (Statement → Type 0) → Type 0

@@ -4,6 +4,7 @@
 //! ```text
 //! source --sourced--> pieces --reader--> bytes --partial_line/words or usual_line--> lines
 //! lines --verdicts/lines_so_far--> graph
+//! pieces --feeders--> whole arc lines --parallel, by threads--> parts --arc_lines--> links
 //! forest --spelled--> lines --piece--> 8 KiB --writer--> sink
 //! ```
 //!
@@ -17,13 +18,17 @@
 //! fault comes first, `specs/Fault`, then `verdicts`; the limits of vertices, arc lines, bytes and weights, the crate
 //! `limits`, and for wider numbers `cap` in `specs/Word`, then `words` and `verdicts`. A byte goes into a `Word` (the
 //! field that is coming), a field into `LineFields` (those of its line), a line into `LinesSoFar` (what the whole lines
-//! say); an arc line in its usual form that lies whole in a piece is read at once, by `usual_line`.
+//! say); an arc line in its usual form that lies whole in a piece is read at once, by `usual_line`. Threads share such
+//! lines alone (`feeders`); all else is read in the order of the text.
 #![tactic(auto)]
 
+mod arc_lines;
 mod faults;
+mod feeders;
 mod graphs;
 pub mod laws;
 mod lines_so_far;
+mod parallel;
 mod parsing;
 mod partial_line;
 mod piece;
@@ -43,5 +48,5 @@ pub use graphs::Graph;
 pub use limits::MAX_BYTES;
 pub use parsing::parse;
 pub use reader::GrReader;
-pub use sourced::{read_graph, read_graph_upto};
+pub use sourced::{read_graph, read_graph_par, read_graph_upto};
 pub use writer::{WriteFault, write_forest};

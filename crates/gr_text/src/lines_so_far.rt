@@ -1,15 +1,17 @@
-ghost use Rattle.std.specs.Prelude.{◌≡◌, ℕ, List, [], MatchResult};
+ghost use Rattle.std.specs.Prelude.{◌≡◌, ℕ, List, [], MatchOption, MatchResult};
 ghost use Rattle.gr_text.specs.PartialLine.{IsWhole};
-ghost use Rattle.gr_text.specs.LinesSoFar.{AddsLink, FitsAfter, Gives, IsGraphOfLines, IsLack, IsTaken};
+ghost use Rattle.gr_text.specs.LinesSoFar.{AddsLines, AddsLink, FitsAfter, Gives, IsGraphOfLines, IsLack, IsTaken};
 
 use crate::faults::{GrFault, GrKind, ReadFault};
 use crate::graphs::Graph;
+use crate::parallel::read_arc_lines_par;
 use crate::sizes::Size;
 use crate::verdicts::{Verdict, judge};
 use crate::words::LineFields;
 use links::Link;
 use std::alloc::Allocator;
 use std::marker::Model;
+use std::thread::Threads;
 
 /// What the whole lines so far say.
 #[derive(Drop)]
@@ -83,6 +85,30 @@ impl<A: Allocator> LinesSoFar<A> {
                 }
             }
         }
+    }
+
+    /// Takes bytes that are arc lines in their usual form, and nothing else, by threads. It answers how many lines they are.
+    /// Where they aren't such, a line has a fault, or memory or `room` for their links lacks, nothing is taken.
+    pub(crate) fn take_arcs<R: Threads + Sync>(
+        &mut self,
+        rt: &R,
+        threads: usize,
+        bytes: &[u8],
+        room: &mut [Link],
+    ) -> Option<usize>
+        ensures { MatchOption result (self.new ≡ self.old) (λ count. AddsLines count bytes.now self.old self.new) }
+    {
+        let size = self.size?;
+        let found = read_arc_lines_par(rt, threads, size, bytes, room)?;
+        let most = size.arcs - self.count;
+        if found.lines > most as usize {
+            return None;
+        }
+        if self.links.extend_from_slice(&room[..found.links]).is_err() {
+            return None;
+        }
+        self.count += found.lines as u32;
+        Some(found.lines)
     }
 
     // Adds an arc of this link, or a loop.

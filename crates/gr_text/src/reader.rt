@@ -1,14 +1,16 @@
-ghost use Rattle.std.specs.Prelude.{◌≡◌, ℕ, ◌+◌, ◌≤◌, ◌==◌, List, [], ◌++◌, None, Some, IfErr, IfSome, OnOk, MatchResult, Err, count_by, length};
+ghost use Rattle.std.specs.Prelude.{◌≡◌, ℕ, ◌+◌, ◌≤◌, ◌==◌, List, [], ◌++◌, None, Some, IfErr, IfSome, IsTrue, OnOk, MatchResult, Err, ◌⊎◌, count_by, length};
 ghost use Rattle.gr_text.specs.Lines.{line_feed};
-ghost use Rattle.gr_text.specs.Reader.{HasRead, IsRead, Stands, StopsAt};
+ghost use Rattle.gr_text.specs.Reader.{HasRead, IsRead, Stands, StopsAt, TakesPiece};
 
 use crate::faults::ReadFault;
 use crate::graphs::Graph;
 use crate::lines_so_far::LinesSoFar;
 use crate::partial_line::PartialLine;
 use limits::MAX_BYTES;
+use links::Link;
 use std::alloc::{Allocator, Global};
 use std::marker::Model;
+use std::thread::Threads;
 
 /// A reader of a `.gr` text that is fed in pieces, of any lengths.
 ///
@@ -129,6 +131,30 @@ impl<A: Allocator> GrReader<A> {
             return Err(fault);
         }
         so_far.graph(number + 1)
+    }
+
+    /// Takes the next piece by threads, if it is whole arc lines in their usual form, and no line has a fault. Else, and
+    /// where memory or `room` for their links lacks, nothing is taken.
+    pub(crate) fn take_arcs<R: Threads + Sync>(
+        &mut self,
+        rt: &R,
+        threads: usize,
+        piece: &[u8],
+        room: &mut [Link],
+    ) -> bool
+        ensures left { IsTrue result ⊎ (self.new ≡ self.old) }
+        ensures taken { IsTrue result → TakesPiece piece.now self.old self.new }
+    {
+        let len = piece.len() as u64;
+        if self.fault.is_some() || self.partial.begun || len > self.limit - self.fed {
+            return false;
+        }
+        match self.so_far.take_arcs(rt, threads, piece, room) {
+            Some(count) => self.number += count as u64,
+            None => return false,
+        }
+        self.fed += len;
+        true
     }
 
     // Reads a piece that the limit has room for. It fails at the first line that ends in it and is faulty, or at an

@@ -1,9 +1,12 @@
-ghost use Rattle.std.specs.Prelude.{◌≡◌, ℕ, ℤ, MatchOption};
-ghost use Rattle.gr_text.specs.Word.{IsCappedSigned, KeepsArc, KeepsProblem};
+ghost use Rattle.std.specs.Prelude.{◌≡◌, ◌≤◌, ℕ, ℤ, ◌∷◌, [], IfOk, IfSome, MatchOption, MatchResult, option_to_list};
+ghost use Rattle.links.specs.Arc.{Arc};
+ghost use Rattle.links.specs.Link.{AreLinksOf};
+ghost use Rattle.gr_text.specs.Word.{AreKeptOf, IsCappedSigned, KeepsArc, KeepsProblem};
 ghost use Rattle.gr_text.specs.PartialLine.{IsWhole};
 ghost use Rattle.gr_text.specs.LinesSoFar.{FitsAfter, JudgesEach};
 ghost use Rattle.gr_text.specs.Sort.{IsOfSort, NoArc, NoProblem};
-ghost use Rattle.gr_text.specs.Graph.{IsWeight};
+ghost use Rattle.gr_text.specs.Graph.{IsArcOf, IsWeight};
+ghost use Rattle.gr_text.specs.Fault.{IsWrongArc};
 
 use crate::faults::GrKind;
 use crate::sizes::Size;
@@ -82,13 +85,26 @@ fn judge_arc(size: Option<Size>, count: u32, u: u64, v: u64, w: Signed) -> Verdi
     if count >= size.arcs {
         return Verdict::Faulty(GrKind::TooManyArcs);
     }
+    match link_of(size, u, v, w) {
+        Ok(link) => Verdict::Adds(link),
+        Err(kind) => Verdict::Faulty(kind),
+    }
+}
+
+/// The link of an arc, or that it is a loop, where it is an arc of a graph of this size; else what is wrong with it.
+#[inline(always)]
+pub(crate) fn link_of(size: Size, u: u64, v: u64, w: Signed) -> Result<Option<Link>, GrKind>
+    ensures fits { IfOk result (λ link. IfSome link (λ l. l.high ≤ size.vertices)) }
+    ensures judged { (arc : Arc) → AreKeptOf u v w arc → MatchResult result
+        (λ link. IsArcOf size.vertices arc × AreLinksOf (arc ∷ []) (option_to_list link)) (λ kind. IsWrongArc size.vertices arc kind) }
+{
     let most = u64::from(size.vertices);
     if u < 1 || u > most || v < 1 || v > most {
-        return Verdict::Faulty(GrKind::EndOutOfRange);
+        return Err(GrKind::EndOutOfRange);
     }
     match weight_of(w) {
-        Some(weight) => Verdict::Adds(Link::of_arc(u as u32, v as u32, weight)),
-        None => Verdict::Faulty(GrKind::WeightOutOfRange),
+        Some(weight) => Ok(Link::of_arc(u as u32, v as u32, weight)),
+        None => Err(GrKind::WeightOutOfRange),
     }
 }
 

@@ -26,4 +26,4 @@ returns-in-Arc-clause-judged c = λ lines bytes counts (fields, are, means).
 pub returns-in-ArcWhole-clause-judged : goal.returns-in-ArcWhole-clause-judged
 returns-in-ArcWhole-clause-judged c = λ lines bytes counts (fields, are, means).
     let (f, g, h, is, (u, wu, ku), (v, wv, kv), (w, ww, kw)) = rw c.in-ArcWhole.is at means in
-    c.judge_arc.ensures.judged lines bytes counts (record { tail = u; head = v; weight = w }, (fields, are, (f, g, h, is, wu, wv, ww)), ku, kv, kw)
+    c.judge_arc.ensures.judged lines bytes counts (record { tail = u; head = v; weight = w }, (fields, are, (f, g, h, is, wu, wv, ww)), (ku, kv, kw))

@@ -1,6 +1,6 @@
 use Rattle.std.proofs.Common.{rules, ◌∙◌}
 use Rattle.gr_text.proofs.Sourcing.{read_to_end, breaks_off, read_up_to}
-use Rattle.gr_text.proofs.sourced.read_graph_upto.Goals as goal
+use Rattle.gr_text.proofs.sourced.read_pieces.Goals as goal
 
 pub returns-in-Err : goal.returns-in-Err
 returns-in-Err g c =

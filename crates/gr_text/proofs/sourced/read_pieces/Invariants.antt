@@ -1,7 +1,7 @@
 use Rattle.std.proofs.Common.{◌≡◌, ◌≤◌, ℕ, List, None}
 use Rattle.byte_streams.specs.Streams.{Gave}
 use Rattle.gr_text.specs.Reader.{HasRead}
-use Rattle.gr_text.proofs.sourced.read_graph_upto.Given as goal
+use Rattle.gr_text.proofs.sourced.read_pieces.Given as goal
 
 -- the reader has read what the source gave, and each turn gave at least a byte
 abbrev pub invariant-loop-turn : goal.invariant-loop-turn

@@ -1,0 +1,129 @@
+-- Bytes that are arc lines, put together, and what they add to what whole lines say.
+use Rattle.std.proofs.Common.{◌≡◌, ℕ, ◌+◌, ◌-◌, ◌<◌, ◌≤◌, inl, inr, List, [], ◌∷◌, ◌++◌, refl, ap, sym, ◌∙◌, subst, arith, append_assoc, append-nil, map, length, take, Option, Some, None, length-append, drop, ap₂, not}
+use Rattle.std.specs.Prelude.{option_to_list, All}
+use Rattle.std.specs.List.{AllByRecursion, filter, flat_map, copy_within}
+use Rattle.std.proofs.lemmas.List.{map-append, length-map, get_or-map, take-append-le}
+use Rattle.std.proofs.lemmas.List.Elements.{All-append, All-filter, All-from_recursion, All-map}
+use Rattle.std.proofs.lemmas.List.Filters.{length-filter_both}
+use Rattle.std.proofs.lemmas.List.Edits.{take-paste}
+use Rattle.std.proofs.Math.Seq.{paste, drop-append_seam}
+use Rattle.links.specs.Arc.{Arc}
+use Rattle.links.specs.Link.{Key, key_of, arc_key, is_no_loop, AreLinksOf, EndsUpTo}
+use Rattle.links.specs.declared.links.Link.{Link}
+use Rattle.gr_text.specs.Lines.{IsLine, ended, EndsLines}
+use Rattle.gr_text.specs.Statement.{Statement, Problem, ArcLine, Says, Say}
+use Rattle.gr_text.specs.Graph.{IsArcOf, AreLawfulLines}
+use Rattle.gr_text.specs.ArcLines.{AreArcLines, FillsRoom, BeginsWithArc}
+use Rattle.gr_text.specs.LinesSoFar.{AreKept, IsWithinSize}
+use Rattle.gr_text.specs.declared.arc_lines.ArcLines.{ArcLines}
+use Rattle.gr_text.specs.declared.sizes.Size.{Size}
+use Rattle.gr_text.proofs.Alls.{All-both}
+use Rattle.gr_text.proofs.Cuts.{EndsLines-none, EndsLines-more, EndsLines-line}
+use Rattle.gr_text.proofs.Steps.{AreLinksOf-append}
+
+-- what lines say, one part after the other
+pub Say-append : (lines others : List (List ℕ)) (ss ts : List Statement) → Say lines ss → Say others ts → Say (lines ++ others) (ss ++ ts)
+Say-append [] others ss ts say also = subst (λ (xs : List Statement). Say others (xs ++ ts)) (sym say) also
+Say-append (line ∷ lines) others ss ts (inl (quiet, say)) also = inl (quiet, Say-append lines others ss ts say also)
+Say-append (line ∷ lines) others ss ts (inr (s, more, says, say, is)) also =
+    inr (s, more ++ ts, says, Say-append lines others more ts say also, ap (λ (xs : List Statement). xs ++ ts) is)
+
+-- no bytes, one line, and one part behind another
+pub arcs_none : (n : ℕ) → AreArcLines n 0 [] []
+arcs_none n = record { lines = []; arcs = []; cut = EndsLines-none; say = refl; each = tt; each_line = refl; each_arc = refl; of_arcs = refl }
+
+pub arcs_one : (n : ℕ) (bytes : List ℕ) (link : Option Link) (rest : List ℕ) → (first : BeginsWithArc n bytes link rest) → AreArcLines n 1 (ended first.line) (option_to_list link)
+arcs_one n bytes link rest first = record {
+  lines = first.line ∷ [];
+  arcs = first.arc ∷ [];
+  cut = EndsLines-line [] [] [] first.line EndsLines-none first.is_line;
+  say = inr (ArcLine first.arc, [], first.says, refl, refl);
+  each = (first.is_arc, tt);
+  each_line = refl;
+  each_arc = refl;
+  of_arcs = first.of_arc;
+}
+
+pub arcs_append : (n k m : ℕ) (xs ys : List ℕ) (links others : List Link) → AreArcLines n k xs links → AreArcLines n m ys others → AreArcLines n (k + m) (xs ++ ys) (links ++ others)
+arcs_append n k m xs ys links others a b = record {
+  lines = a.lines ++ b.lines;
+  arcs = a.arcs ++ b.arcs;
+  cut = EndsLines-more xs ys a.lines b.lines [] [] a.cut b.cut;
+  say = subst (Say (a.lines ++ b.lines)) (sym (map-append ArcLine a.arcs b.arcs)) (Say-append a.lines b.lines (map ArcLine a.arcs) (map ArcLine b.arcs) a.say b.say);
+  each = All-both (IsArcOf n) a.arcs b.arcs a.each b.each;
+  each_line = omega (arith, length-append a.lines b.lines, a.each_line, b.each_line);
+  each_arc = omega (arith, length-append a.arcs b.arcs, a.each_arc, b.each_arc);
+  of_arcs = AreLinksOf-append a.arcs b.arcs links others a.of_arcs b.of_arcs;
+}
+
+-- one more line
+pub arcs_more : (n k : ℕ) (done rest : List ℕ) (links : List Link) (link : Option Link) (after : List ℕ) → AreArcLines n k done links → (first : BeginsWithArc n rest link after)
+    → AreArcLines n (k + 1) (done ++ ended first.line) (links ++ option_to_list link)
+arcs_more n k done rest links link after are first = arcs_append n k 1 done (ended first.line) links (option_to_list link) are (arcs_one n rest link after first)
+
+-- the links of arcs are no more than these, and have their ends
+pub links_few : (arcs : List Arc) (links : List Link) → AreLinksOf arcs links → length links ≤ length arcs
+links_few arcs links are =
+    let kept = filter is_no_loop arcs in
+    omega (arith, length-map links key_of, length-map kept arc_key, ap length are, length-filter_both is_no_loop (λ a. not (is_no_loop a)) (λ a. refl) arcs)
+
+pub links_within : (n : ℕ) (arcs : List Arc) (links : List Link) → AllByRecursion (IsArcOf n) arcs → AreLinksOf arcs links → EndsUpTo n links
+links_within n arcs links each are k d lt =
+    let High : Key → Type 0 = λ key. key.2 ≤ n in
+    let kept = filter is_no_loop arcs in
+    let arcs_of : All (IsArcOf n) kept = All-filter is_no_loop (IsArcOf n) arcs (All-from_recursion (IsArcOf n) arcs each) in
+    let keys : All High (map arc_key kept) =
+    All-map High arc_key kept (λ i a within. let ends = (arcs_of i a within).0 in omega (arith, ends.tail_in_range, ends.head_in_range)) in
+    subst High (get_or-map key_of links k d (key_of d) lt)
+    (subst (All High) (sym are) keys k (key_of d) (omega (arith, lt, length-map links key_of)))
+
+-- behind lines of which this is kept, arc lines that the problem has room for
+pub kept_more : (size : Size) (count k : ℕ) (old links : List Link) (before : List (List ℕ)) (bytes : List ℕ) → AreKept (Some size) count old before
+    → (are : AreArcLines size.vertices k bytes links) → k ≤ size.arcs - count → AreKept (Some size) (count + k) (old ++ links) (before ++ are.lines)
+kept_more size count k old links before bytes (arcs, lawful, counted, of_arcs) are room = (
+  arcs ++ are.arcs,
+  record {
+    say = subst (λ (ss : List Statement). Say (before ++ are.lines) (Problem size.vertices size.arcs ∷ ss)) (sym (map-append ArcLine arcs are.arcs))
+        (Say-append before are.lines (Problem size.vertices size.arcs ∷ map ArcLine arcs) (map ArcLine are.arcs) lawful.say are.say);
+    vertices = lawful.vertices;
+    arc_lines = lawful.arc_lines;
+    no_more = omega (arith, length-append arcs are.arcs, are.each_arc, counted, lawful.no_more, room);
+    each = All-both (IsArcOf size.vertices) arcs are.arcs lawful.each are.each;
+  },
+  omega (arith, length-append arcs are.arcs, are.each_arc, counted),
+  AreLinksOf-append arcs are.arcs old links of_arcs are.of_arcs,
+)
+
+pub within_more : (size : Size) (count k : ℕ) (old links : List Link) (bytes : List ℕ) → IsWithinSize (Some size) count old → AreArcLines size.vertices k bytes links
+    → k ≤ size.arcs - count → IsWithinSize (Some size) (count + k) (old ++ links)
+within_more size count k old links bytes within are room = (
+  omega (arith, within.0, room),
+  All-append (λ l. l.high ≤ size.vertices) old links within.1 (links_within size.vertices are.arcs links are.each are.of_arcs),
+  omega (arith, length-append old links, within.2, links_few are.arcs links are.of_arcs, are.each_arc),
+)
+
+-- the links of the second part moved behind those of the first
+pub moved : (front back : List Link) (middle a b : ℕ) → length front ≡ middle → a ≤ length front → b ≤ length back
+    → take (a + b) (copy_within (front ++ back) middle (middle + b) a) ≡ take a front ++ take b back
+moved front back middle a b at few more =
+    let whole = front ++ back in
+    let behind : drop middle whole ≡ back = ap (λ k. drop k whole) (sym at) ∙ drop-append_seam front back in
+    let count : (middle + b) - middle ≡ b = omega arith in
+    ap₂ (λ (xs : List Link) (k : ℕ). take (a + b) (paste whole a xs k)) behind count
+    ∙ take-paste whole a back b (omega (arith, few, length-append front back)) more
+    ∙ ap (λ xs. xs ++ take b back) (take-append-le a front back few)
+
+pub fills_both : (n middle : ℕ) (bytes xs ys : List ℕ) (first second : ArcLines) (front back new : List Link) → bytes ≡ xs ++ ys → length front ≡ middle
+    → FillsRoom n xs first front → FillsRoom n ys second back → new ≡ copy_within (front ++ back) middle (middle + second.links) first.links
+    → length new ≡ length (front ++ back) → FillsRoom n bytes (record { lines = first.lines + second.lines; links = first.links + second.links }) new
+fills_both n middle bytes xs ys first second front back new whole at a b is long =
+    let count = first.lines + second.lines in
+    let links : take (first.links + second.links) new ≡ take first.links front ++ take second.links back =
+    ap (take (first.links + second.links)) is ∙ moved front back middle first.links second.links at a.within b.within in
+    record {
+      within = omega (arith, long, length-append front back, a.within, b.within);
+      few = omega (arith, ap length whole, length-append xs ys, a.few, b.few);
+      are = subst (λ (zs : List ℕ). AreArcLines n count zs (take (first.links + second.links) new)) (sym whole)
+          (subst (AreArcLines n count (xs ++ ys)) (sym links)
+          (arcs_append n first.lines second.lines xs ys (take first.links front) (take second.links back) a.are b.are));
+    }
