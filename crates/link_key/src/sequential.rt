@@ -4,6 +4,7 @@
 mod components;
 mod rounds;
 mod solver;
+mod steps;
 
 pub use components::components_of;
-pub use solver::{forest_of, plain_forest};
+pub use solver::{forest_of, forest_of_par, plain_forest};

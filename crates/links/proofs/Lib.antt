@@ -18,3 +18,4 @@ pub mod Distinct
 pub mod InPlace
 pub mod Kept
 pub mod LightFirst
+pub mod Together

@@ -9,3 +9,4 @@ pub mod Offers
 pub mod Cut
 pub mod AnswerValue
 pub mod WideKey
+pub mod Parted

@@ -17,10 +17,12 @@
 //!
 //! Where to start a change: what is meant stands in `specs/` (`Link`, `Walk`, `Forest`, `Least`, `Labels`, `Offers`, `Cut`).
 //! `labellings` and `offered` say which lists are labels and offers, `cuts` where a list is cut; `sorting` puts links in
-//! the order of their keys, and `of_distinct` those that are a forest's already.
+//! the order of their keys, `by_threads` does so by several threads, for shares of the list that `shares` says, and
+//! `of_distinct` orders links that are a forest's already.
 #![tactic(auto)]
 
 mod answers;
+pub mod by_threads;
 pub mod cuts;
 pub mod forests;
 pub mod labellings;
@@ -29,6 +31,7 @@ pub mod links;
 mod of_distinct;
 pub mod offered;
 pub mod shards;
+pub mod shares;
 pub mod sorting;
 
 pub use answers::Answer;

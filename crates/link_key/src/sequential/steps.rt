@@ -1,0 +1,107 @@
+//! The steps of the solver that threads can share: to sort, to choose the lightest links, and to drop links within one
+//! component. Each is one by one thread or by several; the rounds between them are one thread's.
+ghost use Rattle.std.specs.Prelude.{◌≡◌, ◌+◌, ◌≤◌, ◌++◌, take, drop, length, IfOk, OnOk};
+ghost use Rattle.std.specs.List.{filter};
+ghost use Rattle.std.specs.List.Sorted.{IsSorted, IsPermutation};
+ghost use Rattle.links.specs.Link.{key_cmp};
+ghost use Rattle.links.specs.WideKey.{IsSplitByKey};
+ghost use Rattle.link_key.specs.Rounds.{is_apart};
+
+use super::rounds;
+use links::{Link, sorting};
+use std::alloc::{AllocError, Allocator};
+use std::thread::Threads;
+
+/// Who does the steps.
+pub(crate) trait Steps {
+    /// Puts the links in the order of their keys.
+    fn sort(&self, links: &mut [Link])
+        ensures same { IsPermutation links.old links.new }
+        ensures sorted { IsSorted key_cmp links.new };
+
+    /// Puts about so many of the lightest links first, and returns how many they are; any number may come out.
+    fn put_lightest_first<A: Allocator + Copy>(
+        &self,
+        alloc: A,
+        links: &mut [Link],
+        count: usize,
+    ) -> Result<usize, AllocError>
+        ensures same { OnOk result (IsPermutation links.old links.new) }
+        ensures in_range { IfOk result (λ light. light ≤ length links.new) }
+        ensures split { IfOk result (λ light. IsSplitByKey light links.new) };
+
+    /// Puts the links from a place on whose ends have different labels behind the first so many, in their order. Returns
+    /// how many they are with these.
+    fn put_apart_behind(
+        &self,
+        links: &mut [Link],
+        first: usize,
+        from: usize,
+        labels: &[u32],
+    ) -> usize
+        requires before { first ≤ from }
+        requires in_range { from ≤ length links.old }
+        ensures in_range { (first ≤ result) × (result + from ≤ first + length links.new) }
+        ensures apart { take result links.new ≡ take first links.old ++ filter (is_apart labels.now) (drop from links.old) };
+}
+
+/// The caller's thread alone.
+#[derive(Drop)]
+pub(crate) struct OneThread;
+
+impl Steps for OneThread {
+    fn sort(&self, links: &mut [Link]) {
+        sorting::sort(links);
+    }
+
+    fn put_lightest_first<A: Allocator + Copy>(
+        &self,
+        alloc: A,
+        links: &mut [Link],
+        count: usize,
+    ) -> Result<usize, AllocError> {
+        sorting::put_lightest_first(alloc, links, count)
+    }
+
+    fn put_apart_behind(
+        &self,
+        links: &mut [Link],
+        first: usize,
+        from: usize,
+        labels: &[u32],
+    ) -> usize {
+        rounds::put_apart_behind(links, first, from, labels)
+    }
+}
+
+/// The caller's thread, with others made for a step, so many at the most at once.
+#[derive(Drop)]
+pub(crate) struct ManyThreads<'a, R> {
+    pub rt: &'a R,
+    pub threads: usize,
+}
+
+impl<'a, R: Threads + Sync> Steps for ManyThreads<'a, R> {
+    fn sort(&self, links: &mut [Link]) {
+        sorting::sort(links);
+    }
+
+    fn put_lightest_first<A: Allocator + Copy>(
+        &self,
+        alloc: A,
+        links: &mut [Link],
+        count: usize,
+    ) -> Result<usize, AllocError> {
+        sorting::put_lightest_first(alloc, links, count)
+    }
+
+    fn put_apart_behind(
+        &self,
+        links: &mut [Link],
+        first: usize,
+        from: usize,
+        labels: &[u32],
+    ) -> usize {
+        rounds::put_apart_behind(links, first, from, labels)
+    }
+}
