@@ -16,6 +16,7 @@ pub mod Ending
 pub mod Sourcing
 pub mod Handing
 pub mod ForestLines
+pub mod TextParts
 pub mod ForestSize
 pub mod Texts
 pub mod OneFault
