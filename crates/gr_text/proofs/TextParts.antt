@@ -1,5 +1,5 @@
 -- The text of a forest as it is written part by part.
-use Rattle.std.proofs.Common.{◌≡◌, ℕ, zero, suc, ◌+◌, ◌*◌, ◌≤◌, ◌<◌, List, [], ◌∷◌, ◌++◌, length, take, drop, get_or, min, ◌-◌, inl, inr, refl, sym, ap, subst, ◌∙◌, arith, append-nil, append_assoc, length-append, length-drop, drop-cons, take_all}
+use Rattle.std.proofs.Common.{◌≡◌, ℕ, suc, ◌+◌, ◌*◌, ◌≤◌, ◌<◌, List, [], ◌∷◌, ◌++◌, length, take, drop, get_or, min, ◌-◌, inl, inr, refl, sym, ap, subst, ◌∙◌, arith, append-nil, append_assoc, length-append, length-drop, drop-cons, take_all}
 use Rattle.std.specs.Fork.{slice_chunk}
 use Rattle.std.specs.List.{flat_map}
 use Rattle.std.proofs.lemmas.Grind.{flat_map-append}
@@ -62,11 +62,6 @@ group_prefix middle after n links forest i j s t u same ordered first part =
     (ap (λ lines. lines ++ flat_map link_line (drop j links)) (lines_more n links i j ordered) ∙ text_split n links j ∙ ap (forest_text n) same)
     (hands_then_prefix middle after (lines_before n links i ++ group) group (flat_map link_line (drop j links)) s t u
     (hands_behind 0 middle (lines_before n links i) [] group s t first) part)
-
--- the first line went out
-pub header_out : (total n : ℕ) (links : List Link) (s t : SinkState) → HandsOn 0 total (header_of n (length links)) [] s t
-    → HandsOn 0 total (lines_before n links 0) [] s t
-header_out total n links s t hands = subst (λ text. HandsOn 0 total text [] s t) (sym (append-nil (header_of n (length links)))) hands
 
 -- the parts are those before one, that one and those behind it
 pub parts_split : (parts : List (List ℕ)) (i : ℕ) (part : List ℕ) → i < length parts → part ≡ get_or parts i part

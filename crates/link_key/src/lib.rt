@@ -16,8 +16,10 @@
 #![tactic(auto)]
 
 pub mod sequential;
+mod standin;
 
 pub use links::{
     Answer, Cut, CutFault, Forest, Labels, Link, Offers, Shard, check_even, check_places, laws,
 };
 pub use sequential::{components_of, forest_of, plain_forest};
+pub use standin::forest_of_par;

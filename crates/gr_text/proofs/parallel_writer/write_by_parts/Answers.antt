@@ -1,6 +1,6 @@
-use Rattle.std.proofs.Common.{◌≡◌, ◌+◌, [], rules, arith, take, drop}
+use Rattle.std.proofs.Common.{◌+◌, rules, arith}
 use Rattle.std.proofs.lemmas.Result.{err_from_is_err_and}
-use Rattle.gr_text.proofs.TextParts.{header_out, header_prefix, group_more, group_prefix, lines_flushed, lines_unflushed}
+use Rattle.gr_text.proofs.TextParts.{header_prefix, group_more, group_prefix, lines_flushed, lines_unflushed}
 use Rattle.gr_text.proofs.parallel_writer.write_by_parts.Goals as goal
 
 pub returns-in_err-written-clause-part : goal.returns-in_err-written-clause-part

@@ -1,5 +1,5 @@
 -- The lines so far went out, and no setback came.
-use Rattle.std.proofs.Common.{ℕ, ◌-◌, ◌≤◌, ◌<◌, [], length}
+use Rattle.std.proofs.Common.{◌-◌, ◌≤◌, ◌<◌, [], length}
 use Rattle.gr_text.specs.Handing.{HandsOn}
 use Rattle.gr_text.proofs.ForestLines.{lines_before}
 use Rattle.gr_text.proofs.parallel_writer.write_by_parts.Given as goal
