@@ -16,11 +16,12 @@ _boruvka() {
     done
     case $before in
         --workers) COMPREPLY=($(compgen -W "0 1 2 4 8 16 32 64" -- "$word")) ;;
+        --threads) COMPREPLY=($(compgen -W "1 2 4 8 16 32 64" -- "$word")) ;;
         --shards) COMPREPLY=($(compgen -W "1 2 4 8 16 32 64 128 256 512 1024 2048 4096" -- "$word")) ;;
         *)
             [[ $word == -* ]] || return
             # none of them may be given twice
-            for option in --workers --shards --plain --report -h --help -V --version; do
+            for option in --workers --shards --plain --threads --report -h --help -V --version; do
                 [[ " ${COMP_WORDS[*]:1:COMP_CWORD - 1} " == *" $option "* ]] || COMPREPLY+=($(compgen -W "$option" -- "$word"))
             done
             return

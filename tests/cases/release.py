@@ -32,7 +32,7 @@ SET = ("PREFIX", "BINDIR", "LIBDIR", "INCLUDEDIR", "MANDIR", "BASHDIR", "ZSHDIR"
 PLAIN = {it: word for it, word in ENVIRONMENT.items() if it not in SET}
 KIT = {**PLAIN, "SOURCE_DATE_EPOCH": str(AT), "RT": "echo a-kit"}  # what says `a-kit version`
 SHELLS = {"bash": "completions/boruvka.bash", "zsh": "completions/_boruvka", "fish": "completions/boruvka.fish"}
-NUMBERS = {"--workers": [str(2**it) for it in range(7)] + ["0"], "--shards": [str(2**it) for it in range(13)]}
+NUMBERS = {"--workers": [str(2**it) for it in range(7)] + ["0"], "--shards": [str(2**it) for it in range(13)], "--threads": [str(2**it) for it in range(7)]}
 
 
 def is_so(found, wanted):
@@ -259,17 +259,19 @@ def each_completion_has_the_options_of_the_help(_room):
 @case
 def completions_of_bash(_room):
     script = f'source "$1/{SHELLS["bash"]}"; shift; complete -p boruvka; COMP_WORDS=("$@"); COMP_CWORD=$(($# - 1)); _boruvka; printf "%s\\n" "${{COMPREPLY[@]}}"'
-    longs = ["--workers", "--shards", "--plain", "--report", "--help", "--version"]
+    longs = ["--workers", "--shards", "--plain", "--threads", "--report", "--help", "--version"]
     for words, wanted in [
         (["--"], longs),
         (["-"], [*longs, "-h", "-V"]),
         (["--sh"], ["--shards"]),
+        (["--plain", "--threads", ""], NUMBERS["--threads"]),
+        (["--threads", "=", "6"], ["64"]),
         (["--workers", ""], NUMBERS["--workers"]),
         (["--workers", "3"], ["32"]),
         (["--workers", "="], NUMBERS["--workers"]),
         (["--shards", "=", "10"], ["1024"]),
         (["--plain", "--shards", ""], NUMBERS["--shards"]),
-        (["--workers", "=", "2", "--plain", "--"], ["--shards", "--report", "--help", "--version"]),
+        (["--workers", "=", "2", "--plain", "--"], ["--shards", "--threads", "--report", "--help", "--version"]),
         (["--workers", "x"], []),
         (["--", "--"], []),
         ([""], []),
@@ -318,10 +320,11 @@ def shown_by_zsh(room, line, wanted):
 def completions_of_zsh(room):
     needs("zsh")
     for line, wanted in [
-        ("boruvka --", ["--workers", "--shards", "--plain", "--report", "--help", "--version", "0 to 64", "1 to 4096"]),
+        ("boruvka --", ["--workers", "--shards", "--plain", "--threads", "--report", "--help", "--version", "0 to 64", "1 to 4096", "1 to 64"]),
         ("boruvka --plain -", ["--workers", "-V", "-h"]),
         ("boruvka --workers ", ["16", "32", "64"]),
         ("boruvka --workers=", ["16", "32", "64"]),
+        ("boruvka --plain --threads ", ["16", "32", "64"]),
         ("boruvka --shards 1", ["16", "128", "1024"]),
     ]:
         found = shown_by_zsh(room, line, wanted)
@@ -330,12 +333,13 @@ def completions_of_zsh(room):
 
 @case
 def completions_of_fish(room):
-    longs = ["--workers", "--shards", "--plain", "--report", "--help", "--version"]
+    longs = ["--workers", "--shards", "--plain", "--threads", "--report", "--help", "--version"]
     for line, wanted in [
         ("boruvka --", longs),
         ("boruvka -", [*longs, "-h", "-V"]),
         ("boruvka --workers ", NUMBERS["--workers"]),
         ("boruvka --shards=10", ["--shards=1024"]),
+        ("boruvka --threads ", NUMBERS["--threads"]),
         ("boruvka --sh", ["--shards"]),
         ("boruvka net", ["net.gr"]),
     ]:

@@ -94,7 +94,7 @@ def expect_total_of_a_million(room, vertices, rows, links):
     """The program gives these keys for the forest of a million links, and Python's sum of their weights for its total."""
     name = written(f"{room}/net.gr", file_of(vertices, rows))
     text, total = forest_text(vertices, links), sum(weight for weight, _, _ in links)
-    for words in [["--plain"], ["--workers", "2", "--shards", "2"]]:
+    for words in [["--plain"], ["--plain", "--threads", "4"], ["--workers", "2", "--shards", "2"]]:
         status, output, errors = ran([*words, "--report", name])
         expect((status, output, b""), 0, text, b"")
         report = Report(errors)
@@ -143,7 +143,7 @@ def the_help(_room):
         for line in [first, "Usage: boruvka [OPTIONS] [FILE]"]:
             if line not in lines:
                 raise AssertionError(f"the help has no line {line!r}")
-        for option in ["--workers <N>", "--shards <S>", "--plain", "--report", "--help"]:
+        for option in ["--workers <N>", "--shards <S>", "--plain", "--threads <N>", "--report", "--help"]:
             if option not in output.decode():
                 raise AssertionError(f"the help doesn't name {option}")
 
@@ -167,10 +167,20 @@ def wrong_words(_room):
     usage = b"\n\nUsage: boruvka [OPTIONS] [FILE]\n\nFor more information, try '--help'.\n"
     tip = b"\n\n  tip: to pass '--wrong' as a value, use '-- --wrong'"
     expect(ran(["--wrong"], SMALL_NET), 2, b"", b"error: unexpected argument '--wrong' found" + tip + usage)
-    for words in [["--workers=65"], ["--workers=-1"], ["--shards=0"], ["--shards", "4097"], ["--workers"], ["a", "b"]]:
+    numbers = [["--threads", "0"], ["--threads=65"], ["--threads", "x"], ["--threads=-1"], ["--threads"]]
+    for words in [["--workers=65"], ["--workers=-1"], ["--shards=0"], ["--shards", "4097"], ["--workers"], ["a", "b"], *numbers]:
         for more in [[], ["--plain"]]:
             status, output, errors = ran([*more, *words], SMALL_NET)
             expect((status, output, errors[:7]), 2, b"", b"error: ")
+
+
+@case
+def threads_without_plain(_room):
+    text = b"error: --threads wants --plain beside it\n\nUsage: boruvka [OPTIONS] [FILE]\n\nFor more information, try '--help'.\n"
+    for words in [["--threads", "2"], ["--threads=1"], ["--workers", "0", "--threads", "64"], ["--report", "--threads", "3", "no/such/file"]]:
+        expect(ran(words, SMALL_NET), 2, b"", text)
+    for words in [["--threads", "2", "--help"], ["--threads=3", "--version"]]:
+        expect(ran(words, SMALL_NET), 0, ran(words[-1:])[1], b"")
 
 
 @case

@@ -18,6 +18,7 @@ pub mod Pieces
 pub mod Sourcing
 pub mod Handing
 pub mod ForestLines
+pub mod TextParts
 pub mod ForestSize
 pub mod Texts
 pub mod OneFault

@@ -38,8 +38,30 @@ impl WriteFault {
     }
 }
 
-// Hands all that waits to the sink, as the next part of a text of which `written` bytes went out before. The
-// count stops at `u64::MAX`.
+// Hands these bytes to the sink, as the next part of a text of which `written` bytes went out before. The count stops at
+// `u64::MAX`.
+pub(crate) fn hand_out<W: Sink>(sink: &mut W, written: u64, bytes: &[u8]) -> Result<u64, WriteFault>
+    requires { W.can_write sink.old }
+
+    ensures whole { IfOk result (λ total. HandsOn written total bytes.now []
+        (W.state sink.old) (W.state sink.new)) }
+    ensures part { IfErr result (λ fault. HandsPrefix written fault.written bytes.now
+        (W.state sink.old) (W.state sink.new)) }
+    ensures ends_ok { HadNoSetback (W.state sink.old) (W.state sink.new) → IsOk result }
+    ensures again { OnOk result (W.can_write sink.new) }
+{
+    match put(sink, bytes) {
+        Ok(()) => {
+            let count = bytes.len() as u64;
+            Ok(written.saturating_add(count))
+        }
+        Err(fault) => Err(WriteFault {
+            written: written.saturating_add(fault.written),
+        }),
+    }
+}
+
+// Hands all that waits to the sink.
 fn hand_on<W: Sink>(sink: &mut W, written: u64, piece: &mut Piece) -> Result<u64, WriteFault>
     requires { W.can_write sink.old }
 
@@ -50,16 +72,11 @@ fn hand_on<W: Sink>(sink: &mut W, written: u64, piece: &mut Piece) -> Result<u64
         (W.state sink.old) (W.state sink.new)) }
     ensures again { OnOk result (W.can_write sink.new) }
 {
-    match put(sink, piece.as_slice()) {
-        Ok(()) => {
-            let count = piece.len() as u64;
-            piece.clear();
-            Ok(written.saturating_add(count))
-        }
-        Err(fault) => Err(WriteFault {
-            written: written.saturating_add(fault.written),
-        }),
+    let handed = hand_out(sink, written, piece.as_slice());
+    if handed.is_ok() {
+        piece.clear();
     }
+    handed
 }
 
 // Hands what waits to the sink where another line might not fit.

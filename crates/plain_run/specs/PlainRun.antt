@@ -1,5 +1,5 @@
--- A run by one thread.
-use Rattle.std.specs.Prelude.{◌≡◌, ℕ, List, length, Result}
+-- A run without workers.
+use Rattle.std.specs.Prelude.{◌≡◌, ℕ, ℤ, List, length, Result}
 use Rattle.byte_streams.specs.Streams.{Took}
 use Rattle.links.specs.declared.links.Link.{Link}
 use Rattle.links.specs.Least.{sum_of_weights, IsLightest}
@@ -11,19 +11,23 @@ use Rattle.plain_run.specs.declared.fault.RunFault.TheVariants as fault
 use Rattle.plain_run.specs.Files.{IsFileOf, HasFile}
 use Rattle.plain_run.specs.Outcomes.{Streams, Ran, IsSpanning, IsLeast}
 
--- the report of a plain run: how many vertices and links, and what the forest weighs; no rounds, shards, asks or workers
-abbrev pub plain_report : GraphValue → List Link → Report
-plain_report graph forest = record {
-  vertices = graph.vertices;
-  links = length graph.links;
+-- a report of so many vertices and links, and of what the forest weighs; no rounds, shards, asks or workers
+abbrev pub counted_report : ℕ → ℕ → ℤ → Report
+counted_report vertices links total = record {
+  vertices = vertices;
+  links = links;
   rounds = 0;
   shards = 0;
   asked = 0;
   answered = 0;
   alone = 0;
   closed = 0;
-  total = sum_of_weights forest;
+  total = total;
 }
+
+-- the report of a plain run
+abbrev pub plain_report : GraphValue → List Link → Report
+plain_report graph forest = counted_report graph.vertices (length graph.links) (sum_of_weights forest)
 
 -- what a plain run reports of a graph and its forest: no spanning forest of the graph weighs less than the total
 pub record IsPlainReport (graph : GraphValue) (forest : List Link) (report : Report) : Type 0 where

@@ -1,8 +1,9 @@
-//! A run by one thread, from the bytes of a `.gr` file to the text of its minimum spanning forest, and what every run
-//! answers: its report, or its fault.
+//! A run without workers, from the bytes of a `.gr` file to the text of its minimum spanning forest, by one thread or by
+//! several; and what every run answers: its report, or its fault.
 //!
 //! ```text
 //!     Source --read_graph--> Graph --forest_of--> Forest --write_forest--> Sink        run_plain
+//!     Source -------- the same steps, each by several threads ------------> Sink        run_threads
 //!     bytes  ---------------------- the same, in memory ------------------> Vec        plain_text
 //! ```
 //!
@@ -16,12 +17,14 @@
 //! workers stand on these definitions in `forest_run`.
 #![tactic(auto)]
 
+mod by_threads;
 mod fault;
 mod in_memory;
 mod plain;
 mod report;
 mod spelling;
 
+pub use by_threads::run_threads;
 pub use fault::RunFault;
 pub use in_memory::plain_text;
 pub use plain::run_plain;

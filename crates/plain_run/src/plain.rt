@@ -1,16 +1,34 @@
 //! A run by one thread, from the bytes of a file to the text of its forest.
-ghost use Rattle.std.specs.Prelude.{ℕ, List, OnOk, IfOk};
+ghost use Rattle.std.specs.Prelude.{◌≡◌, ℕ, List, OnOk, IfOk};
 ghost use Rattle.byte_streams.specs.Streams.{IsFlushed};
 ghost use Rattle.plain_run.specs.Files.{HasFile, MeansGraph, MeansNothing, IsFirstFaultOf, IsNoRefusal};
 ghost use Rattle.plain_run.specs.Outcomes.{known};
-ghost use Rattle.plain_run.specs.PlainRun.{RanPlain, WritesAgain};
+ghost use Rattle.plain_run.specs.PlainRun.{RanPlain, WritesAgain, counted_report};
+ghost use Rattle.links.specs.Least.{sum_of_weights};
 
 use crate::fault::RunFault;
 use crate::report::Report;
 use byte_streams::{Sink, Source};
 use gr_text::{read_graph, write_forest};
-use link_key::forest_of;
+use link_key::{Forest, forest_of};
 use std::alloc::Allocator;
+
+/// What is reported of a graph of so many vertices and links, and of its forest.
+pub(crate) fn report_of<A: Allocator>(vertices: u32, links: u64, forest: &Forest<A>) -> Report
+    ensures { result ≡ counted_report vertices links (sum_of_weights forest.now) }
+{
+    Report {
+        vertices,
+        links,
+        rounds: 0,
+        shards: 0,
+        asked: 0,
+        answered: 0,
+        alone: 0,
+        closed: 0,
+        total: forest.total(),
+    }
+}
 
 /// Reads a graph of at most [`limits::MAX_BYTES`] bytes, finds its minimum spanning forest by one thread, and writes the
 /// forest's text.
@@ -56,17 +74,7 @@ pub fn run_plain<S: Source, W: Sink, A: Allocator + Copy>(
         return Err(RunFault::Memory);
     };
     match write_forest(sink, n, &forest) {
-        Ok(_) => Ok(Report {
-            vertices: n,
-            links: count,
-            rounds: 0,
-            shards: 0,
-            asked: 0,
-            answered: 0,
-            alone: 0,
-            closed: 0,
-            total: forest.total(),
-        }),
+        Ok(_) => Ok(report_of(n, count, &forest)),
         Err(fault) => Err(RunFault::Write {
             written: fault.written,
         }),

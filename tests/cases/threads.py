@@ -1,0 +1,94 @@
+"""Runs by several threads, without workers: the same bytes as by one, on one processor too, and where no thread starts."""
+import functools
+import os
+import resource
+
+from cases.running import SMALL_FOREST, SMALL_NET, SMALL_REPORT, Program, case, drawn_graph, expect, ran, told_by, written
+
+THREADS = [1, 2, 3, 7, 64]
+
+
+def by(threads):
+    return ["--plain", "--threads", str(threads)]
+
+
+@functools.cache
+def drawn():
+    """A file of a graph whose forest has more links than seven threads write at a time, and the forest's text."""
+    file, text = drawn_graph(21, 120_000, 300_000)
+    if text.count(b"\na ") <= 7 * 8192:
+        raise AssertionError("the forest is too small")
+    return file, text
+
+
+def large_net(room):
+    """The name of this file, and the text."""
+    file, text = drawn()
+    return written(f"{room}/large.gr", file), text
+
+
+@case
+def the_bytes_of_one_thread(room):
+    name, text = large_net(room)
+    status, output, report = ran(["--plain", "--report", name])
+    expect((status, output, b""), 0, text, b"")
+    for threads in THREADS:
+        expect(ran([*by(threads), "--report", name]), 0, text, report)
+        expect(ran([*by(threads), "--report"], SMALL_NET), 0, SMALL_FOREST, SMALL_REPORT)
+
+
+@case
+def threads_of_malformed_files(_room):
+    for threads in THREADS:
+        expect(ran(by(threads), b"a 1 2 3\np sp 2 1\n"), 1, b"", b"boruvka: line 1: NoProblemYet\n")
+        expect(ran(by(threads), b"p sp 2 2\na 1 2 5"), 1, b"", b"boruvka: line 3: MissingArcs\n")
+        late = b"p sp 2 300001\n" + 300_000 * b"a 1 2 3\n" + b"a 1 3 3\n"
+        expect(ran(by(threads), late), 1, b"", b"boruvka: line 300002: EndOutOfRange\n")
+
+
+@case
+def threads_on_one_processor(room):
+    name, text = large_net(room)
+
+    def limit():
+        os.sched_setaffinity(0, {min(os.sched_getaffinity(0))})
+
+    for threads in THREADS:
+        expect(ran([*by(threads), name], preexec_fn=limit), 0, text, b"")
+
+
+@case
+def threads_that_do_not_start(room):
+    name, text = large_net(room)
+    for first in [1, 2, 5]:
+        for threads in THREADS:
+            environment = {"FAIL_CALL": "thread", "FAIL_NUMBER": str(first), "FAIL_LAST": "1000000"}
+            found, told = told_by(room, [Program.path, *by(threads), name], b"", environment)
+            expect(found, 0, text, b"")
+            if b"J" in told or threads == 1 and told:
+                raise AssertionError(f"{threads} threads, from the {first}th on refused: told {told!r:.300}")
+
+
+@case
+def the_threads_that_are_asked_for(room):
+    # some are started exactly where several are asked for, whatever the number of processors
+    name, text = large_net(room)
+    for threads in THREADS:
+        found, told = told_by(room, [Program.path, *by(threads), name], b"", {"PROCESSORS": "1", "STARTED": "0"})
+        expect(found, 0, text, b"")
+        if b"J" in told or (told.count(b"s") > 0) != (threads > 1):
+            raise AssertionError(f"{threads} threads: told {told!r:.300}")
+
+
+@case
+def a_file_that_grows_no_further_by_threads(room):
+    name, text = large_net(room)
+
+    def limit():
+        resource.setrlimit(resource.RLIMIT_FSIZE, (300_000, 300_000))
+
+    for threads in THREADS:
+        with open(f"{room}/short.gr", "wb") as short:
+            status, _, errors = ran([*by(threads), name], output=short, preexec_fn=limit, restore_signals=False)
+        with open(f"{room}/short.gr", "rb") as it:
+            expect((status, it.read(), errors), 3, text[:300_000], b"boruvka: write failed after 300000 bytes\n")
