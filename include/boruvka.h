@@ -118,8 +118,9 @@ uint32_t boruvka_version(void);
 /* `size` bytes from `start` on, which is aligned to 16 bytes and never null. Nothing else touches them during the call, and
  * no other parameter points into them. What stood there is lost. After the call they are the caller's again.
  *
- * Whole pages of 4096 bytes are used. Where they are too few, the answer is BORUVKA_NO_MEMORY, and what the other
- * parameters point to is as it was, but for `fault`: so the same call may be made again with more. */
+ * Whole pages of 4096 bytes are used. If they are too few, the answer is BORUVKA_NO_MEMORY, and what the other parameters
+ * point to is as it was, but for `fault`: so the same call may be made again with more. Each list that was tried had enough
+ * in 26 bytes a link, 10 a vertex and 16384 more, each text in 4 times its length, 10 bytes a vertex and 16384 more. */
 struct boruvka_memory {
     void *start;
     size_t size;

@@ -1,11 +1,5 @@
 /* The minimum spanning forest of a small net, by calls that take no memory but what they are given: here a static array.
- *
- * If the libraries are installed where the system looks for them:
- *
- *     cc -o within within.c -lboruvka_within
- *     ./within
- *
- * With those of a PREFIX of your own:
+ * With the library of a PREFIX of your own:
  *
  *     cc -o within -IPREFIX/include within.c PREFIX/lib/libboruvka_within.a
  *     ./within */

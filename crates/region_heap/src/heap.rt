@@ -12,11 +12,11 @@ const PAGE: usize = 4096;
 // Of the pages so many bytes are no room for blocks.
 const BESIDE: usize = 64;
 
-/// The heap within a region: it has room for 64 bytes less than the region's whole pages, and hands out no other memory.
-/// In a region of less than a page it may refuse every allocation.
+/// The heap within a region: it has room for 64 bytes less than the region's whole pages of 4096 bytes, and hands out no
+/// other memory. In a region of less than a page it may refuse every allocation.
 ///
-/// An allocation takes constant time, and a growth that moves a block the time to copy it. Where no room is left it is
-/// refused, and what was allocated stays.
+/// An allocation takes constant time, a growth the time to copy the block. If no room is left it is refused, and what was
+/// allocated stays.
 pub fn heap_within(region: Region) -> RegionHeap {
     let room = (region.size() / PAGE * PAGE).saturating_sub(BESIDE);
     match Bump::try_with_capacity(OneBlock::new(region), room) {

@@ -4,12 +4,12 @@
 //!   a region  --one_block-->  one block of it  --bumpalo-->  blocks, one beside the other
 //! ```
 //!
-//! Blocks are cut from the region one beside the other. The block that was cut last can grow where it is, and its bytes
-//! are free again when it goes back. Other bytes are free again with the whole region.
+//! The block that was cut last can grow in place, and its bytes are free again once it goes back. Those of other blocks are
+//! free again with the region. Vectors that are filled one after the other lose little so.
 //!
 //! What it promises:
-//! - Blocks lie within the region, are aligned to 16 bytes and less as each type wants it, and don't overlap.
-//! - Nothing else is called: no operating system, no C library.
+//! - Blocks lie within the region, are aligned as their types want it, and don't overlap.
+//! - Nothing else gives memory: no operating system, no C library.
 //!
 //! Where to start a change: what a region is, `region` and `specs/Memory`; how much of it a heap takes, `heap`.
 #![tactic(auto)]

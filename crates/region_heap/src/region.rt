@@ -5,10 +5,10 @@ ghost use Rattle.region_heap.specs.Memory.{room_within};
 
 use std::marker::Model;
 
-/// `size` bytes of memory from `start` on, `struct boruvka_memory`. Whoever has one may use them as he likes, and nobody
-/// else does. They are aligned to 16 bytes; those behind the last whole 16 stay unused.
+/// `size` bytes of memory from `start` on, aligned to 16 bytes: `struct boruvka_memory`. Whoever has a region may use its
+/// bytes, and nobody else does. Those behind the last whole 16 stay unused.
 ///
-/// Dropping it does nothing to the memory.
+/// C makes it: see `include/boruvka.h`. Dropping it does nothing to the memory.
 #[repr(C)]
 #[derive(Drop)]
 pub struct Region {
@@ -18,7 +18,7 @@ pub struct Region {
     ghost own: { (owner.start ≡ start) × (owner.size ≡ size) },
 }
 
-/// Who owns the memory of a region: it takes no bytes itself.
+/// What owns the memory of a region. It takes no bytes itself.
 #[repr(C)]
 #[derive(Drop)]
 pub struct Owner {
