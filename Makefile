@@ -12,6 +12,8 @@ MINUTES ?= 5
 PROGRAM := crates/boruvka/out/boruvka
 BENCH := crates/bench/out/bench
 LIBRARY := crates/boruvka_c/out/libboruvka
+WITHIN := crates/boruvka_within/out/libboruvka_within.a
+WASM := crates/boruvka_within/out/boruvka.wasm
 SOURCES := $(shell find crates -path '*/out' -prune -o -type f \( -name '*.rt' -o -name '*.antt' \) -print) crates.txt
 VERSION := $(shell sed -n 's/^pub const RELEASE: &str = "\(.*\)";$$/\1/p' crates/program_words/src/version.rt)
 MAJOR := $(firstword $(subst ., ,$(VERSION)))
@@ -26,14 +28,15 @@ BASH_COMPLETIONS = $(call quoted,$(DESTDIR)$(BASHDIR))
 ZSH_COMPLETIONS = $(call quoted,$(DESTDIR)$(ZSHDIR))
 FISH_COMPLETIONS = $(call quoted,$(DESTDIR)$(FISHDIR))
 
-.PHONY: help run lib test wrong soak built install uninstall dist bench clean
+.PHONY: help run lib wasm test wrong soak built install uninstall dist bench clean
 
 # Each of them goes side by side by itself, as far as the machine holds.
 .NOTPARALLEL:
 
 help:
 	@echo 'make run        proves and builds the program, and runs it on examples/small.gr'
-	@echo 'make lib        proves and builds libboruvka.a and libboruvka.so, beside it; needs a C compiler and its ar'
+	@echo 'make lib        proves and builds libboruvka.a, libboruvka.so and libboruvka_within.a, beside it; needs a C compiler and its ar'
+	@echo 'make wasm       proves and builds the WebAssembly module boruvka.wasm, beside libboruvka_within.a'
 	@echo 'make test       the gate: all proofs, the wrong bodies of must-fail/, the tests, the program whole'
 	@echo 'make wrong      tries the wrong bodies of wrong-bodies/, many at a time; SINCE=origin/main those of crates changed since'
 	@echo 'make soak       tries the program on drawn cases, MINUTES=$(MINUTES) long; needs Python 3 and a C compiler'
@@ -47,7 +50,9 @@ help:
 run: $(PROGRAM)
 	@$(PROGRAM) examples/small.gr
 
-lib: $(LIBRARY).a $(LIBRARY).so
+lib: $(LIBRARY).a $(LIBRARY).so $(WITHIN)
+
+wasm: $(WASM)
 
 test:
 	@python3 tests/gate.py
@@ -62,7 +67,7 @@ soak: $(PROGRAM)
 built:
 	@missing=; \
 	test -x $(call quoted,$(PROGRAM)) || { missing=1; echo 'The program is not built yet: `make run` proves and builds it.' >&2; }; \
-	test -f $(call quoted,$(LIBRARY).a) -a -f $(call quoted,$(dir $(LIBRARY))$(SHARED)) || \
+	test -f $(call quoted,$(LIBRARY).a) -a -f $(call quoted,$(dir $(LIBRARY))$(SHARED)) -a -f $(call quoted,$(WITHIN)) || \
 	{ missing=1; echo 'The libraries are not built yet: `make lib` proves and builds them.' >&2; }; \
 	test -z "$$missing"
 
@@ -70,6 +75,7 @@ install: built
 	install -d $(BIN) $(LIB)/pkgconfig $(INCLUDE) $(MAN) $(BASH_COMPLETIONS) $(ZSH_COMPLETIONS) $(FISH_COMPLETIONS)
 	install -m 755 $(call quoted,$(PROGRAM)) $(BIN)/boruvka
 	install -m 644 $(call quoted,$(LIBRARY).a) $(LIB)/libboruvka.a
+	install -m 644 $(call quoted,$(WITHIN)) $(LIB)/libboruvka_within.a
 	install -m 755 $(call quoted,$(dir $(LIBRARY))$(SHARED)) $(LIB)/$(SHARED)
 	ln -sf $(SHARED) $(LIB)/libboruvka.so.$(MAJOR)
 	ln -sf libboruvka.so.$(MAJOR) $(LIB)/libboruvka.so
@@ -83,7 +89,7 @@ install: built
 
 uninstall:
 	rm -f $(BIN)/boruvka $(INCLUDE)/boruvka.h $(INCLUDE)/boruvka.hpp $(MAN)/boruvka.1
-	rm -f $(LIB)/libboruvka.a $(LIB)/libboruvka.so $(LIB)/libboruvka.so.$(MAJOR) $(LIB)/$(SHARED) $(LIB)/pkgconfig/boruvka.pc
+	rm -f $(LIB)/libboruvka.a $(LIB)/libboruvka_within.a $(LIB)/libboruvka.so $(LIB)/libboruvka.so.$(MAJOR) $(LIB)/$(SHARED) $(LIB)/pkgconfig/boruvka.pc
 	rm -f $(BASH_COMPLETIONS)/boruvka $(ZSH_COMPLETIONS)/_boruvka $(FISH_COMPLETIONS)/boruvka.fish
 
 dist: $(PROGRAM) lib
@@ -103,6 +109,15 @@ $(PROGRAM): $(SOURCES)
 $(BENCH): $(SOURCES)
 	@python3 tools/prove.py bench
 	@touch $(BENCH)
+
+# It calls no allocator: the caller gives up the memory.
+$(WITHIN): $(SOURCES)
+	@python3 tools/prove.py boruvka_within
+	@touch $(WITHIN)
+
+$(WASM): $(SOURCES)
+	@python3 tools/wasm.py
+	@touch $(WASM)
 
 # With the crate's own library the toolchain's few lines over malloc and free.
 # (`rt` writes through no symbolic link, so the three names of the shared library are one file here)

@@ -112,6 +112,25 @@ size_t boruvka_fault_text(int64_t kind, char *into, size_t room);
 
 uint32_t boruvka_version(void);
 
+/* ---- Calls within memory that the caller gives up, of libboruvka_within.a. Each is the call of its name without `_within`,
+ * but for where it takes memory. They call memcpy, memmove and memset, and nothing else: no malloc. */
+
+/* `size` bytes from `start` on, which is aligned to 16 bytes and never null. Nothing else touches them during the call, and
+ * no other parameter points into them. What stood there is lost. After the call they are the caller's again.
+ *
+ * Whole pages of 4096 bytes are used. If they are too few, the answer is BORUVKA_NO_MEMORY, and what the other parameters
+ * point to is as it was, but for `fault`: so the same call may be made again with more. Each list that was tried had enough
+ * in 26 bytes a link, 10 a vertex and 16384 more, each text in 4 times its length, 10 bytes a vertex and 16384 more. */
+struct boruvka_memory {
+    void *start;
+    size_t size;
+};
+
+int64_t boruvka_forest_within(struct boruvka_memory memory, uint32_t n, struct boruvka_link *links, size_t m);
+int64_t boruvka_forest_text_within(struct boruvka_memory memory, const uint8_t *text, size_t length, uint8_t *into, size_t room,
+                                   struct boruvka_fault *fault);
+size_t boruvka_fault_text_within(int64_t kind, char *into, size_t room);
+
 #ifdef __cplusplus
 }
 #endif

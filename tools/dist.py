@@ -34,7 +34,7 @@ from stamp import git, seconds, text_of, version
 
 PROGRAM = f"{ROOT}/crates/boruvka/out/boruvka"
 LIBRARIES = f"{ROOT}/crates/boruvka_c/out"
-EXAMPLES = ["examples/small.gr", "examples/roads.gr", *(f"examples/embed/forest.{it}" for it in ("c", "cpp", "py", "rs"))]
+EXAMPLES = ["examples/small.gr", "examples/roads.gr", *(f"examples/embed/forest.{it}" for it in ("c", "cpp", "py", "rs")), "examples/embed/within.c"]
 # What the README sends its reader to, as far as it isn't code.
 DOCUMENTS = ["README.md", "SECURITY.md", "CHANGELOG.md", *(f"docs/{it}.md" for it in ("GR_FORMAT", "RECIPES", "PROTOCOL", "PROMISES", "PERFORMANCE"))]
 # Where an install puts what, if the environment says so; for a package it doesn't count.

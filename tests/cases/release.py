@@ -25,7 +25,7 @@ EMBED = f"{ROOT}/examples/embed"
 # the documents and examples of a package
 TEXTS = [
     "README.md", "SECURITY.md", "CHANGELOG.md", *(f"docs/{it}.md" for it in ("GR_FORMAT", "RECIPES", "PROTOCOL", "PROMISES", "PERFORMANCE")),
-    "examples/small.gr", "examples/roads.gr", *(f"examples/embed/forest.{it}" for it in ("c", "cpp", "py", "rs")),
+    "examples/small.gr", "examples/roads.gr", *(f"examples/embed/forest.{it}" for it in ("c", "cpp", "py", "rs")), "examples/embed/within.c",
 ]
 AT = 1_700_000_000  # 2023-11-14, in place of the commit's time
 SET = ("PREFIX", "BINDIR", "LIBDIR", "INCLUDEDIR", "MANDIR", "BASHDIR", "ZSHDIR", "FISHDIR", "PKG_CONFIG_PATH", "LD_LIBRARY_PATH")
@@ -66,6 +66,7 @@ def installed(bin_="bin", lib="lib", include="include", share="share", man="shar
     return {
         f"{bin_}/boruvka": None,
         f"{lib}/libboruvka.a": None,
+        f"{lib}/libboruvka_within.a": None,
         f"{lib}/libboruvka.so": f"libboruvka.so.{major()}",
         f"{lib}/libboruvka.so.{major()}": f"libboruvka.so.{version()}",
         f"{lib}/libboruvka.so.{version()}": None,
@@ -227,7 +228,7 @@ def the_heads_of_the_examples_say_how_to_run_them(room):
     prefix = f"{room}/prefix"
     expect(make(f"PREFIX={prefix}", "install"), 0, b"", b"")
     found = []
-    for name, mark, tools in [("forest.c", " * ", ["cc", "pkg-config"]), ("forest.cpp", " * ", ["c++"]), ("forest.rs", "//! ", ["rustc"]), ("forest.py", "", ["python3"])]:
+    for name, mark, tools in [("forest.c", " * ", ["cc", "pkg-config"]), ("forest.cpp", " * ", ["c++"]), ("forest.rs", "//! ", ["rustc"]), ("forest.py", "", ["python3"]), ("within.c", " * ", ["cc"])]:
         head = re.split(r"^(?:#include|use|import) ", text_of(f"examples/embed/{name}").replace(" */\n", "\n"), flags=re.M)[0]
         shown = [it[len(mark) + 4 :] if it.startswith(mark + "    ") else "" for it in head.splitlines()]
         for number, commands in enumerate(filter(None, re.split(r"\n\n+", "\n".join(shown).strip("\n")))):
@@ -240,7 +241,7 @@ def the_heads_of_the_examples_say_how_to_run_them(room):
             # where no PREFIX is named the system finds the libraries
             env = PLAIN if "PREFIX" in commands else {**PLAIN, "PKG_CONFIG_PATH": f"{prefix}/lib/pkgconfig", "LD_LIBRARY_PATH": f"{prefix}/lib"}
             expect(run(["sh", "-ec", commands.replace("PREFIX", prefix)], cwd=here, env=env), 0, SMALL_FOREST, b"")
-    is_so(found, ["forest.c"] * 3 + ["forest.cpp", "forest.rs", "forest.py"])
+    is_so(found, ["forest.c"] * 3 + ["forest.cpp", "forest.rs", "forest.py", "within.c"])
 
 
 # Completions
@@ -496,6 +497,8 @@ def a_package_tells_what_the_gate_passed(room):
     shutil.copy(Program.path, f"{top}/crates/boruvka/out/boruvka")
     for name in ("libboruvka.a", f"libboruvka.so.{version()}"):
         shutil.copy(f"{LIBRARIES}/{name}", f"{top}/crates/boruvka_c/out/{name}")
+    os.makedirs(f"{top}/crates/boruvka_within/out")
+    shutil.copy(f"{ROOT}/crates/boruvka_within/out/libboruvka_within.a", f"{top}/crates/boruvka_within/out")
     status, output, _ = run([sys.executable, "-B", f"{top}/tools/dist.py"], env={it: word for it, word in KIT.items() if it != "SOURCE_DATE_EPOCH"})
     is_so((status, output.count(b"\n")), (0, 3 if shutil.which("dpkg-deb") else 2))
     name = f"boruvka-{version()}-x86_64-linux"

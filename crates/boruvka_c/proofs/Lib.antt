@@ -1,5 +1,3 @@
-mod Givens
 mod Columns
 mod Chains
 mod FirstPlaces
-mod FirstFaults

@@ -4,11 +4,11 @@ use Rattle.limits.specs.declared.TheConstants.{MAX_ARCS, MAX_VERTICES}
 use Rattle.links.specs.Link.{AreLinksOf}
 use Rattle.links.specs.declared.links.Link.{Link}
 use Rattle.link_key.specs.Components.{IsAcyclic, AreLeastVertices}
-use Rattle.boruvka_c.specs.Links.{AreRight, HaveEnds, arcs_of}
-use Rattle.boruvka_c.specs.declared.given.GivenLink.{GivenLink}
-use Rattle.boruvka_c.specs.declared.refusals.Refusal.{Refusal}
-use Rattle.boruvka_c.specs.declared.refusals.Refusal.TheVariants.{NoMemory, BadEnd, TooManyVertices, TooManyLinks, Cycle}
-use Rattle.boruvka_c.specs.Refusals.{code_of}
+use Rattle.caller_forests.specs.Links.{AreRight, HaveEnds, arcs_of}
+use Rattle.caller_forests.specs.declared.given.GivenLink.{GivenLink}
+use Rattle.caller_forests.specs.declared.refusals.Refusal.{Refusal}
+use Rattle.caller_forests.specs.declared.refusals.Refusal.TheVariants.{NoMemory, BadEnd, TooManyVertices, TooManyLinks, Cycle}
+use Rattle.caller_forests.specs.Refusals.{code_of}
 
 -- the ends of each link differ
 abbrev pub HaveNoLoop : List GivenLink → Type 0

@@ -1,7 +1,5 @@
 pub mod Arcs
 pub mod Index
 pub mod Labels
-pub mod Links
 pub mod Places
-pub mod Refusals
-pub mod Texts
+pub mod Totals

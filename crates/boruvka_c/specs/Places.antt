@@ -8,9 +8,9 @@ use Rattle.links.specs.Least.{sum_of_weights, IsLightest}
 use Rattle.links.specs.declared.links.Link.{Link}
 use Rattle.gr_text.specs.Graph.{HasEnds}
 use Rattle.boruvka_c.specs.Arcs.{AreColumns, AreRightArcs, arcs_in}
-use Rattle.boruvka_c.specs.declared.refusals.Refusal.{Refusal}
-use Rattle.boruvka_c.specs.declared.refusals.Refusal.TheVariants.{NoMemory, BadEnd, TooManyVertices, TooManyLinks, LengthsDiffer, TooFewPlaces}
-use Rattle.boruvka_c.specs.Refusals.{code_of}
+use Rattle.caller_forests.specs.declared.refusals.Refusal.{Refusal}
+use Rattle.caller_forests.specs.declared.refusals.Refusal.TheVariants.{NoMemory, BadEnd, TooManyVertices, TooManyLinks, LengthsDiffer, TooFewPlaces}
+use Rattle.caller_forests.specs.Refusals.{code_of}
 
 -- the arc at this place is the link: it has its key
 abbrev pub IsLinkAt : List Arc → Link → ℕ → Type 0

@@ -2,10 +2,9 @@
 ghost use Rattle.std.specs.Prelude.{◌≡◌, ◌↔◌, ◌≤ℤ◌, pos, length, IsTrue, IfErr, OnOk, OnErr};
 ghost use Rattle.std.specs.Int.Signed.{◌<ℤ◌};
 ghost use Rattle.boruvka_c.specs.Labels.{HaveNoLoop, AreLabelsBy, IsLabelsRefusal, RefusesLabels};
-ghost use Rattle.boruvka_c.specs.Links.{AreRight};
+ghost use Rattle.caller_forests.specs.Links.{AreRight};
 
-use crate::given::{GivenLink, have_ends, links_of};
-use crate::refusals::Refusal;
+use caller_forests::{GivenLink, Refusal, have_ends, links_of};
 use limits::{MAX_ARCS, MAX_VERTICES};
 use link_key::components_of;
 use std::alloc::Global;

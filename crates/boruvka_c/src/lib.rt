@@ -1,13 +1,13 @@
-//! The forest for programs in C, and in whatever calls C: a static library of calls over [`link_key::forest_of`] and
-//! [`plain_run::plain_text`], in the caller's memory. `include/boruvka.h` is its header.
+//! The forest for programs in C, and in whatever calls C: a static library of calls over [`caller_forests`] and
+//! [`link_key`], in the caller's memory. `include/boruvka.h` is its header.
 //!
 //! ```text
-//!   links    --given-->  Vec<Link>  --forest_of-->  Forest  --given-->  the first of the links   boruvka_forest
+//!   links    --caller_forests::put_forest-->  the first of the links                           boruvka_forest
 //!   columns  --arcs-->  Vec<Link>  --forest_of-->  Forest  --index-->  the caller's places       boruvka_places_in
-//!   links    --given-->  Vec<Link>  --components_of-->  Labels  -->  the caller's labels          boruvka_labels_in
+//!   links    --links_of-->  Vec<Link>  --components_of-->  Labels  -->  the caller's labels       boruvka_labels_in
 //!   links    --totals-->  their sum in two words                                                 boruvka_total
-//!   text     --plain_run::plain_text-->  the forest's text  --room-->  the caller's room         boruvka_forest_text
-//!   a code   --refusals-->  its text  --room-->  the caller's room                               boruvka_fault_text
+//!   text     --caller_forests::put_forest_text-->  the caller's room                           boruvka_forest_text
+//!   a code   --caller_forests::put_fault_text-->  the caller's room                              boruvka_fault_text
 //! ```
 //!
 //! What it promises:
@@ -15,31 +15,25 @@
 //!   cause; where it refuses, the caller's links, places, labels and room stay as they were.
 //! - Nothing is written past what a caller gave.
 //!
-//! Where to start a change: a call's meaning, `specs/Links`, `Places`, `Labels` and `Texts`; a refusal, its code and its
-//! text, `specs/Refusals`, then `refusals`, and the header; what C sees change its meaning, `CALLS_VERSION` too.
+//! Where to start a change: a call's meaning, `specs/Places`, `Labels` and `Totals` here, `specs/Links` and `Texts` of
+//! `caller_forests`; a refusal, its code and its text, `caller_forests`; what C sees change its meaning, `CALLS_VERSION`
+//! too.
 #![tactic(auto)]
 
 ghost use Rattle.std.specs.Prelude.{◌≡◌};
 
 mod arcs;
-mod faults;
 mod forests;
-mod given;
 mod index;
 mod labels;
 mod places;
-mod refusals;
-mod room;
 mod texts;
 mod totals;
 
-pub use faults::{Fault, boruvka_fault_text};
 pub use forests::boruvka_forest;
-pub use given::GivenLink;
 pub use labels::boruvka_labels_in;
 pub use places::boruvka_places_in;
-pub use refusals::Refusal;
-pub use texts::boruvka_forest_text;
+pub use texts::{boruvka_fault_text, boruvka_forest_text};
 pub use totals::{Sum, boruvka_total};
 
 /// The version of these calls: another one where a call, a code or a struct means something else.

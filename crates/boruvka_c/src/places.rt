@@ -10,7 +10,7 @@ ghost use Rattle.boruvka_c.specs.Places.{IsAmong, IsFirstFrom, HoldsPlaces, IsAr
 
 use crate::arcs::Arcs;
 use crate::index::LinkIndex;
-use crate::refusals::Refusal;
+use caller_forests::Refusal;
 use limits::{MAX_ARCS, MAX_VERTICES};
 use link_key::forest_of;
 use std::alloc::Global;

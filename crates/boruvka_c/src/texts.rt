@@ -1,19 +1,17 @@
-//! The text of the forest of a text in the caller's memory.
+//! The text of the forest of a text in the caller's memory, and those of refusals.
 ghost use Rattle.std.specs.Prelude.{◌≡◌, ◌≤◌, ◌≤ℤ◌, pos, length};
 ghost use Rattle.std.specs.Int.Signed.{◌<ℤ◌};
 ghost use Rattle.plain_run.specs.Files.{MeansGraph, MeansNothing};
-ghost use Rattle.boruvka_c.specs.Texts.{WritesForestText, RefusesText, GivesFirstFault, WantsMemoryAtMost, no_fault};
+ghost use Rattle.caller_forests.specs.Texts.{WritesForestText, RefusesText, GivesFirstFault, GivesTextOf, WantsMemoryAtMost, no_fault};
 
-use crate::faults::Fault;
-use crate::room::fill;
+use caller_forests::{Fault, put_fault_text, put_forest_text};
 use limits::MAX_BYTES;
-use plain_run::plain_text;
 use std::alloc::Global;
 
 /// Puts the text of the minimum spanning forest of a `.gr` text into the caller's room, as far as it has room, and
 /// answers how many bytes it has; or answers the code of a refusal, which is negative, and puts it into `fault`.
 ///
-/// It costs what [`plain_text`] does, in whose memory the whole text stands first.
+/// It costs what [`put_forest_text`] does.
 #[unsafe(no_mangle)]
 pub extern "C" fn boruvka_forest_text(
     alloc: Global,
@@ -32,15 +30,15 @@ pub extern "C" fn boruvka_forest_text(
     ensures malformed { length text.now ≤ MAX_BYTES → MeansNothing text.now → GivesFirstFault text.now fault.new }
     ensures lawful { MeansGraph text.now → WantsMemoryAtMost result }
 {
-    match plain_text(alloc, text) {
-        Ok(forest) => {
-            fill(into, forest.as_slice());
-            *fault = Fault::NONE;
-            forest.len() as i64
-        }
-        Err(why) => {
-            *fault = Fault::of_run(why);
-            fault.kind
-        }
-    }
+    put_forest_text(alloc, text, into, fault)
+}
+
+/// Puts the text of a refusal's code into the caller's room, as `snprintf` does: a 0 ends it, and what doesn't fit before
+/// the 0 is left out. An empty room stays as it is. The answer is how many bytes the whole text has, without the 0. A
+/// number that is no such code has the text `no refusal`. It takes no memory.
+#[unsafe(no_mangle)]
+pub extern "C" fn boruvka_fault_text(kind: i64, into: &mut [u8]) -> usize
+    ensures { GivesTextOf kind into.old into.new result }
+{
+    put_fault_text(kind, into)
 }

@@ -1,8 +1,8 @@
 //! What links weigh.
 ghost use Rattle.std.specs.Prelude.{◌≡◌};
-ghost use Rattle.boruvka_c.specs.Links.{sum_of_given, number_of};
+ghost use Rattle.boruvka_c.specs.Totals.{sum_of_given, number_of};
 
-use crate::given::GivenLink;
+use caller_forests::GivenLink;
 
 /// A sum of weights in two words, `struct boruvka_sum`: it is `high` times 2^64 and `low`.
 #[repr(C)]

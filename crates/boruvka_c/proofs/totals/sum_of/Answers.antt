@@ -2,7 +2,7 @@ use Rattle.std.proofs.Common.{◌<◌, ◌^◌, ◌+ℤ◌, ℤ, pos, length, ge
 use mir.Val.{SFits}
 use Rattle.std.proofs.lemmas.Int.{ints}
 use Rattle.std.proofs.lemmas.List.Sums.{fold_more}
-use Rattle.boruvka_c.specs.declared.given.GivenLink.{GivenLink}
+use Rattle.caller_forests.specs.declared.given.GivenLink.{GivenLink}
 use Rattle.boruvka_c.proofs.totals.sum_of.Goals as goal
 
 pub loop-link-preserved : goal.loop-link-preserved

@@ -1,6 +1,6 @@
 use Rattle.std.proofs.Common.{◌≡◌, ◌*◌, ◌^◌, ◌≤ℤ◌, pos, take}
 use Rattle.std.specs.Prelude.{neg_ℤ}
-use Rattle.boruvka_c.specs.Links.{sum_of_given}
+use Rattle.boruvka_c.specs.Totals.{sum_of_given}
 use Rattle.boruvka_c.proofs.totals.sum_of.Given as goal
 
 -- the links passed so far, each of which adds less than 2^63

@@ -5,7 +5,7 @@ use Rattle.std.proofs.lemmas.List.Elements.{All-push}
 use Rattle.links.specs.Arc.{Arc}
 use Rattle.links.specs.Link.{is_no_loop}
 use Rattle.links.specs.declared.links.Link.{Link}
-use Rattle.boruvka_c.proofs.Givens.{more_loop, more_link}
+use Rattle.caller_forests.proofs.Givens.{more_loop, more_link}
 use Rattle.boruvka_c.proofs.FirstPlaces.{not_true}
 use Rattle.boruvka_c.proofs.arcs.Arcs.links.Goals as goal
 use Rattle.boruvka_c.proofs.arcs.Arcs.links.Goals.{in-Some+in_ok-push, in_default}

@@ -1,8 +1,0 @@
-use Rattle.std.proofs.Common.{◌≤◌, length, take}
-use Rattle.links.specs.Link.{AreLinksOf, EndsUpTo}
-use Rattle.boruvka_c.specs.Links.{arcs_of}
-use Rattle.boruvka_c.proofs.given.links_of.Given as goal
-
-abbrev pub invariant-loop-arc : goal.invariant-loop-arc
-invariant-loop-arc l =
-    AreLinksOf (arcs_of (take l.arc-index l.given)) l.links.items × (length l.links.items ≤ l.arc-index) × EndsUpTo l.n l.links.items

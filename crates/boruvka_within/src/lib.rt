@@ -1,0 +1,20 @@
+//! The forest for callers that give up the memory for it: a static library of calls over [`caller_forests`], each with a
+//! heap within that memory alone. It calls nothing but `memcpy`, `memmove` and `memset`. `include/boruvka.h` is its header,
+//! too.
+//!
+//! ```text
+//!   memory   --region_heap::heap_within-->  a heap  --caller_forests::put_forest-->  the first of the links
+//!   memory   --------------- the same ----------->  --caller_forests::put_forest_text-->  the caller's room
+//! ```
+//!
+//! What it promises:
+//! - Each call promises what the call of `boruvka_c` without memory does.
+//!
+//! Where to start a change: a call's meaning, `caller_forests`; how memory is used, `region_heap`.
+#![tactic(auto)]
+
+mod forests;
+mod texts;
+
+pub use forests::boruvka_forest_within;
+pub use texts::{boruvka_fault_text_within, boruvka_forest_text_within};

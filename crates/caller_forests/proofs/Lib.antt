@@ -1,0 +1,2 @@
+mod FirstFaults
+pub mod Givens

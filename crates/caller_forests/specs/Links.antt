@@ -1,0 +1,59 @@
+-- Links in the caller's memory, and what becomes of them.
+use Rattle.std.specs.Prelude.{◌≡◌, ℕ, ℤ, pos, ◌<◌, ◌≤◌, List, ◌++◌, map, drop, length, All}
+use Rattle.limits.specs.declared.TheConstants.{MAX_ARCS, MAX_VERTICES}
+use Rattle.links.specs.Arc.{Arc}
+use Rattle.links.specs.Link.{AreLinksOf}
+use Rattle.links.specs.Forest.{IsForestOf}
+use Rattle.links.specs.Least.{sum_of_weights, IsLightest}
+use Rattle.links.specs.declared.links.Link.{Link}
+use Rattle.gr_text.specs.Graph.{HasEnds}
+use Rattle.caller_forests.specs.declared.given.GivenLink.{GivenLink}
+use Rattle.caller_forests.specs.declared.refusals.Refusal.{Refusal}
+use Rattle.caller_forests.specs.declared.refusals.Refusal.TheVariants.{NoMemory, BadEnd, TooManyVertices, TooManyLinks}
+use Rattle.caller_forests.specs.Refusals.{code_of}
+
+-- what a given link says: an arc, whose direction is forgotten
+abbrev pub arc_of : GivenLink → Arc
+arc_of l = record { tail = l.low; head = l.high; weight = l.weight }
+
+abbrev pub arcs_of : List GivenLink → List Arc
+arcs_of given = map arc_of given
+
+-- a link as it is given back
+abbrev pub given_of : Link → GivenLink
+given_of l = record { weight = l.weight; low = l.low; high = l.high }
+
+-- the ends of all are vertices of a graph with the vertices 1 to n
+abbrev pub HaveEnds : ℕ → List GivenLink → Type 0
+HaveEnds n given = All (λ l. HasEnds n (arc_of l)) given
+
+-- the minimum spanning forest of the links that were given, in the order of their keys, stands first, and behind it
+-- what stood there; no spanning forest weighs less
+pub record HoldsForest (before after : List GivenLink) (count : ℕ) : Type 0 where
+  pub links : List Link
+  pub forest : List Link
+  pub are_links : AreLinksOf (arcs_of before) links
+  pub forest_is : IsForestOf links forest
+  pub lightest : IsLightest links (sum_of_weights forest)
+  pub first : after ≡ map given_of forest ++ drop (length forest) before
+  pub counted : count ≡ length forest
+
+-- links that have a forest: no more vertices and links than there may be, and no end that is no vertex
+abbrev pub AreRight : ℕ → List GivenLink → Type 0
+AreRight n given = (n ≤ MAX_VERTICES) × (length given ≤ MAX_ARCS) × HaveEnds n given
+
+-- why links have no forest: the first of these causes, or want of memory where there is none of them
+abbrev pub IsLinksRefusal : ℕ → List GivenLink → Refusal → Type 0
+IsLinksRefusal n given TooManyVertices = MAX_VERTICES < n
+IsLinksRefusal n given TooManyLinks = (n ≤ MAX_VERTICES) × (MAX_ARCS < length given)
+IsLinksRefusal n given BadEnd = (n ≤ MAX_VERTICES) × (length given ≤ MAX_ARCS) × ¬ (HaveEnds n given)
+IsLinksRefusal n given NoMemory = AreRight n given
+IsLinksRefusal n given other = ⊥
+
+-- the answer is how many links the forest has, which stands first
+abbrev pub FindsForest : ℕ → List GivenLink → List GivenLink → ℤ → Type 0
+FindsForest n before after answer = AreRight n before × ((count : ℕ) × (answer ≡ pos count) × HoldsForest before after count)
+
+-- the answer is the code of why there is none
+abbrev pub RefusesLinks : ℕ → List GivenLink → ℤ → Type 0
+RefusesLinks n given answer = (why : Refusal) × (answer ≡ code_of why) × IsLinksRefusal n given why

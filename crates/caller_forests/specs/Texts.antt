@@ -1,0 +1,69 @@
+-- Texts in the caller's memory.
+use Rattle.std.specs.Prelude.{◌≡◌, ◌≢◌, ℕ, ◌-◌, ℤ, pos, ◌≤ℤ◌, ◌⊎◌, List, [], ◌∷◌, ◌++◌, take, drop, length, codes}
+use Rattle.gr_text.specs.Fault.{IsFirstFault}
+use Rattle.gr_text.specs.declared.faults.GrKind.{GrKind}
+use Rattle.gr_text.specs.declared.faults.ReadFault.TheVariants as read
+use Rattle.plain_run.specs.Files.{IsForestTextOf, IsFaultInMemory}
+use Rattle.plain_run.specs.declared.fault.RunFault.{RunFault}
+use Rattle.plain_run.specs.declared.fault.RunFault.TheVariants as run
+use Rattle.caller_forests.specs.declared.faults.Fault.{Fault}
+use Rattle.caller_forests.specs.declared.refusals.Refusal.{Refusal}
+use Rattle.caller_forests.specs.declared.refusals.Refusal.TheVariants.{NoMemory, TooLong, Line}
+use Rattle.caller_forests.specs.Refusals.{code_of, text_of}
+
+-- a room once these bytes were put into it, as many as it has room for
+abbrev pub filled : List ℕ → List ℕ → List ℕ
+filled bytes room = take (length room) bytes ++ drop (length bytes) room
+
+-- a room once this text was put into it with a 0 behind it, cut so that the 0 fits; an empty room stays empty
+abbrev pub filled_with_text : List ℕ → List ℕ → List ℕ
+filled_with_text text room = filled (take (length room - 1) text ++ 0 ∷ []) room
+
+-- ---- what C gets of a refusal
+
+-- a refusal with its line, or with 0
+abbrev pub fault_at : Refusal → ℕ → Fault
+fault_at why line = record { kind = code_of why; line = line }
+
+abbrev pub no_fault : Fault
+no_fault = record { kind = pos 0; line = 0 }
+
+-- the fault that C gets of a run over bytes in memory: of a line, too long a text, or want of memory
+abbrev pub fault_of : RunFault → Fault
+fault_of (run.Read (read.Gr f)) = fault_at (Line f.kind) f.line
+fault_of (run.Read read.TooLong) = fault_at TooLong 0
+fault_of other = fault_at NoMemory 0
+
+-- this is the text of a refusal's code, or of a number that is none
+abbrev pub IsTextOfCode : ℤ → List ℕ → Type 0
+IsTextOfCode code text = ((why : Refusal) × (code ≡ code_of why) × (text ≡ text_of why))
+    ⊎ (((why : Refusal) → code ≢ code_of why) × (text ≡ codes "no refusal"))
+
+-- the code's text was put into the room with a 0 behind it, and the answer is how long the whole text is
+pub record GivesTextOf (code : ℤ) (before after : List ℕ) (answer : ℕ) : Type 0 where
+  pub text : List ℕ
+  pub text_is : IsTextOfCode code text
+  pub put : after ≡ filled_with_text text before
+  pub counted : answer ≡ length text
+
+-- ---- the forest of a text
+
+-- the text of the forest that these bytes give was put into the room, and the answer is how long it is
+pub record WritesForestText (bytes before after : List ℕ) (answer : ℤ) : Type 0 where
+  pub text : List ℕ
+  pub text_is : IsForestTextOf bytes text
+  pub put : after ≡ filled text before
+  pub counted : answer ≡ pos (length text)
+
+-- the fault is one that these bytes have in memory, and the answer is its code
+abbrev pub RefusesText : List ℕ → ℤ → Fault → Type 0
+RefusesText bytes answer fault = (why : RunFault) × IsFaultInMemory bytes why × (fault ≡ fault_of why) × (answer ≡ fault.kind)
+
+-- the fault is the first of these bytes, or want of memory
+abbrev pub GivesFirstFault : List ℕ → Fault → Type 0
+GivesFirstFault bytes fault = ((kind : GrKind) × IsFirstFault bytes fault.line kind × (fault.kind ≡ code_of (Line kind)))
+    ⊎ (fault ≡ fault_at NoMemory 0)
+
+-- the answer is no refusal but want of memory
+abbrev pub WantsMemoryAtMost : ℤ → Type 0
+WantsMemoryAtMost answer = (pos 0 ≤ℤ answer) ⊎ (answer ≡ code_of NoMemory)

@@ -1,0 +1,90 @@
+//! Links as a caller gives them.
+ghost use Rattle.std.specs.Prelude.{◌≡◌, ◌↔◌, ◌≤◌, ◌++◌, map, drop, length, IfOk, IfSome, IsNone, IsTrue};
+ghost use Rattle.limits.specs.declared.TheConstants.{MAX_VERTICES};
+ghost use Rattle.links.specs.Link.{AreLinksOf, EndsUpTo, arc_key, key_of};
+ghost use Rattle.gr_text.specs.Graph.{HasEnds};
+ghost use Rattle.caller_forests.specs.Links.{arc_of, arcs_of, given_of, HaveEnds};
+
+use limits::MAX_VERTICES;
+use links::Link;
+use std::alloc::{AllocError, Allocator};
+
+/// A link as a caller gives it and gets it back, `struct boruvka_link`. What is given may have its ends in either order, be a
+/// loop, or have an end that is no vertex; what comes back has the lower end first.
+#[repr(C)]
+#[derive(Clone, Copy)]
+pub struct GivenLink {
+    pub weight: i64,
+    pub low: u32,
+    pub high: u32,
+}
+
+impl GivenLink {
+    // The link that it stands for, between the vertices 1 to n; none for a loop.
+    fn to_link(self, n: u32) -> Option<Link>
+        requires few_vertices { n ≤ MAX_VERTICES }
+        requires ends { HasEnds n (arc_of self) }
+        ensures none_for_a_loop { IsNone result ↔ (self.low ≡ self.high) }
+        ensures key { IfSome result (λ l. key_of l ≡ arc_key (arc_of self)) }
+        ensures end { IfSome result (λ l. l.high ≤ n) }
+    {
+        Link::of_arc(self.low, self.high, self.weight)
+    }
+
+    // A link as it is given back.
+    fn of_link(link: Link) -> GivenLink
+        ensures { result ≡ given_of link }
+    {
+        GivenLink {
+            weight: link.weight,
+            low: link.low,
+            high: link.high,
+        }
+    }
+}
+
+// Whether both ends are vertices of such a graph.
+fn has_ends(n: u32, link: &GivenLink) -> bool
+    ensures { IsTrue result ↔ HasEnds n (arc_of link.now) }
+{
+    1 <= link.low && link.low <= n && 1 <= link.high && link.high <= n
+}
+
+/// Whether both ends of each link are vertices of a graph with the vertices 1 to n.
+pub fn have_ends(n: u32, links: &[GivenLink]) -> bool
+    ensures { IsTrue result ↔ HaveEnds n links.now }
+{
+    links.iter().all(|link| has_ends(n, link))
+}
+
+/// The links that these stand for, in their order; a loop stands for none. It takes 16 bytes a link.
+pub fn links_of<A: Allocator + Copy>(
+    alloc: A,
+    n: u32,
+    given: &[GivenLink],
+) -> Result<Vec<Link, A>, AllocError>
+    requires few_vertices { n ≤ MAX_VERTICES }
+    requires ends { HaveEnds n given.now }
+    ensures links { IfOk result (λ links. AreLinksOf (arcs_of given.now) links.items) }
+    ensures few { IfOk result (λ links. length links.items ≤ length given.now) }
+    ensures ends { IfOk result (λ links. EndsUpTo n links.items) }
+{
+    let mut links = Vec::with_capacity(alloc, given.len())?;
+    for arc in given {
+        match arc.to_link(n) {
+            Some(link) => links.push(link)?,
+            None => {}
+        }
+    }
+    Ok(links)
+}
+
+// Puts these links first; behind them stays what stood there.
+pub(crate) fn put_first(given: &mut [GivenLink], links: &[Link])
+    requires { length links.now ≤ length given.old }
+    ensures { given.new ≡ map given_of links.now ++ drop (length links.now) given.old }
+{
+    for i in 0..links.len() {
+        given[i] = GivenLink::of_link(links[i]);
+    }
+}

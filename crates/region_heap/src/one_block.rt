@@ -1,0 +1,64 @@
+//! A region as one block.
+ghost use Rattle.std.specs.Prelude.{◌≡◌, ◌%◌, ◌^◌, ◌<◌, ◌≤◌, IfSome};
+ghost use base.Fml.{ftrue};
+
+use crate::region::Region;
+use std::alloc::{AllocError, Allocator};
+use std::cell::Cell;
+
+// Memory is given up in units of so many bytes.
+const UNIT: usize = 16;
+
+/// An allocator that gives a region out as one block, once, for a size that is a multiple of 16. What comes back isn't given
+/// out again.
+#[derive(Drop)]
+pub struct OneBlock {
+    region: Cell<Option<Region>>,
+}
+
+impl OneBlock {
+    /// The region, not given out yet.
+    pub fn new(region: Region) -> OneBlock {
+        OneBlock {
+            region: Cell::new(Some(region)),
+        }
+    }
+
+    /// One that has no region, and refuses everything.
+    pub fn empty() -> OneBlock {
+        OneBlock {
+            region: Cell::new(None),
+        }
+    }
+
+    // The region, if it is there and has so many bytes, which are whole units.
+    fn take(&self, size: usize) -> Option<Region>
+        ensures { IfSome result (λ region. (size < 2 ^ 63) × (size % 16 ≡ 0) × (size ≤ region.size)) }
+    {
+        let region = self.region.replace(None)?;
+        if size > isize::MAX as usize || size % UNIT != 0 || size > region.size() {
+            self.region.replace(Some(region));
+            return None;
+        }
+        Some(region)
+    }
+}
+
+unsafe impl Allocator for OneBlock {
+    ghost dealloc_token = { λ _ _ _. ftrue };
+
+    fn allocate(&self, size: usize, _align: usize) -> Result<*mut u8, AllocError> {
+        match self.take(size) {
+            Some(
+                Region {
+                    start,
+                    size: _,
+                    owner: _,
+                },
+            ) => Ok(start),
+            None => Err(AllocError),
+        }
+    }
+
+    unsafe fn deallocate(&self, _ptr: *mut u8, _size: usize, _align: usize) {}
+}

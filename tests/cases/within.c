@@ -1,0 +1,153 @@
+/* Calls within memory of many sizes: each answers the forest, or that memory lacks and changes nothing; and what is served
+ * within some memory is served within more. Bytes beside the memory stay as they were. A wrong answer ends it by status 1.
+ *
+ *     within sizes     a small net and its text, within each size up to four pages
+ *     within enough    lists and texts of many shapes, within as many bytes as include/boruvka.h calls enough */
+#include <boruvka.h>
+#include <inttypes.h>
+#include <stdio.h>
+#include <stdlib.h>
+#include <string.h>
+
+#define CHECK(holds) ((holds) ? (void)0 : wrong(#holds, __LINE__))
+
+enum { PAGE = 4096, EDGE = 64, SIGN = 0xa5, VERTICES = 6, LINKS = 8, FOUND = 5 };
+
+static const char given_text[] = "p sp 6 8\na 1 2 17\na 1 3 10\na 2 4 2\na 3 5 0\na 4 3 0\na 4 6 3\na 5 2 0\na 5 6 20\n";
+static const char found_text[] = "p sp 6 5\na 2 5 0\na 3 4 0\na 3 5 0\na 4 6 3\na 1 3 10\n";
+static const struct boruvka_link net[LINKS] = {{17, 1, 2}, {10, 1, 3}, {2, 2, 4}, {0, 3, 5}, {0, 4, 3}, {3, 4, 6}, {0, 5, 2}, {20, 5, 6}};
+static const struct boruvka_link forest[FOUND] = {{0, 2, 5}, {0, 3, 4}, {0, 3, 5}, {3, 4, 6}, {10, 1, 3}};
+
+static void wrong(const char *what, int line) {
+    fprintf(stderr, "within.c, line %d: not so: %s\n", line, what);
+    exit(1);
+}
+
+/* Whether the net has its forest within so many bytes; if not, nothing changed. */
+static int has_forest(unsigned char *block, size_t size) {
+    struct boruvka_link links[LINKS];
+    memcpy(links, net, sizeof net);
+    const int64_t answer = boruvka_forest_within((struct boruvka_memory){block, size}, VERTICES, links, LINKS);
+    CHECK(answer == FOUND || answer == BORUVKA_NO_MEMORY);
+    CHECK(answer == FOUND ? !memcmp(links, forest, sizeof forest) && !memcmp(links + FOUND, net + FOUND, sizeof net - sizeof forest)
+                          : !memcmp(links, net, sizeof net));
+    return answer == FOUND;
+}
+
+static int has_text(unsigned char *block, size_t size) {
+    uint8_t into[sizeof found_text] = {0};
+    struct boruvka_fault fault = {1, 1};
+    const int64_t answer = boruvka_forest_text_within((struct boruvka_memory){block, size}, (const uint8_t *)given_text, sizeof given_text - 1,
+                                                      into, sizeof into, &fault);
+    CHECK(answer == (int64_t)sizeof found_text - 1 || answer == BORUVKA_NO_MEMORY);
+    CHECK(fault.line == 0 && fault.kind == (answer < 0 ? BORUVKA_NO_MEMORY : 0));
+    CHECK(answer < 0 ? into[0] == 0 : !memcmp(into, found_text, sizeof found_text));
+    return answer >= 0;
+}
+
+/* Refusals that come before memory is wanted come without any, too. */
+static void refusals_without_memory(unsigned char *block) {
+    struct boruvka_link links[LINKS];
+    memcpy(links, net, sizeof net);
+    const struct boruvka_memory none = {block, 0};
+    CHECK(boruvka_forest_within(none, BORUVKA_MAX_VERTICES + 1, links, LINKS) == BORUVKA_TOO_MANY_VERTICES);
+    CHECK(boruvka_forest_within(none, VERTICES - 1, links, LINKS) == BORUVKA_BAD_END);
+    CHECK(!memcmp(links, net, sizeof net));
+    struct boruvka_fault fault = {1, 1};
+    CHECK(boruvka_forest_text_within(none, (const uint8_t *)"x\n", 2, block, 0, &fault) == BORUVKA_UNKNOWN_LINE && fault.line == 1);
+}
+
+static void sizes(void) {
+    static _Alignas(16) unsigned char pages[EDGE + 4 * PAGE + EDGE];
+    int had_forest = 0, had_text = 0;
+    refusals_without_memory(pages + EDGE);
+    for (size_t size = 0; size <= 4 * PAGE; size += size < 3 * 16 || size % PAGE >= PAGE - 20 || size % PAGE < 20 ? 1 : 13) {
+        memset(pages, SIGN, sizeof pages);
+        const int has = has_forest(pages + EDGE, size), says = has_text(pages + EDGE, size);
+        for (size_t i = 0; i < EDGE; i++) {
+            CHECK(pages[i] == SIGN);
+        }
+        for (size_t i = EDGE + size; i < sizeof pages; i++) {
+            CHECK(pages[i] == SIGN);
+        }
+        CHECK(has >= had_forest || size < PAGE);
+        CHECK(says >= had_text || size < PAGE);
+        had_forest = has;
+        had_text = says;
+    }
+    CHECK(had_forest && had_text);
+}
+
+static uint64_t drawn(uint64_t *seed) {
+    *seed ^= *seed << 13;
+    *seed ^= *seed >> 7;
+    *seed ^= *seed << 17;
+    return *seed;
+}
+
+enum shape { DRAWN, EQUAL, PATH, STAR, TWICE, SHAPES };
+
+static void draw(enum shape shape, uint64_t seed, uint32_t n, struct boruvka_link *links, size_t m) {
+    for (size_t i = 0; i < m; i++) {
+        const uint32_t at = (uint32_t)(i % (n - 1)) + 1;
+        const struct boruvka_link of[SHAPES] = {
+            [DRAWN] = {(int64_t)drawn(&seed) >> 40, (uint32_t)(drawn(&seed) % n) + 1, (uint32_t)(drawn(&seed) % n) + 1},
+            [EQUAL] = {7, (uint32_t)(drawn(&seed) % n) + 1, (uint32_t)(drawn(&seed) % n) + 1},
+            [PATH] = {(int64_t)(drawn(&seed) % 1000), at, at + 1},
+            [STAR] = {-(int64_t)i, n, at},
+            [TWICE] = i % 2 ? (struct boruvka_link){links[i - 1].weight, links[i - 1].high, links[i - 1].low}
+                            : (struct boruvka_link){(int64_t)(drawn(&seed) % 1000), (uint32_t)(drawn(&seed) % n) + 1, at},
+        };
+        links[i] = of[shape];
+    }
+}
+
+static unsigned char *block_of(size_t size) {
+    unsigned char *block = aligned_alloc(16, (size + 15) / 16 * 16);
+    CHECK(block != 0);
+    return block;
+}
+
+static void enough_for(enum shape shape, uint64_t seed, uint32_t n, size_t m) {
+    struct boruvka_link *links = malloc(m * sizeof *links);
+    char *text = malloc(64 + 45 * m);
+    CHECK(links != 0 && text != 0);
+    draw(shape, seed, n, links, m);
+    size_t length = (size_t)sprintf(text, "p sp %" PRIu32 " %zu\n", n, m);
+    for (size_t i = 0; i < m; i++) {
+        length += (size_t)sprintf(text + length, "a %" PRIu32 " %" PRIu32 " %" PRId64 "\n", links[i].low, links[i].high, links[i].weight);
+    }
+    const size_t of_links = 26 * m + 10 * (size_t)n + 4 * PAGE, of_text = 4 * length + 10 * (size_t)n + 4 * PAGE;
+    unsigned char *block = block_of(of_links > of_text ? of_links : of_text);
+    const int64_t count = boruvka_forest_within((struct boruvka_memory){block, of_links}, n, links, m);
+    CHECK(count >= 0);
+    struct boruvka_fault fault;
+    uint8_t none;
+    CHECK(boruvka_forest_text_within((struct boruvka_memory){block, of_text}, (const uint8_t *)text, length, &none, 0, &fault) > 0);
+    free(block);
+    free(links);
+    free(text);
+}
+
+static void enough(void) {
+    for (uint64_t seed = 1; seed <= 400; seed++) {
+        enough_for((enum shape)(seed % SHAPES), seed, 2 + (uint32_t)(seed * seed % 700), 1 + seed * 37 % 3000);
+    }
+    /* one past where lists and texts double */
+    for (enum shape shape = DRAWN; shape < SHAPES; shape++) {
+        enough_for(shape, 9, 1 << 16, (1 << 16) + 1);
+        enough_for(shape, 9, 1 << 10, (1 << 16) + 1);
+        enough_for(shape, 9, 1 << 19, 1 << 10);
+        enough_for(shape, 9, 93000, 100000);
+    }
+}
+
+int main(int count, char **words) {
+    CHECK(count == 2);
+    if (!strcmp(words[1], "sizes")) {
+        sizes();
+    } else {
+        enough();
+    }
+    return 0;
+}

@@ -1,0 +1,79 @@
+/* Stands before tests/cases/embedding.c, and has its calls that take memory go to those within memory that is given up. They
+ * get too little of it first, and twice as much each time. A wrong byte before or behind that memory ends the program, and
+ * so does a change where memory was refused. */
+#define _GNU_SOURCE
+#include <boruvka.h>
+#include <stdio.h>
+#include <stdlib.h>
+#include <string.h>
+
+enum { EDGE = 64, SIGN = 0xa5 };
+
+/* Up to so many bytes are compared. */
+static const size_t compared = 1 << 24;
+
+static unsigned char *edged(size_t size) {
+    unsigned char *block = aligned_alloc(16, (EDGE + size + EDGE + 15) / 16 * 16);
+    if (block == 0) {
+        abort();
+    }
+    memset(block, SIGN, EDGE);
+    memset(block + EDGE + size, SIGN, EDGE);
+    return block;
+}
+
+/* The edges are as they were. */
+static void given_back(unsigned char *block, size_t size) {
+    for (size_t i = 0; i < EDGE; i++) {
+        if (block[i] != SIGN || block[EDGE + size + i] != SIGN) {
+            fprintf(stderr, "within.h: a byte beside %zu bytes of memory was written\n", size);
+            exit(1);
+        }
+    }
+    free(block);
+}
+
+static void same(const void *one, const void *other, size_t size) {
+    if (memcmp(one, other, size)) {
+        fprintf(stderr, "within.h: a call that was refused memory changed what it was given\n");
+        exit(1);
+    }
+}
+
+static inline int64_t forest_within(uint32_t n, struct boruvka_link *links, size_t m) {
+    const size_t kept = m * sizeof *links < compared ? m * sizeof *links : 0;
+    void *before = calloc(kept + 1, 1);
+    memcpy(before, links, kept);
+    int64_t answer = BORUVKA_NO_MEMORY;
+    /* a size that is no whole number of units, too */
+    for (size_t size = 100; answer == BORUVKA_NO_MEMORY && size < (size_t)1 << 36; size = size * 2 + 7) {
+        unsigned char *block = edged(size);
+        answer = boruvka_forest_within((struct boruvka_memory){block + EDGE, size}, n, links, m);
+        given_back(block, size);
+        if (answer == BORUVKA_NO_MEMORY) {
+            same(before, links, kept);
+        }
+    }
+    free(before);
+    return answer;
+}
+
+static inline int64_t forest_text_within(const uint8_t *text, size_t length, uint8_t *into, size_t room, struct boruvka_fault *fault) {
+    uint8_t *before = calloc(room + 1, 1);
+    memcpy(before, into, room);
+    int64_t answer = BORUVKA_NO_MEMORY;
+    for (size_t size = 100; answer == BORUVKA_NO_MEMORY && size < (size_t)1 << 36; size = size * 2 + 7) {
+        unsigned char *block = edged(size);
+        answer = boruvka_forest_text_within((struct boruvka_memory){block + EDGE, size}, text, length, into, room, fault);
+        given_back(block, size);
+        if (answer == BORUVKA_NO_MEMORY) {
+            same(before, into, room);
+        }
+    }
+    free(before);
+    return answer;
+}
+
+#define boruvka_forest forest_within
+#define boruvka_forest_text forest_text_within
+#define boruvka_fault_text boruvka_fault_text_within

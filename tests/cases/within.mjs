@@ -1,0 +1,86 @@
+// Calls the built module boruvka.wasm, each time within memory behind the module's own that it gives up.
+//
+//     node --experimental-wasm-memory64 within.mjs MODULE text ROOM    a .gr text on standard input: so much of its forest's
+//                                                                      text as ROOM bytes have room for, and to standard
+//                                                                      error `answer kind line` and the text of the kind
+//     node --experimental-wasm-memory64 within.mjs MODULE list         `n m` and then m times `low high weight` on standard
+//                                                                      input: their forest's text
+//
+// One instance makes all calls, the memory is doubled while it is too small, and a wrong byte behind it ends the script.
+import { readFileSync, writeSync } from "node:fs";
+
+const NO_MEMORY = -1n;
+const SIGN = 0xa5;
+const PAGE = 65536;
+const module = new WebAssembly.Module(readFileSync(process.argv[2]));
+if (WebAssembly.Module.imports(module).length) throw new Error("the module imports something");
+const { exports } = new WebAssembly.Instance(module);
+const base = (Number(exports.__heap_base.value) + 15) & ~15;
+
+function reach(end) {
+  const more = Math.ceil((end - exports.memory.buffer.byteLength) / PAGE);
+  if (more <= 0) return;
+  try {
+    exports.memory.grow(BigInt(more));
+  } catch (error) {
+    if (!(error instanceof TypeError)) throw error;
+    exports.memory.grow(more);
+  }
+}
+
+// `call(memory)` with a struct memory at `base`, which gives up bytes from `from` on.
+function within(from, call) {
+  for (let size = 100; ; size = 2 * size + 7) {
+    reach(from + size + 64);
+    const view = new DataView(exports.memory.buffer);
+    view.setBigUint64(base, BigInt(from), true);
+    view.setBigUint64(base + 8, BigInt(size), true);
+    new Uint8Array(exports.memory.buffer, from + size, 64).fill(SIGN);
+    const answer = call(BigInt(base));
+    if (!new Uint8Array(exports.memory.buffer, from + size, 64).every((it) => it === SIGN)) throw new Error("a byte behind the memory was written");
+    if (answer !== NO_MEMORY || size > 2 ** 33) return answer;
+  }
+}
+
+const unit = (n) => Math.ceil(n / 16) * 16;
+
+function text(source, room) {
+  const given = base + 32, into = given + unit(source.length), from = into + unit(room + 64);
+  reach(from);
+  new Uint8Array(exports.memory.buffer, given, source.length).set(source);
+  new Uint8Array(exports.memory.buffer, into, room + 64).fill(SIGN);
+  const answer = within(from, (memory) => exports.boruvka_forest_text_within(memory, BigInt(given), BigInt(source.length), BigInt(into), BigInt(room), BigInt(base + 16)));
+  const length = answer < 0n ? 0 : Math.min(Number(answer), room);
+  if (!new Uint8Array(exports.memory.buffer, into + length, room + 64 - length).every((it) => it === SIGN)) throw new Error("a byte behind the text was written");
+  writeSync(1, new Uint8Array(exports.memory.buffer, into, length));
+  const view = new DataView(exports.memory.buffer);
+  const kind = view.getBigInt64(base + 16, true), line = view.getBigUint64(base + 24, true);
+  const told = Number(exports.boruvka_fault_text_within(kind, BigInt(into), 64n));
+  const why = new TextDecoder().decode(new Uint8Array(exports.memory.buffer, into, told));
+  writeSync(2, `${answer} ${kind} ${line} ${why}\n`);
+}
+
+function list(source) {
+  const words = new TextDecoder().decode(source).split(/\s+/);
+  const n = Number(words[0]), m = Number(words[1]);
+  const links = base + 32;
+  reach(links + 16 * m);
+  let view = new DataView(exports.memory.buffer);
+  for (let i = 0; i < m; i++) {
+    view.setBigInt64(links + 16 * i, BigInt(words[3 * i + 4]), true);
+    view.setUint32(links + 16 * i + 8, Number(words[3 * i + 2]), true);
+    view.setUint32(links + 16 * i + 12, Number(words[3 * i + 3]), true);
+  }
+  const count = within(links + 16 * m, (memory) => exports.boruvka_forest_within(memory, n, BigInt(links), BigInt(m)));
+  if (count < 0n) throw new Error(`refused: ${count}`);
+  view = new DataView(exports.memory.buffer);
+  let text = `p sp ${n} ${count}\n`;
+  for (let i = 0; i < Number(count); i++) {
+    text += `a ${view.getUint32(links + 16 * i + 8, true)} ${view.getUint32(links + 16 * i + 12, true)} ${view.getBigInt64(links + 16 * i, true)}\n`;
+  }
+  writeSync(1, text);
+}
+
+const source = readFileSync(0);
+if (process.argv[3] === "text") text(source, Number(process.argv[4]));
+else list(source);

@@ -1,0 +1,109 @@
+"""The library libboruvka_within.a and the module boruvka.wasm: calls within memory that is given up. What they answer is
+compared with the program's answers and with the forests that are computed here."""
+import os
+import re
+import shutil
+import subprocess
+
+from cases.embedding import ENVIRONMENT, FAULTY, INCLUDE, MINUTES, compiler, libraries, listed, worked
+from cases.running import ROOT, SMALL_FOREST, SMALL_NET, Skipped, case, drawn_graph, expect, forest_text, ran, run
+
+BUILT = f"{ROOT}/crates/boruvka_within/out"
+NAMES = {"boruvka_fault_text_within", "boruvka_forest_text_within", "boruvka_forest_within"}
+CALLED = {"memcpy", "memmove", "memset"}
+
+
+def library():
+    """The library, which is built beside the others."""
+    libraries()
+    return f"{BUILT}/libboruvka_within.a"
+
+
+def module():
+    """Builds the module, where it isn't built, and answers its path."""
+    status, said, told = run(["make", "-s", "-C", ROOT, "wasm"], env=ENVIRONMENT, seconds=60 * MINUTES)
+    expect((status, said, told if status else b""), 0, b"", b"")
+    return f"{BUILT}/boruvka.wasm"
+
+
+def caller(room):
+    """The program of tests/cases/embedding.c, with its calls within memory; built once."""
+    made = f"{room}/../within"
+    if not os.path.exists(made):
+        words = [compiler(), "-O1", "-Wall", "-Wextra", "-Werror", INCLUDE, "-include", f"{ROOT}/tests/cases/within.h", "-o", made]
+        expect(run([*words, f"{ROOT}/tests/cases/embedding.c", library(), libraries()[0], "-lpthread"]), 0, b"", b"")
+    return made
+
+
+def by_node():
+    """What calls the module, if Node is there and has 64-bit memories."""
+    node = shutil.which("node")
+    if not node or run([node, "--experimental-wasm-memory64", "-e", ""])[0]:
+        raise Skipped("no node is there that takes --experimental-wasm-memory64")
+    return [node, "--experimental-wasm-memory64", "--no-warnings", f"{ROOT}/tests/cases/within.mjs", module()]
+
+
+def expect_answers(of):
+    """Lists, texts in several rooms and faulty texts are answered as the program answers them."""
+    expect(run(of("list"), listed(SMALL_NET)), 0, SMALL_FOREST, b"")
+    for seed, vertices, arcs in [(1, 1, 3), (2, 9, 0), (3, 40, 30), (4, 300, 900), (5, 50, 4000), (6, 5000, 9000)]:
+        source, forest = drawn_graph(seed, vertices, arcs)
+        expect(ran(["--plain"], source), 0, forest, b"")
+        expect(run(of("list"), listed(source)), 0, forest, b"")
+        for size in {0, 1, len(forest) - 1, len(forest), len(forest) + 9}:
+            expect(run(of("text", str(size)), source), 0, forest[:size], b"%d 0 0 no refusal\n" % len(forest))
+    for vertices, arcs, forest in worked():
+        source = "".join(" ".join(map(str, it)) + "\n" for it in [(vertices, len(arcs)), *arcs]).encode()
+        expect(run(of("list"), source), 0, forest_text(vertices, [(weight, low, high) for low, high, weight in forest]), b"")
+    with open(f"{ROOT}/include/boruvka.h", encoding="utf-8") as it:
+        codes = {name.replace("_", "").lower(): int(code) for name, code in re.findall(r"BORUVKA_(\w+) = (-\d+)", it.read())}
+    for source, kind, line in FAULTY:
+        code = codes[kind.lower()]
+        expect(run(of("text", "100"), source), 0, b"", b"%d %d %d %s\n" % (code, code, line, kind.encode()))
+
+
+@case
+def the_library_within_memory_calls_nothing_else(room):
+    archive = library()
+    if not shutil.which("nm"):
+        raise Skipped("no nm is there")
+    found = subprocess.run(["nm", archive], check=True, capture_output=True, text=True).stdout
+    expect((set(re.findall(r" [TWBDVR] (\S+)", found)), b"", b""), NAMES, b"", b"")
+    expect((set(re.findall(r" U (\S+)", found)) - CALLED, b"", b""), set(), b"", b"")
+
+
+@case
+def the_example_without_malloc(room):
+    words = [compiler(), "-std=c11", "-pedantic", "-Wall", "-Wextra", "-Werror", INCLUDE, "-o", f"{room}/within", f"{ROOT}/examples/embed/within.c"]
+    expect(run([*words, library()]), 0, b"", b"")
+    expect(run([f"{room}/within"]), 0, SMALL_FOREST, b"")
+
+
+@case
+def each_size_of_memory(room):
+    expect(run([compiler(), "-O1", "-Wall", "-Wextra", "-Werror", INCLUDE, "-o", f"{room}/sizes", f"{ROOT}/tests/cases/within.c", library()]), 0, b"", b"")
+    expect(run([f"{room}/sizes", "sizes"]), 0, b"", b"")
+    expect(run([f"{room}/sizes", "enough"]), 0, b"", b"")
+
+
+@case
+def lists_and_texts_within_memory(room):
+    made = caller(room)
+    expect_answers(lambda *words: [made, *words])
+
+
+@case
+def calls_within_memory_at_their_limits(room):
+    status, output, errors = run([caller(room), "limits"])
+    expect((status, b"", errors), 0, b"", b"")
+
+
+@case
+def threads_within_memory_of_their_own(room):
+    expect(run([caller(room), "threads"]), 0, b"", b"")
+
+
+@case
+def the_module_answers_as_the_program(room):
+    words = by_node()
+    expect_answers(lambda *more: [*words, *more])

@@ -1,0 +1,62 @@
+#!/usr/bin/env python3
+"""Proves and builds the static library boruvka_within, and then its WebAssembly module, boruvka.wasm, beside it.
+
+usage: tools/wasm.py
+
+The module is the same crate in a room of its own, below .git: there crates.txt says `wasm64` where it says `staticlib`,
+and all else is the same. So what was proved for the library stays proved, and the module is built over it, in less than a
+minute. The same sources give the same bytes.
+
+If the crate isn't proved, or the module can't be built, what `rt` said goes to standard error, and the status is 1.
+"""
+import os
+import shutil
+import subprocess
+import sys
+import tempfile
+
+sys.dont_write_bytecode = True
+
+import prove
+from crates import ROOT, below, crate_lines
+
+CRATE = "boruvka_within"
+OWN = f"crates/{CRATE}"
+MODULE = f"{ROOT}/{OWN}/out/boruvka.wasm"
+
+
+def fill(room, lines):
+    """The crate's files and those below it, with what was built of them."""
+    names = below(CRATE, lines)
+    with open(f"{room}/crates.txt", "w", encoding="utf-8") as it:
+        it.write("".join(lines[name] for name in names) + lines[CRATE].replace(" staticlib", " wasm64", 1))
+    shutil.copy(f"{ROOT}/HANDLES", room)
+    for name in [*names, CRATE]:
+        for part in prove.PARTS:
+            if os.path.isdir(f"{ROOT}/crates/{name}/{part}"):
+                shutil.copytree(f"{ROOT}/crates/{name}/{part}", f"{room}/crates/{name}/{part}")
+    for name in names:
+        prove.linked(f"{ROOT}/crates/{name}/out/rlib", f"{room}/crates/{name}/out/rlib")
+    prove.linked(f"{ROOT}/{OWN}/out", f"{room}/{OWN}/out")
+
+
+def main(words):
+    if words:
+        print(__doc__, end="", file=sys.stderr)
+        return 2
+    status = prove.main([CRATE])
+    if status:
+        return status
+    inside = f"{ROOT}/.git" if os.path.isdir(f"{ROOT}/.git") else f"{ROOT}/{OWN}/out"
+    with tempfile.TemporaryDirectory(prefix="wasm-", dir=inside) as room:
+        fill(room, crate_lines())
+        made = subprocess.run([*prove.RT, "lib"], cwd=f"{room}/{OWN}", stdin=subprocess.DEVNULL, capture_output=True, text=True, errors="replace")
+        if made.returncode:
+            print(f"{made.stdout}{made.stderr}the WebAssembly module was not built", file=sys.stderr)
+            return 1
+        shutil.move(f"{room}/{OWN}/out/{CRATE}.wasm", MODULE)
+    return 0
+
+
+if __name__ == "__main__":
+    sys.exit(main(sys.argv[1:]))
