@@ -12,6 +12,7 @@ MINUTES ?= 5
 PROGRAM := crates/boruvka/out/boruvka
 BENCH := crates/bench/out/bench
 LIBRARY := crates/boruvka_c/out/libboruvka
+MODULE := crates/boruvka_within/out/boruvka.wasm
 SOURCES := $(shell find crates -path '*/out' -prune -o -type f \( -name '*.rt' -o -name '*.antt' \) -print) crates.txt
 VERSION := $(shell sed -n 's/^pub const RELEASE: &str = "\(.*\)";$$/\1/p' crates/program_words/src/version.rt)
 MAJOR := $(firstword $(subst ., ,$(VERSION)))
@@ -26,7 +27,7 @@ BASH_COMPLETIONS = $(call quoted,$(DESTDIR)$(BASHDIR))
 ZSH_COMPLETIONS = $(call quoted,$(DESTDIR)$(ZSHDIR))
 FISH_COMPLETIONS = $(call quoted,$(DESTDIR)$(FISHDIR))
 
-.PHONY: help run lib test wrong soak built install uninstall dist bench clean
+.PHONY: help run lib page test web-test wrong soak built install uninstall dist bench clean
 
 # Each of them goes side by side by itself, as far as the machine holds.
 .NOTPARALLEL:
@@ -34,7 +35,9 @@ FISH_COMPLETIONS = $(call quoted,$(DESTDIR)$(FISHDIR))
 help:
 	@echo 'make run        proves and builds the program, and runs it on examples/small.gr'
 	@echo 'make lib        proves and builds libboruvka.a and libboruvka.so, beside it; needs a C compiler and its ar'
+	@echo 'make page       packs the page of web/ with the module into dist/boruvka.html, which a browser opens'
 	@echo 'make test       the gate: all proofs, the wrong bodies of must-fail/, the tests, the program whole'
+	@echo 'make web-test   tries the page; needs Chromium, its driver, Node and the module'
 	@echo 'make wrong      tries the wrong bodies of wrong-bodies/, many at a time; SINCE=origin/main those of crates changed since'
 	@echo 'make soak       tries the program on drawn cases, MINUTES=$(MINUTES) long; needs Python 3 and a C compiler'
 	@echo 'make install    copies the built program, libraries, header, manual page and completions below PREFIX=$(PREFIX);'
@@ -49,8 +52,14 @@ run: $(PROGRAM)
 
 lib: $(LIBRARY).a $(LIBRARY).so
 
+page:
+	@python3 tools/page.py $(MODULE) dist/boruvka.html
+
 test:
 	@python3 tests/gate.py
+
+web-test:
+	@python3 tests/web.py --strict --module $(MODULE) --program $(PROGRAM)
 
 wrong:
 	@python3 tests/wrong_bodies.py $(if $(SINCE),--since '$(SINCE)')
