@@ -12,7 +12,7 @@ MINUTES ?= 5
 PROGRAM := crates/boruvka/out/boruvka
 BENCH := crates/bench/out/bench
 LIBRARY := crates/boruvka_c/out/libboruvka
-MODULE := crates/boruvka_within/out/boruvka.wasm
+WASM := crates/boruvka_within/out/boruvka.wasm
 SOURCES := $(shell find crates -path '*/out' -prune -o -type f \( -name '*.rt' -o -name '*.antt' \) -print) crates.txt
 VERSION := $(shell sed -n 's/^pub const RELEASE: &str = "\(.*\)";$$/\1/p' crates/program_words/src/version.rt)
 MAJOR := $(firstword $(subst ., ,$(VERSION)))
@@ -52,14 +52,14 @@ run: $(PROGRAM)
 
 lib: $(LIBRARY).a $(LIBRARY).so
 
-page:
-	@python3 tools/page.py $(MODULE) dist/boruvka.html
+page: $(WASM)
+	@python3 tools/page.py $(WASM) dist/boruvka.html
 
 test:
 	@python3 tests/gate.py
 
-web-test:
-	@python3 tests/web.py --strict --module $(MODULE) --program $(PROGRAM)
+web-test: $(PROGRAM) $(WASM)
+	@python3 tests/web.py --strict --module $(WASM) --program $(PROGRAM)
 
 wrong:
 	@python3 tests/wrong_bodies.py $(if $(SINCE),--since '$(SINCE)')

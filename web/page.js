@@ -46,8 +46,8 @@ const CAUSES = {
 const state = { points: new Float64Array(), isGraph: false, isFitted: true, joined: null, found: null, clusters: null, cross: null, draws: 0 };
 
 class Refused extends Error {
-  constructor({ kind, line }, name = '') {
-    super([name, line ? `line ${line}` : '', kind].filter(Boolean).join(': ') + (CAUSES[kind] ? `. ${CAUSES[kind]}` : ''));
+  constructor({ kind, line }) {
+    super((line ? `line ${line}: ` : '') + kind + (CAUSES[kind] ? `. ${CAUSES[kind]}` : ''));
   }
 }
 
@@ -56,9 +56,12 @@ class Refused extends Error {
 // A packed page has the worker's script and the module inside.
 const packed = id => $(id)?.textContent.trim();
 
-function workerAddress() {
+// What starts a worker. A page from a file may start none from a module.
+function workerStart() {
   const script = packed('packed-worker');
-  return script ? URL.createObjectURL(new Blob([script], { type: 'text/javascript' })) : 'worker.js';
+  if (!script) return () => new Worker('worker.js', { type: 'module' });
+  const address = URL.createObjectURL(new Blob([script], { type: 'text/javascript' }));
+  return () => new Worker(address);
 }
 
 async function moduleBytes() {
@@ -78,13 +81,13 @@ function busy(by) {
 
 // A worker for one task at a time.
 class Solver {
-  constructor(module, address) {
-    Object.assign(this, { module, address });
+  constructor(module, starts) {
+    Object.assign(this, { module, starts, asked: null });
     this.start();
   }
 
   start() {
-    this.worker = new Worker(this.address, { type: 'module' });
+    this.worker = this.starts();
     this.worker.postMessage(this.module);
     this.worker.onmessage = ({ data }) => this.hear(data);
     this.worker.onerror = event => this.settle('reject', new Error(event.message));
@@ -189,6 +192,9 @@ const MARKS = [
   (x, y, r) => `M${x} ${y - 1.4 * r}l${1.4 * r} ${1.4 * r}l${-1.4 * r} ${1.4 * r}l${-1.4 * r} ${-1.4 * r}z`,
 ];
 
+// The forest's links, as far as their ends are drawn.
+const drawnForest = () => state.points.length / 2 >= state.found?.n ? state.found.forest : new Uint32Array();
+
 function markAt(v, colour, radius) {
   const round = colour === NONE ? 0 : Math.floor(colour / COLOURS.length);
   return MARKS[round % MARKS.length](Math.round(10 * seenX(v)) / 10, Math.round(10 * seenY(v)) / 10, radius);
@@ -199,9 +205,9 @@ function layers() {
   const { points, found, clusters } = state, lines = new Map([[CUT, []]]), marks = new Map();
   const at = v => `${seenX(v).toFixed(1)} ${seenY(v).toFixed(1)}`;
   const put = (map, ink, path) => (map.get(ink) || map.set(ink, []).get(ink)).push(path);
-  const n = points.length / 2, radius = n > 1000 ? 2 : n > 200 ? 3 : 4.5;
-  for (let i = 0; found && i < found.forest.length / 4; i++) {
-    const low = found.forest[4 * i + 2] - 1, high = found.forest[4 * i + 3] - 1;
+  const n = points.length / 2, radius = n > 1000 ? 2 : n > 200 ? 3 : 4.5, forest = drawnForest();
+  for (let i = 0; i < forest.length / 4; i++) {
+    const low = forest[4 * i + 2] - 1, high = forest[4 * i + 3] - 1;
     put(lines, i < clusters.kept ? inkOf(clusters.colours[low]) : CUT, `M${at(low)}L${at(high)}`);
   }
   for (let v = 0; v < n; v++) {
@@ -210,7 +216,9 @@ function layers() {
   }
   const stroked = [...lines].map(([ink, paths]) => ({ stroke: ink, width: ink === CUT ? 1 : 1.6, path: paths.join('') }));
   const filled = [...marks].map(([ink, paths]) => ({ fill: ink, path: paths.join('') }));
-  return [...stroked, ...filled, ...Array.from({ length: state.isGraph && n <= MOST_NUMBERED ? n : 0 }, (_, v) => ({ number: v + 1, x: seenX(v) + 6, y: seenY(v) - 6 }))];
+  const length = state.isGraph && n <= MOST_NUMBERED ? n : 0;
+  const numbers = Array.from({ length }, (_, v) => ({ number: v + 1, x: seenX(v) + 6, y: seenY(v) - 6 }));
+  return [...stroked.filter(it => it.path), ...filled, ...numbers];
 }
 
 // Empties a canvas, of as many pixels as it shows. `sharp` of them are one of the page's.
@@ -263,7 +271,7 @@ class Pixels {
 
 // The picture of many points: a pixel or four for each, and lines of a pixel's width.
 function pixelled(canvas, pen, sharp) {
-  const { points, found, clusters } = state, pixels = new Pixels(canvas.width, canvas.height), n = points.length / 2;
+  const { points, clusters } = state, pixels = new Pixels(canvas.width, canvas.height), n = points.length / 2, forest = drawnForest();
   const inks = Uint32Array.from([...COLOURS, ALONE], wordOf), cut = wordOf(CUT);
   const x = new Float32Array(n), y = new Float32Array(n), words = new Uint32Array(n).fill(wordOf(ALONE));
   const left = sharp * view.left, bottom = sharp * view.bottom, zoom = sharp * view.zoom;
@@ -272,8 +280,8 @@ function pixelled(canvas, pen, sharp) {
     y[v] = bottom - points[2 * v + 1] * zoom;
     if (clusters && clusters.colours[v] < NONE) words[v] = inks[clusters.colours[v] % COLOURS.length];
   }
-  for (let i = 0; found && i < found.forest.length / 4; i++) {
-    const low = found.forest[4 * i + 2] - 1, high = found.forest[4 * i + 3] - 1;
+  for (let i = 0; i < forest.length / 4; i++) {
+    const low = forest[4 * i + 2] - 1, high = forest[4 * i + 3] - 1;
     pixels.line(x[low], y[low], x[high], y[high], i < clusters.kept ? words[low] : cut);
   }
   const side = Math.round(sharp * (n > 50000 ? 1 : 2));
@@ -370,6 +378,20 @@ function decimal(steps) {
   return (scaled < 0n ? '−' : '') + counted(BigInt(digits.slice(0, point))) + (part && `.${digits.slice(point)}`);
 }
 
+// The sizes of the largest clusters.
+function clustersTold() {
+  const { found, clusters } = state;
+  if (!clusters?.count) return '';
+  const sizes = Array.from(clusters.nodes.subarray(0, 6), it => counted(found.merges.size[it])), more = clusters.count - sizes.length;
+  return `${counted(clusters.count)} cluster${clusters.count === 1 ? '' : 's'}, of ${sizes.join(', ')}${more ? ` and ${counted(more)} more` : ''}`;
+}
+
+function dendrogramTold() {
+  const { found } = state, k = found ? found.forest.length / 4 : 0;
+  const heaviest = [1, 2, 3].filter(it => it <= k).map(it => decimal(weightAt(found.forest, k - it)));
+  return k ? `Dendrogram. The heaviest merges are at ${heaviest.join(', ')}.` : 'Dendrogram: no merges yet';
+}
+
 function tell() {
   const { found, clusters, points, isGraph } = state, k = found ? found.forest.length / 4 : 0;
   $('pointsword').textContent = isGraph ? 'Vertices' : 'Points';
@@ -380,10 +402,8 @@ function tell() {
   $('heaviest').textContent = k ? decimal(weightAt(found.forest, k - 1)) : '';
   $('kept').textContent = clusters?.kept ? decimal(weightAt(found.forest, clusters.kept - 1)) : '';
   $('milliseconds').textContent = found ? counted(Math.round(10 * found.milliseconds) / 10) : '';
-  const sizes = clusters ? Array.from(clusters.nodes.subarray(0, 6), it => counted(found.merges.size[it])) : [];
-  const more = clusters?.count > sizes.length ? ` and ${counted(clusters.count - sizes.length)} more` : '';
-  $('largest').textContent = clusters?.count ? `${counted(clusters.count)} cluster${clusters.count === 1 ? '' : 's'}, of ${sizes.join(', ')}${more}` : '';
-  $('dendrogram').ariaLabel = k ? `Dendrogram. The heaviest merges are at ${[1, 2, 3].filter(it => it <= k).map(it => decimal(weightAt(found.forest, k - it))).join(', ')}.` : 'Dendrogram: no clusters yet';
+  $('largest').textContent = clustersTold();
+  $('dendrogram').ariaLabel = dendrogramTold();
   for (const id of ['saveforest', 'saveclusters', 'savepicture']) $(id).disabled = !found;
   $('savelinks').disabled = !found || isGraph;
 }
@@ -492,9 +512,12 @@ function drawnPoints(n) {
 }
 
 function addPoint(x, y) {
+  if (state.isGraph) {
+    fault(new Error('The vertices come from a file. Clear it to set points.'));
+    return;
+  }
   const point = [(x - view.left) / view.zoom, (view.bottom - y) / view.zoom].map(it => Number(it.toPrecision(6)));
-  const kept = state.isGraph ? [] : state.points;
-  return setPoints(Float64Array.from([...kept, ...point]));
+  setPoints(Float64Array.from([...state.points, ...point]));
 }
 
 async function openPlaces(text) {
@@ -605,7 +628,8 @@ function listenToControls() {
     solver.stop();
     if (!isFresh()) forget();
   };
-  for (const id of ['cut', 'clusters']) $(id).oninput = () => $(id).value && cutTo($(id).valueAsNumber);
+  $('cut').oninput = () => cutTo($('cut').valueAsNumber);
+  $('clusters').onchange = () => cutTo($('clusters').valueAsNumber);
   for (const id of ['pairs', 'nearest', 'near', 'step']) {
     $(id).onchange = () => {
       fault(null);
@@ -640,7 +664,7 @@ async function begin() {
   if (!WebAssembly.validate(bytes)) {
     throw new Error('This browser lacks 64-bit WebAssembly memory (Memory64), which this page needs.');
   }
-  solver = new Solver(await WebAssembly.compile(bytes), workerAddress());
+  solver = new Solver(await WebAssembly.compile(bytes), workerStart());
   listenToPicture();
   listenToControls();
   listenToWindow();

@@ -1,9 +1,10 @@
 // The page's worker: it joins points by links, finds forests, and makes the longer texts. The page asks by messages.
 //
 // The first message is the compiled module. Each later one is a task, answered by `{ progress }` any number of times, then
-// by `{ answer }`, or by `{ refusal }` with the text for the reader. A worker keeps nothing between tasks.
+// by `{ answer }`, or by `{ refusal }` with its kind and line. A worker keeps nothing between tasks.
 //
 // Points are a Float64Array: x and y of each. Links and forests are as boruvka.js has them.
+
 import { Refusal, forestOfLinks, forestOfText } from './boruvka.js';
 
 const MOST_POINTS = 1_000_000;
@@ -66,9 +67,9 @@ function partAtMiddle(points, ids, low, high, axis) {
       while (points[2 * ids[i] + axis] < pivot) i++;
       while (points[2 * ids[j] + axis] > pivot) j--;
       if (i <= j) {
-        [ids[i], ids[j]] = [ids[j], ids[i]];
-        i++;
-        j--;
+        const id = ids[i];
+        ids[i++] = ids[j];
+        ids[j--] = id;
       }
     }
     if (middle <= j) to = j;
@@ -80,30 +81,27 @@ function partAtMiddle(points, ids, low, high, axis) {
 
 const LEAF = 8; // so few points are looked through one by one
 
-// The k-d tree: ids in an order where the middle of each range parts it by x, its halves by y, and so on.
-function kdTree(points) {
-  const ids = Uint32Array.from({ length: points.length / 2 }, (_, i) => i);
-  const build = (low, high, axis) => {
-    if (high - low <= LEAF) return;
-    const middle = partAtMiddle(points, ids, low, high, axis);
-    build(low, middle, 1 - axis);
-    build(middle + 1, high, 1 - axis);
-  };
-  build(0, ids.length, 0);
-  return ids;
-}
-
-// Looks for the k points nearest to one of them: `found`, nearest first, with their squared distances in `far`.
-class Search {
+// A k-d tree: ids in an order where the middle of each range parts it by x, its halves by y, and so on. It finds the k
+// points nearest to one of them: `found` are their places in that order, nearest first, and `far` their squared distances.
+class Tree {
   constructor(points, k) {
-    this.points = points;
-    this.ids = kdTree(points);
+    this.ids = Uint32Array.from({ length: points.length / 2 }, (_, i) => i);
+    this.part(points, 0, this.ids.length, 0);
+    this.x = Float64Array.from(this.ids, it => points[2 * it]);
+    this.y = Float64Array.from(this.ids, it => points[2 * it + 1]);
     this.found = new Uint32Array(k);
     this.far = new Float64Array(k);
   }
 
-  from(u) {
-    [this.u, this.x, this.y] = [u, this.points[2 * u], this.points[2 * u + 1]];
+  part(points, low, high, axis) {
+    if (high - low <= LEAF) return;
+    const middle = partAtMiddle(points, this.ids, low, high, axis);
+    this.part(points, low, middle, 1 - axis);
+    this.part(points, middle + 1, high, 1 - axis);
+  }
+
+  nearestTo(place) {
+    this.from = place;
     this.far.fill(Infinity);
     this.search(0, this.ids.length, 0);
     return this.found;
@@ -111,48 +109,55 @@ class Search {
 
   search(low, high, axis) {
     if (high - low <= LEAF) {
-      for (let i = low; i < high; i++) this.offer(this.ids[i]);
+      for (let place = low; place < high; place++) this.offer(place);
       return;
     }
-    const middle = (low + high) >> 1, other = this.ids[middle];
-    const beyond = (axis ? this.y : this.x) - this.points[2 * other + axis];
-    const [near, far] = beyond < 0 ? [[low, middle], [middle + 1, high]] : [[middle + 1, high], [low, middle]];
-    this.search(...near, 1 - axis);
-    this.offer(other);
-    if (beyond * beyond < this.far[this.far.length - 1]) this.search(...far, 1 - axis);
+    const middle = (low + high) >> 1, along = axis ? this.y : this.x, beyond = along[this.from] - along[middle];
+    if (beyond < 0) this.search(low, middle, 1 - axis);
+    else this.search(middle + 1, high, 1 - axis);
+    this.offer(middle);
+    if (beyond * beyond >= this.far[this.far.length - 1]) return;
+    if (beyond < 0) this.search(middle + 1, high, 1 - axis);
+    else this.search(low, middle, 1 - axis);
   }
 
-  // Takes the point v among those found, if it is nearer than the last of them.
-  offer(v) {
-    const { found, far, points } = this;
-    const dx = points[2 * v] - this.x, dy = points[2 * v + 1] - this.y, distance = dx * dx + dy * dy;
+  // Takes a point among those found, if it is nearer than the last of them.
+  offer(place) {
+    const { found, far, from, x, y } = this, dx = x[place] - x[from], dy = y[place] - y[from], distance = dx * dx + dy * dy;
     let i = far.length - 1;
-    if (v === this.u || !(distance < far[i])) return;
+    if (place === from || !(distance < far[i])) return;
     for (; i > 0 && far[i - 1] > distance; i--) {
       far[i] = far[i - 1];
       found[i] = found[i - 1];
     }
     far[i] = distance;
-    found[i] = v;
+    found[i] = place;
   }
+}
+
+// The ids of the `width` points nearest to each, one after the other.
+function nearestIds(points, width) {
+  const n = points.length / 2, near = new Uint32Array(n * width), tree = new Tree(points, width);
+  for (let place = 0; place < n; place++) {
+    const found = tree.nearestTo(place), begin = tree.ids[place] * width;
+    for (let i = 0; i < width; i++) near[begin + i] = tree.ids[found[i]];
+    if (place % 4096 === 0) told(place / n);
+  }
+  return near;
 }
 
 // Joins each point to its k nearest. Two points that are near each other have one link.
 function nearest(points, k, step) {
-  const n = points.length / 2, width = Math.max(0, Math.min(k, n - 1)), near = new Uint32Array(n * width);
-  const search = width ? new Search(points, width) : null;
-  for (let u = 0; u < n * Math.sign(width); u++) {
-    near.set(search.from(u), u * width);
-    if (u % 4096 === 0) told(u / n);
-  }
-  const isNear = (u, v) => near.subarray(u * width, u * width + width).includes(v);
+  const width = Math.max(0, Math.min(k, points.length / 2 - 1)), near = width ? nearestIds(points, width) : new Uint32Array();
+  const isNear = (u, v) => {
+    for (let i = u * width; i < (u + 1) * width; i++) if (near[i] === v) return true;
+    return false;
+  };
   const links = new Uint32Array(4 * near.length);
   let count = 0;
   for (let place = 0; place < near.length; place++) {
     const u = Math.floor(place / width), v = near[place];
-    if (u < v || !isNear(v, u)) {
-      putLink(links, count++, stepsBetween(points, u, v, step), Math.min(u, v), Math.max(u, v));
-    }
+    if (u < v || !isNear(v, u)) putLink(links, count++, stepsBetween(points, u, v, step), Math.min(u, v), Math.max(u, v));
   }
   return links.subarray(0, 4 * count);
 }

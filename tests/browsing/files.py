@@ -23,6 +23,8 @@ def a_dropped_graph(_room):
     page.expect(points="10", size="8", total="40", heaviest="11", largest="2 clusters, of 8, 2")
     is_so(page.saved("saveforest", "forest.gr"), forest_by_program(roads))
     page.keep("roads")
+    page.browser.click_at("picture", 10, 10)
+    is_so((page.text("fault"), page.text("points")), ("The vertices come from a file. Clear it to set points.", "10"))
 
 
 @case

@@ -30,9 +30,7 @@ def each_control_is_reached_and_named(_room):
     is_so([it for it in named if not it[1]], [])
     if len(named) < 17:
         raise AssertionError(f"only these were found: {named}")
-    # a word for each of several controls is its own
-    names = [it[1] for it in named if it[0] == "button"]
-    is_so(len(set(names)), len(names))
+    is_so(len({it[1] for it in named}), len(named))
     live = {it["role"]["value"] for it in tree if not it["ignored"]} & {"alert", "status"}
     is_so(live >= {"status"}, True)
 
@@ -97,6 +95,16 @@ return (async () => {
 """
 
 
+# how many pixels of the picture have each colour
+DRAWN = """
+const canvas = document.getElementById('picture'), counts = new Map();
+for (const word of new Uint32Array(canvas.getContext('2d').getImageData(0, 0, canvas.width, canvas.height).data.buffer)) {
+    if (word) counts.set(word, (counts.get(word) || 0) + 1);
+}
+return [...counts.values()]
+"""
+
+
 def own_time(page):
     """How long the page's thread has worked, in milliseconds of its processor: other work of the machine doesn't count."""
     metrics = page.browser.devtools("Performance.getMetrics")["metrics"]
@@ -120,6 +128,8 @@ def a_hundred_thousand_points_stay_fluid(_room):
     solved = own_time(page)
     page.browser.run(SLIDE)
     step = (own_time(page) - solved) / 30
+    drawn = page.browser.run(DRAWN)
+    is_so((len(drawn) >= 6, sum(drawn) > MOST_POINTS / 4), (True, True))
     page.keep("hundred_thousand")
     source = page.saved("savelinks", "links.gr")
     is_so(page.saved("saveforest", "forest.gr") == forest_by_program(source), True)
