@@ -56,7 +56,8 @@ class Call {
     }
   }
 
-  // What a call answers that works in so many bytes, or in twice as many as long as it lacks memory.
+  // What a call answers that works in so many bytes, or in twice as many as long as it lacks memory. Then its arguments are
+  // as they were.
   answer(work, call) {
     for (let bytes = aligned(work); ; bytes *= 2) {
       this.give(bytes);
@@ -76,7 +77,7 @@ function refusalOf(module, code, line = 0) {
 export function forestOfLinks(module, n, links) {
   const call = new Call(module, links.byteLength), count = links.length / 4;
   new Uint32Array(call.buffer, call.at, links.length).set(links);
-  const answer = call.answer(PAGE + 24 * (count + n), ({ boruvka_forest_within: forest }, memory) => forest(memory, n, BigInt(call.at), BigInt(count)));
+  const answer = call.answer(PAGE + 26 * count + 10 * n, ({ boruvka_forest_within: forest }, memory) => forest(memory, n, BigInt(call.at), BigInt(count)));
   if (answer < 0n) throw refusalOf(module, answer);
   return new Uint32Array(call.buffer, call.at, 4 * Number(answer)).slice();
 }
@@ -86,7 +87,7 @@ export function forestOfText(module, text) {
   const room = text.length + 1, fault = aligned(text.length), into = fault + 16;
   const call = new Call(module, into + room), [from, to, why] = [0, into, fault].map(it => BigInt(call.at + it));
   new Uint8Array(call.buffer, call.at, text.length).set(text);
-  const answer = call.answer(PAGE + 3 * text.length, ({ boruvka_forest_text_within: forest }, memory) =>
+  const answer = call.answer(PAGE + 4 * text.length, ({ boruvka_forest_text_within: forest }, memory) =>
     forest(memory, from, BigInt(text.length), to, BigInt(room), why));
   if (answer < 0n) throw refusalOf(module, answer, Number(new BigUint64Array(call.buffer, call.at + fault, 2)[1]));
   return new Uint8Array(call.buffer, call.at + into, Number(answer)).slice();

@@ -86,4 +86,4 @@ def refusals_in_node(room):
     rows = [(1, [], text) for text, _ in faults] + [(n, arcs, b"") for n, arcs, _ in links]
     found = answers(room, rows)
     is_so([it["byText"] for it in found[: len(faults)]], [told for _, told in faults])
-    return ", ".join(str(it["byLinks"]) for it in found[len(faults) :])
+    is_so([it["byLinks"] for it in found[len(faults) :]], [told for *_, told in links])
