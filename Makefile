@@ -28,7 +28,7 @@ BASH_COMPLETIONS = $(call quoted,$(DESTDIR)$(BASHDIR))
 ZSH_COMPLETIONS = $(call quoted,$(DESTDIR)$(ZSHDIR))
 FISH_COMPLETIONS = $(call quoted,$(DESTDIR)$(FISHDIR))
 
-.PHONY: help run lib wasm test wrong soak built install uninstall dist bench clean
+.PHONY: help run lib wasm page test web-test wrong soak built install uninstall dist bench clean
 
 # Each of them goes side by side by itself, as far as the machine holds.
 .NOTPARALLEL:
@@ -37,7 +37,9 @@ help:
 	@echo 'make run        proves and builds the program, and runs it on examples/small.gr'
 	@echo 'make lib        proves and builds libboruvka.a, libboruvka.so and libboruvka_within.a, beside it; needs a C compiler and its ar'
 	@echo 'make wasm       proves and builds the WebAssembly module boruvka.wasm, beside libboruvka_within.a'
+	@echo 'make page       packs the page of web/ with the module into dist/boruvka.html, which a browser opens'
 	@echo 'make test       the gate: all proofs, the wrong bodies of must-fail/, the tests, the program whole'
+	@echo 'make web-test   tries the page; needs Chromium, its driver, Node and the module'
 	@echo 'make wrong      tries the wrong bodies of wrong-bodies/, many at a time; SINCE=origin/main those of crates changed since'
 	@echo 'make soak       tries the program on drawn cases, MINUTES=$(MINUTES) long; needs Python 3 and a C compiler'
 	@echo 'make install    copies the built program, libraries, header, manual page and completions below PREFIX=$(PREFIX);'
@@ -54,8 +56,14 @@ lib: $(LIBRARY).a $(LIBRARY).so $(WITHIN)
 
 wasm: $(WASM)
 
+page: $(WASM)
+	@python3 tools/page.py $(WASM) dist/boruvka.html
+
 test:
 	@python3 tests/gate.py
+
+web-test: $(PROGRAM) $(WASM)
+	@python3 tests/web.py --strict --module $(WASM) --program $(PROGRAM)
 
 wrong:
 	@python3 tests/wrong_bodies.py $(if $(SINCE),--since '$(SINCE)')

@@ -1,0 +1,89 @@
+"""The module in Node, over worked rows and drawn graphs."""
+import base64
+import json
+import os
+import random
+import shutil
+import subprocess
+
+from browsing.files import FAULTS
+from browsing.page import WEB, Page, arcs_of, forest_by_program, is_so
+from cases.running import ROOT, SMALL_FOREST, SMALL_NET, Skipped, case, drawn_graph, file_of, forest_text
+
+# It reads { n, links: [[u, v, weight as text], ..], text: base64 } on each line, and answers both forests or refusals.
+SCRIPT = """
+import { readFileSync } from 'node:fs';
+import { forestOfLinks, forestOfText } from './boruvka.mjs';
+const module = await WebAssembly.compile(readFileSync(process.argv[2]));
+const told = call => { try { return call(); } catch (error) { return error.message; } };
+for (const line of readFileSync(0, 'utf8').split('\\n').filter(Boolean)) {
+    const { n, links: rows, text } = JSON.parse(line);
+    const links = new Uint32Array(4 * rows.length), weights = new BigInt64Array(links.buffer);
+    rows.forEach(([u, v, weight], i) => { weights[2 * i] = BigInt(weight); links[4 * i + 2] = u; links[4 * i + 3] = v; });
+    const byLinks = told(() => {
+        const found = forestOfLinks(module, n, links), weight = new BigInt64Array(found.buffer);
+        return Array.from({ length: found.length / 4 }, (_, i) => [String(weight[2 * i]), found[4 * i + 2], found[4 * i + 3]]);
+    });
+    const byText = told(() => Buffer.from(forestOfText(module, Buffer.from(text, 'base64'))).toString('base64'));
+    console.log(JSON.stringify({ byLinks, byText }));
+}
+"""
+
+
+def answers(room, rows):
+    """What the module answers: of each row (n, arcs, text) the forest of its arcs and that of its text, or their refusals."""
+    node = shutil.which("node")
+    if not node:
+        raise Skipped("there is no node")
+    if not os.path.exists(Page.module):
+        raise Skipped("the module isn't built: `make wasm` builds it")
+    shutil.copy(f"{WEB}/boruvka.js", f"{room}/boruvka.mjs")
+    with open(f"{room}/run.mjs", "w", encoding="utf-8") as it:
+        it.write(SCRIPT)
+    lines = [json.dumps({"n": n, "links": [[u, v, str(w)] for u, v, w in arcs], "text": base64.b64encode(text).decode()}) for n, arcs, text in rows]
+    ended = subprocess.run([node, "--experimental-wasm-memory64", f"{room}/run.mjs", Page.module], input="\n".join(lines), capture_output=True, text=True, timeout=600, check=False)
+    if ended.returncode:
+        raise AssertionError(ended.stderr[-2000:])
+    found = [json.loads(it) for it in ended.stdout.splitlines()]
+    for it in found:
+        if isinstance(it["byLinks"], list):
+            it["byLinks"] = [(int(weight), low, high) for weight, low, high in it["byLinks"]]
+        try:
+            it["byText"] = base64.b64decode(it["byText"], validate=True)
+        except ValueError:
+            pass
+    return found
+
+
+@case
+def forests_in_node(room):
+    with open(f"{ROOT}/examples/roads.gr", "rb") as it:
+        texts = [SMALL_NET, SMALL_FOREST, it.read(), b"p sp 0 0\n", b"p sp 1 0", b"p sp 3 1\r\na 2 2 5\r\n"]
+    draw = random.Random(17)
+    for seed in range(60):
+        n = draw.choice([1, 2, 3, 8, 60, 500])
+        texts.append(drawn_graph(seed, n, draw.randint(0, 6 * n), draw.choice([0, 3, 10**6]))[0])
+    ends = [-(2**63), -1, 0, 2**53 + 1, 2**63 - 1]
+    texts += [file_of(9, [(draw.randint(1, 9), draw.randint(1, 9), draw.choice(ends)) for _ in range(40)]) for _ in range(10)]
+    # past the size of each inner piece
+    texts.append(drawn_graph(99, 70000, 300000, 10**9)[0])
+    rows = [(*arcs_of(it), it) for it in texts]
+    for (n, _, text), found in zip(rows, answers(room, rows), strict=True):
+        wanted = forest_by_program(text)
+        is_so(found["byText"] == wanted, True)
+        is_so(forest_text(n, found["byLinks"]) == wanted, True)
+    return f"{len(texts)} graphs"
+
+
+@case
+def refusals_in_node(room):
+    faults = [(text, told) for name, text, told in FAULTS if name.endswith(".gr")]
+    links = [
+        (2, [(1, 3, 4)], "an end is no vertex"),
+        (2, [(0, 1, 4)], "an end is no vertex"),
+        (2**26 + 1, [], "too many vertices"),
+    ]
+    rows = [(1, [], text) for text, _ in faults] + [(n, arcs, b"") for n, arcs, _ in links]
+    found = answers(room, rows)
+    is_so([it["byText"] for it in found[: len(faults)]], [told for _, told in faults])
+    is_so([it["byLinks"] for it in found[len(faults) :]], [told for *_, told in links])

@@ -1,0 +1,175 @@
+"""The page in a browser, served on this machine, and what it shows and saves."""
+import base64
+import functools
+import http.server
+import os
+import random
+import shutil
+import tempfile
+import threading
+
+from browsing.driver import Browser
+from cases.running import ROOT, Components, Program, Skipped, forest_of, forest_text, ran
+
+WEB = f"{ROOT}/web"
+SHOWN = ("points", "links", "size", "total", "heaviest", "kept", "largest")
+
+DROP = """
+const data = new DataTransfer();
+for (const [name, text] of arguments[0]) data.items.add(new File([Uint8Array.from(atob(text), it => it.charCodeAt(0))], name));
+for (const kind of ['dragover', 'drop']) document.body.dispatchEvent(new DragEvent(kind, { dataTransfer: data, bubbles: true, cancelable: true }));
+"""
+SET = """
+const it = document.getElementById(arguments[0]);
+it.value = arguments[1];
+for (const kind of ['input', 'change']) it.dispatchEvent(new Event(kind, { bubbles: true }));
+"""
+
+
+class Quiet(http.server.SimpleHTTPRequestHandler):
+    """Files of a folder, without a word about it."""
+
+    def log_message(self, *_words):
+        pass
+
+
+class Page:
+    """One browser and one server for all cases. Each case has the page anew."""
+
+    module = f"{ROOT}/crates/boruvka_within/out/boruvka.wasm"
+    pictures = None
+    now = None
+
+    def __init__(self):
+        if not os.path.exists(Page.module):
+            raise Skipped("the module isn't built: `make wasm` builds it")
+        self.folder = tempfile.mkdtemp(prefix="boruvka-page-")
+        self.server = None
+        try:
+            os.mkdir(f"{self.folder}/saved")
+            self.browser = Browser(f"{self.folder}/saved")
+            shutil.copytree(WEB, f"{self.folder}/web")
+            shutil.copy(Page.module, f"{self.folder}/web/boruvka.wasm")
+            shutil.copy(f"{os.path.dirname(os.path.realpath(__file__))}/kruskal.js", f"{self.folder}/web")
+            handler = functools.partial(Quiet, directory=f"{self.folder}/web")
+            self.server = http.server.ThreadingHTTPServer(("127.0.0.1", 0), handler)
+        except BaseException:
+            shutil.rmtree(self.folder)
+            raise
+        threading.Thread(target=self.server.serve_forever, daemon=True).start()
+        self.address = f"http://127.0.0.1:{self.server.server_port}/index.html"
+
+    @classmethod
+    def opened(cls):
+        """The page as it begins."""
+        cls.now = cls.now or cls()
+        page = cls.now
+        for name in os.listdir(page.browser.downloads):
+            os.unlink(f"{page.browser.downloads}/{name}")
+        page.browser.open(page.address)
+        page.settle()
+        return page
+
+    @classmethod
+    def cleared(cls):
+        """The page without points."""
+        page = cls.opened()
+        page.click("clear")
+        return page
+
+    @classmethod
+    def end(cls):
+        if cls.now:
+            cls.now.browser.close()
+            cls.now.server.shutdown()
+            cls.now.server.server_close()
+            shutil.rmtree(cls.now.folder)
+            cls.now = None
+
+    def settle(self):
+        """Waits until all is done that was begun."""
+        self.browser.wait("document.body?.ariaBusy === 'false'")
+
+    def click(self, name):
+        self.browser.run("document.getElementById(arguments[0]).click()", name)
+        self.settle()
+
+    def set(self, name, value):
+        self.browser.run(SET, name, str(value))
+        self.settle()
+
+    def value(self, name):
+        return self.browser.run("return document.getElementById(arguments[0]).value", name)
+
+    def text(self, name):
+        return self.browser.run("return document.getElementById(arguments[0]).textContent", name)
+
+    def shown(self, *names):
+        return [self.text(it) for it in names or SHOWN]
+
+    def drop(self, *files):
+        """Drops files, each a name and its bytes."""
+        self.browser.run(DROP, [(name, base64.b64encode(text).decode()) for name, text in files])
+        self.settle()
+
+    def saved(self, button, name):
+        self.click(button)
+        return self.browser.downloaded(name)
+
+    def keep(self, name):
+        """Takes a picture, to look at."""
+        if self.pictures:
+            os.makedirs(self.pictures, exist_ok=True)
+            self.browser.picture(f"{self.pictures}/{name}.png")
+
+    def expect(self, **wanted):
+        """It shows this, and has told of no fault and no error."""
+        is_so(dict(zip(wanted, self.shown(*wanted))), wanted)
+        is_so((self.text("fault"), self.browser.complaints()), ("", []))
+
+
+def is_so(found, wanted):
+    if found != wanted:
+        raise AssertionError(f"wanted {wanted!r:.900}\n    found  {found!r:.900}")
+
+
+def arcs_of(text):
+    """The vertices of a .gr text, and its arcs (U, V, W)."""
+    rows = [it.split() for it in text.decode().splitlines()]
+    (n,) = [int(it[2]) for it in rows if it and it[0] == "p"]
+    return n, [tuple(map(int, it[1:])) for it in rows if it and it[0] == "a"]
+
+
+def forest_by_program(text):
+    """The text of the forest of a .gr text that the program writes; if it isn't built, by Kruskal's algorithm."""
+    if os.access(Program.path, os.X_OK):
+        status, output, errors = ran(["--plain"], text)
+        is_so((status, errors), (0, b""))
+        return output
+    n, arcs = arcs_of(text)
+    return forest_text(n, forest_of(n, arcs))
+
+
+def clusters_of(forest, count):
+    """Of each vertex of a forest's text the number of its cluster, if so many are left: the largest first, by size alone."""
+    n, arcs = arcs_of(forest)
+    components = Components(n)
+    for u, v, _ in arcs[: n - count]:
+        components.join(u, v)
+    return [components.root(v) for v in range(1, n + 1)]
+
+
+def is_same_partition(found, wanted):
+    """These two number the same clusters."""
+    is_so(len(found), len(wanted))
+    pairs = set(zip(found, wanted))
+    is_so((len(pairs), len(pairs)), (len(set(found)), len(set(wanted))))
+
+
+def drawn_points(seed, n, most=1000):
+    """The text of n points, some of them the same."""
+    draw = random.Random(seed)
+    rows = [(draw.randint(0, 10 * most) / 10, draw.randint(0, 10 * most) / 10) for _ in range(n)]
+    for i in range(0, n, 50):
+        rows[i] = rows[i // 2]
+    return rows, "".join(f"{x},{y}\n" for x, y in rows).encode()

@@ -1,0 +1,58 @@
+#!/usr/bin/env python3
+"""Tries the page of web/ in Chromium, by clicks, keys, dropped files and saves, and its module in Node.
+
+usage: tests/web.py [--strict] [--module FILE] [--program FILE] [--pictures FOLDER] [CASE..]
+
+FILE is boruvka.wasm and the built program, if they aren't where `make` puts them; FOLDER gets pictures of the page, to
+look at. A CASE is a word of a case's name; all are tried if there is none. Forests are compared with what the program
+writes, or with Kruskal's algorithm in Python where it isn't built. What wants Chromium, its driver or Node is skipped
+where they aren't; with --strict that is a failure. The last line is `N passed, M failed`, without those that were
+skipped, and the status is 0 only where none failed.
+"""
+import argparse
+import os
+import subprocess
+import sys
+import tempfile
+import time
+
+sys.dont_write_bytecode = True
+
+from browsing import pages, points, files, reach, node  # noqa: F401, I001 (they run in this order)
+from browsing.page import Page
+from cases.running import CASES, Program, Skipped
+
+
+def main():
+    words = argparse.ArgumentParser(usage=__doc__.split("\n\n")[1].removeprefix("usage: "))
+    words.add_argument("--strict", action="store_true")
+    words.add_argument("--module", default=Page.module)
+    words.add_argument("--program", default=Program.path)
+    words.add_argument("--pictures")
+    words.add_argument("cases", nargs="*")
+    given = words.parse_args()
+    Page.module, Program.path, Page.pictures = os.path.realpath(given.module), os.path.realpath(given.program), given.pictures
+    chosen = [it for it in CASES if not given.cases or any(word in it.__name__ for word in given.cases)]
+    failed = skipped = 0
+    with tempfile.TemporaryDirectory(prefix="boruvka-web-") as folder:
+        for number, function in enumerate(chosen):
+            name = function.__name__.replace("_", " ")
+            room = f"{folder}/{number}"
+            os.mkdir(room)
+            begun = time.monotonic()
+            try:
+                told = function(room)
+                print(f"web: {name}: ok, {time.monotonic() - begun:.1f} s{f': {told}' if told else ''}", flush=True)
+            except Skipped as why:
+                failed, skipped = failed + given.strict, skipped + (not given.strict)
+                print(f"web: {name}: skipped: {why}", flush=True)
+            except (AssertionError, OSError, subprocess.SubprocessError) as error:
+                failed += 1
+                print(f"web: {name}: FAILED: {error}", flush=True)
+        Page.end()
+    print(f"{len(chosen) - failed - skipped} passed, {failed} failed")
+    return 1 if failed else 0
+
+
+if __name__ == "__main__":
+    sys.exit(main())

@@ -1,0 +1,94 @@
+// Minimum spanning forests by boruvka.wasm, whose calls are proved. It needs WebAssembly with 64-bit memory (Memory64).
+//
+// Links are a Uint32Array with four words for each: its weight, the lower 32 bits first, and both ends, from 1 on. So a
+// BigInt64Array over the same buffer has the weights at its even places. `module` is the compiled module. Each call has an
+// instance of its own, whose memory goes with it.
+
+const PAGE = 65536; // bytes
+const MOST_WORK = 2 ** 33; // bytes that a call may work in
+const NO_MEMORY = -1n;
+
+// Why there is no forest: the kind of its fault, and the line of a text, from 1, or 0.
+export class Refusal extends Error {
+  constructor(kind, line = 0) {
+    super(line ? `line ${line}: ${kind}` : kind);
+    Object.assign(this, { kind, line });
+  }
+}
+
+const aligned = bytes => Math.ceil(bytes / 16) * 16;
+
+// An instance for one call. Its memory has what the module itself needs, two words that say where the call may work,
+// `room` bytes for arguments from `at` on, and the bytes to work in.
+class Call {
+  constructor(module, room) {
+    this.exports = new WebAssembly.Instance(module).exports;
+    this.words = aligned(Number(this.exports.__heap_base.value));
+    this.at = this.words + 16;
+    this.start = this.at + aligned(room);
+    this.give(0);
+  }
+
+  get buffer() {
+    return this.exports.memory.buffer;
+  }
+
+  // Lets the call work in so many bytes. Views of the buffer from before are empty after it.
+  give(work) {
+    const pages = Math.ceil((this.start + work - this.buffer.byteLength) / PAGE);
+    if (pages > 0) this.grow(pages);
+    new BigUint64Array(this.buffer, this.words, 2).set([BigInt(this.start), BigInt(work)]);
+  }
+
+  grow(pages) {
+    const { memory } = this.exports;
+    try {
+      try {
+        memory.grow(BigInt(pages));
+      } catch (error) {
+        // older engines take a number
+        if (!(error instanceof TypeError)) throw error;
+        memory.grow(pages);
+      }
+    } catch (error) {
+      if (error instanceof RangeError) throw new Refusal('no memory');
+      throw error;
+    }
+  }
+
+  // What a call answers that works in so many bytes, or in twice as many as long as it lacks memory. Then its arguments are
+  // as they were.
+  answer(work, call) {
+    for (let bytes = aligned(work); ; bytes *= 2) {
+      this.give(bytes);
+      const answer = call(this.exports, BigInt(this.words));
+      if (answer !== NO_MEMORY || bytes > MOST_WORK) return answer;
+    }
+  }
+}
+
+// The refusal of a code.
+function refusalOf(module, code, line = 0) {
+  const room = 32, call = new Call(module, room), length = call.exports.boruvka_fault_text_within(code, BigInt(call.at), BigInt(room));
+  return new Refusal(new TextDecoder().decode(new Uint8Array(call.buffer, call.at, Number(length))), line);
+}
+
+// The forest of links between the vertices 1 to n, lightest first, each with its lower end first.
+export function forestOfLinks(module, n, links) {
+  const call = new Call(module, links.byteLength), count = links.length / 4;
+  new Uint32Array(call.buffer, call.at, links.length).set(links);
+  const answer = call.answer(PAGE + 26 * count + 10 * n, ({ boruvka_forest_within: forest }, memory) => forest(memory, n, BigInt(call.at), BigInt(count)));
+  if (answer < 0n) throw refusalOf(module, answer);
+  return new Uint32Array(call.buffer, call.at, 4 * Number(answer)).slice();
+}
+
+// The text of the forest of a .gr text, both as bytes. It is at most one byte longer: an LF at the end.
+export function forestOfText(module, text) {
+  const room = text.length + 1, fault = aligned(text.length), into = fault + 16;
+  const call = new Call(module, into + room), [from, to, why] = [0, into, fault].map(it => BigInt(call.at + it));
+  new Uint8Array(call.buffer, call.at, text.length).set(text);
+  const answer = call.answer(PAGE + 4 * text.length, ({ boruvka_forest_text_within: forest }, memory) =>
+    forest(memory, from, BigInt(text.length), to, BigInt(room), why));
+  if (answer < 0n) throw refusalOf(module, answer, Number(new BigUint64Array(call.buffer, call.at + fault, 2)[1]));
+  return new Uint8Array(call.buffer, call.at + into, Number(answer)).slice();
+}
