@@ -16,7 +16,7 @@ use std::thread::Threads;
 const READ_ROOM: usize = 65_536;
 
 // The number of bytes that are read at once where threads share them.
-const PAR_READ_ROOM: usize = 1 << 20;
+const PAR_READ_ROOM: usize = 1 << 22;
 
 /// The graph of a source of at most 2^40 bytes.
 ///
@@ -48,9 +48,9 @@ pub fn read_graph_upto<S: Source, A: Allocator>(
 
 /// The graph of a source of at most 2^40 bytes, read by at most so many threads; 0 means one.
 ///
-/// As [`read_graph`]. 1 MiB is read at a time, and shared where all of its lines but the first and the last are arc lines
+/// As [`read_graph`]. 4 MiB are read at a time, and shared where all of its lines but the first and the last are arc lines
 /// `a U V W` with single spaces, and nothing is wrong with them; any other piece, and one of less than 64 KiB, is read by
-/// one thread. It takes 3 MiB more while it reads; where these are refused, one thread reads.
+/// one thread. It takes 12 MiB more while it reads; where these are refused, one thread reads.
 pub fn read_graph_par<R: Threads + Sync, S: Source, A: Allocator + Copy + Send + Sync>(
     rt: &R,
     threads: usize,

@@ -18,6 +18,8 @@ pub(crate) const PART_LINKS: usize = 8192;
 #[derive(Drop)]
 pub(crate) struct TextPart<A: Allocator> {
     lines: Vec<u8, A>,
+    /// Keeps the heads of two parts, each written by a thread for each line, in cache lines of their own.
+    apart: [u8; 128],
 }
 
 impl<A: Allocator> Model for TextPart<A> {
@@ -37,7 +39,10 @@ impl<A: Allocator> TextPart<A> {
         ensures { IfOk result (λ part. part ≡ []) }
     {
         let lines = Vec::with_capacity(alloc, PART_LINKS * SPELLED_ROOM)?;
-        Ok(TextPart { lines })
+        Ok(TextPart {
+            lines,
+            apart: [0; 128],
+        })
     }
 
     // Puts the lines of these links in the place of those that it had.
