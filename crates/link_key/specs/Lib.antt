@@ -2,3 +2,4 @@ pub mod Rounds
 pub mod OpenLinks
 pub mod Parts
 pub mod Components
+pub mod Apart

@@ -1,5 +1,5 @@
 //! Links, their keys, labels, offers, shards and cuts, as `links` has them, and the sequential solver: the minimum
-//! spanning forest of a list, by one thread.
+//! spanning forest of a list, by one thread, or by several that share its steps.
 //!
 //! ```text
 //!   links  --parts of them, the lightest first-->  rounds of first touches between numbered components  -->  Forest
@@ -7,7 +7,7 @@
 //!
 //! What it promises:
 //! - [`forest_of`], and [`plain_forest`] on a copy, gives exactly the forest, the links whose ends aren't joined by
-//!   smaller ones; no spanning forest weighs less.
+//!   smaller ones; no spanning forest weighs less. [`forest_of_par`] gives the same by so many threads.
 //! - [`components_of`] labels each vertex by the least one of its component under links that close no cycle, and gives no
 //!   labels where they close one.
 //!

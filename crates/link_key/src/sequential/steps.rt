@@ -1,21 +1,28 @@
 //! The steps of the solver that threads can share: to sort, to choose the lightest links, and to drop links within one
 //! component. Each is one by one thread or by several; the rounds between them are one thread's.
-ghost use Rattle.std.specs.Prelude.{◌≡◌, ◌+◌, ◌≤◌, ◌++◌, take, drop, length, IfOk, OnOk};
+ghost use Rattle.std.specs.Prelude.{◌≡◌, ◌+◌, ◌≤◌, ◌++◌, ⊤, take, drop, length, IfOk, OnOk};
 ghost use Rattle.std.specs.List.{filter};
 ghost use Rattle.std.specs.List.Sorted.{IsSorted, IsPermutation};
+ghost use Rattle.std.specs.Thread.{IsSync};
 ghost use Rattle.links.specs.Link.{key_cmp};
 ghost use Rattle.links.specs.WideKey.{IsSplitByKey};
 ghost use Rattle.link_key.specs.Rounds.{is_apart};
 
+use super::by_threads::put_apart_behind_by_threads;
 use super::rounds;
+use links::by_threads::{put_lightest_first_by_threads, sort_by_threads};
 use links::{Link, sorting};
 use std::alloc::{AllocError, Allocator};
 use std::thread::Threads;
 
 /// Who does the steps.
 pub(crate) trait Steps {
+    // What threads need of whoever makes them.
+    ghost ready: { Self → Type 0 } = { λ _. ⊤ };
+
     /// Puts the links in the order of their keys.
     fn sort(&self, links: &mut [Link])
+        requires ready { ready self.now }
         ensures same { IsPermutation links.old links.new }
         ensures sorted { IsSorted key_cmp links.new };
 
@@ -26,6 +33,7 @@ pub(crate) trait Steps {
         links: &mut [Link],
         count: usize,
     ) -> Result<usize, AllocError>
+        requires ready { ready self.now }
         ensures same { OnOk result (IsPermutation links.old links.new) }
         ensures in_range { IfOk result (λ light. light ≤ length links.new) }
         ensures split { IfOk result (λ light. IsSplitByKey light links.new) };
@@ -39,6 +47,7 @@ pub(crate) trait Steps {
         from: usize,
         labels: &[u32],
     ) -> usize
+        requires ready { ready self.now }
         requires before { first ≤ from }
         requires in_range { from ≤ length links.old }
         ensures in_range { (first ≤ result) × (result + from ≤ first + length links.new) }
@@ -82,8 +91,10 @@ pub(crate) struct ManyThreads<'a, R> {
 }
 
 impl<'a, R: Threads + Sync> Steps for ManyThreads<'a, R> {
+    ghost ready = { λ _. IsSync R.row };
+
     fn sort(&self, links: &mut [Link]) {
-        sorting::sort(links);
+        sort_by_threads(self.rt, self.threads, links);
     }
 
     fn put_lightest_first<A: Allocator + Copy>(
@@ -92,7 +103,7 @@ impl<'a, R: Threads + Sync> Steps for ManyThreads<'a, R> {
         links: &mut [Link],
         count: usize,
     ) -> Result<usize, AllocError> {
-        sorting::put_lightest_first(alloc, links, count)
+        put_lightest_first_by_threads(self.rt, self.threads, alloc, links, count)
     }
 
     fn put_apart_behind(
@@ -102,6 +113,6 @@ impl<'a, R: Threads + Sync> Steps for ManyThreads<'a, R> {
         from: usize,
         labels: &[u32],
     ) -> usize {
-        rounds::put_apart_behind(links, first, from, labels)
+        put_apart_behind_by_threads(self.rt, self.threads, links, first, from, labels)
     }
 }
