@@ -1,4 +1,5 @@
 mod asks_again;
+mod by_threads;
 mod bytes;
 mod bytes_of_workers;
 mod devices;
