@@ -176,7 +176,7 @@ def wrong_words(_room):
 
 @case
 def threads_without_plain(_room):
-    text = b"error: --threads wants --plain beside it\n\nUsage: boruvka [OPTIONS] [FILE]\n\nFor more information, try '--help'.\n"
+    text = b"error: --threads needs --plain\n\nUsage: boruvka [OPTIONS] [FILE]\n\nFor more information, try '--help'.\n"
     for words in [["--threads", "2"], ["--threads=1"], ["--workers", "0", "--threads", "64"], ["--report", "--threads", "3", "no/such/file"]]:
         expect(ran(words, SMALL_NET), 2, b"", text)
     for words in [["--threads", "2", "--help"], ["--threads=3", "--version"]]:

@@ -54,7 +54,7 @@ report_of (Err why) = Err why
 
 -- ---- how a run ends
 
--- a run by one thread, whose report is wanted or not, had this status, and did to its streams what it says
+-- a run without workers, whose report is wanted or not, had this status, and did to its streams what it says
 pub record EndsWith (wants : Bool) (status : ℕ) (before after : Standard) : Type 0 where
   pub result : Result Report RunFault
   pub status_is : status ≡ status_of_run result
@@ -98,7 +98,7 @@ IsDone status before after = (status ≡ 0) ⊎ ((status ≡ 4) ⊎ ((status ≡
 
 -- ---- what is asked for
 
--- what lawful words ask for: so many workers and shards, or one thread alone; with the report or without; on this file, or on the input
+-- what lawful words ask for: so many workers and shards, or no workers; with the report or without; on this file, or on the input
 pub record Asked : Type 0 where
   pub workers : ℕ
   pub shards : ℕ
@@ -123,7 +123,7 @@ uncounted = only_left None
 abbrev pub from_file : Standard → Standard
 from_file all = record { source = uncounted; sink = all.sink; errors = all.errors }
 
--- a run by one thread, or over workers
+-- a run without workers, or over them
 abbrev pub EndsAs : Bool → Asked → ℕ → Standard → Standard → Type 0
 EndsAs true asked = EndsWith asked.report
 EndsAs false asked = EndsOverWorkers asked.workers asked.shards asked.report

@@ -1,10 +1,13 @@
 //! What the program does.
-ghost use Rattle.std.specs.Prelude.{◌≡◌, ◌≢◌, ◌≤◌, ◌⊎◌, [], map, length, All, IsSome, true, false, codes};
+ghost use Rattle.std.specs.Prelude.{◌≡◌, ◌≢◌, ◌≤◌, ◌⊎◌, ℕ, List, [], map, length, All, IsSome, OnOk, true, false, codes};
 ghost use Rattle.std.specs.IoError.{error_kind};
 ghost use Rattle.limits.specs.declared.TheConstants.{MAX_WORKERS};
 ghost use Rattle.byte_streams.specs.Streams.{IsFlushed};
 ghost use Rattle.clap.specs.Words.{kind_of};
 ghost use Rattle.wires.specs.Lines.{HasRoom};
+ghost use Rattle.plain_run.specs.Files.{HasFile, MeansGraph, MeansNothing, IsFirstFaultOf, IsNoRefusal};
+ghost use Rattle.plain_run.specs.Outcomes.{known};
+ghost use Rattle.plain_run.specs.PlainRun.{RanPlain};
 ghost use Rattle.forest_run.specs.LinesRun.{HasGraphToCut};
 ghost use Rattle.forest_run.specs.WiredLines.{AreServed};
 ghost use Rattle.forest_run.specs.declared.cutting.Cutting.TheVariants.{Even};
@@ -17,7 +20,7 @@ ghost use Rattle.boruvka.specs.Status.{HasNoGraph, IsDone, LeavesOutput, IsUntou
 
 use crate::standard::{StandardStreams, workers_beside};
 use byte_streams::{Sink, Source, Uncounted, put};
-use forest_run::{Cutting, Report, RunFault, run_lines, run_plain};
+use forest_run::{Cutting, Report, RunFault, run_lines, run_plain, run_threads};
 use program_words::{
     DEVICE, MEMORY, Options, OptionsFault, USAGE, options, status_of, write_fault, write_no_text,
     write_report, write_text, write_unopened,
@@ -143,6 +146,29 @@ where
     status
 }
 
+// Runs without workers, by up to so many threads.
+fn run_here<R: Alloc<A = Global> + Threads + Sync, I: Source, O: Sink>(
+    rt: &R,
+    threads: u32,
+    input: &mut I,
+    output: &mut O,
+) -> Result<Report, RunFault>
+    requires input { I.can_read input.old }
+    requires output { O.can_write output.old }
+    ensures ran { RanPlain result
+        (known I.state O.state input.old output.old) (known I.state O.state input.new output.new) }
+    ensures malformed { (bytes : List ℕ) → HasFile bytes (I.state input.old) (I.state input.new)
+        → MeansNothing bytes → IsFirstFaultOf bytes result }
+    ensures lawful { (bytes : List ℕ) → HasFile bytes (I.state input.old) (I.state input.new)
+        → MeansGraph bytes → IsNoRefusal result }
+    ensures flushed { OnOk result (IsFlushed (O.unflushed output.new)) }
+{
+    if threads < 2 {
+        return run_plain(rt.alloc(), input, output);
+    }
+    run_threads(rt, threads as usize, rt.alloc(), input, output)
+}
+
 // Runs as the words ask for, on the input. Where it runs over workers, each of them has ended when it answers.
 fn run_on<R, I, O, E>(rt: &R, chosen: &Options, io: StandardStreams<I, O, E>) -> u8
 where
@@ -177,7 +203,7 @@ where
             output,
             errors,
         } = io;
-        let ended = run_plain(alloc, input, output);
+        let ended = run_here(rt, chosen.threads, input, output);
         return write_end(chosen.report, &ended, errors);
     }
     let (_reserved, count) = workers_beside(rt, chosen.workers);
@@ -191,8 +217,9 @@ where
 /// Does what lawful words ask for, and answers the status.
 ///
 /// FILE is opened before the run begins; without FILE it reads the input. The forest goes to the output,
-/// and what went wrong to the errors, as does the report where it is asked for. Without `--plain` it starts the
-/// workers that are asked for, in threads of this process at the far ends of sockets, and ends them.
+/// and what went wrong to the errors, as does the report where it is asked for. With `--plain` it runs by up to as many
+/// threads as are asked for. Without it it starts the workers that are asked for, in threads of this process at the far
+/// ends of sockets, and ends them.
 pub fn obey<R, I, O, E>(rt: &R, chosen: &Options, io: StandardStreams<I, O, E>) -> u8
 where
     R: Files<File = File>

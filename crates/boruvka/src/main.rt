@@ -1,18 +1,19 @@
 //! The program: it reads a graph in the `.gr` format and writes the text of its minimum spanning forest. It runs over
-//! worker threads at the far ends of loopback connections, or by one thread.
+//! worker threads at the far ends of loopback connections, or without them, by one thread or several.
 //!
 //! ```text
 //! words --program_words::options--> Options --command::obey--> a run over FILE or standard input --> status
 //!                                               \--program_words::write_..--> standard error
-//!   a run: tcp_lines::Workers::start, command::run_over, Workers::join; with --plain forest_run::run_plain
+//!   a run: tcp_lines::Workers::start, command::run_over, Workers::join;
+//!          with --plain forest_run::run_plain, run_threads
 //! ```
 //!
 //! What it promises:
 //! - The output gets a prefix of the forest's text, the whole where the status is 0, or the help; the status is one of
 //!   six, and writes what failed ([`command::obey`]).
 //! - Standard error gets the report that was asked for, or the line that says why; the usage there is only tested.
-//! - The forest is the minimum one by one thread, without workers, and where workers answer as the engine does, which no
-//!   contract sees of sockets; whatever they answer it spans ([`command::run_over`]).
+//! - The forest is the minimum one without workers, and where workers answer as the engine does, which no contract sees
+//!   of sockets; whatever they answer it spans ([`command::run_over`]).
 //!
 //! Where to start a change: what the program does, in order, `command` with `specs/Status`; how the standard streams are
 //! kept apart from sockets, `standard`. The words, the messages and the statuses stand in `program_words`.

@@ -37,7 +37,8 @@ Arguments:
 Options:
       --workers <N>  How many workers scan the shards: 0 to 64 [default: 2]
       --shards <S>   How many shards the links are cut into: 1 to 4096 [default: 64]
-      --plain        Solve in one thread, without workers
+      --plain        Solve without workers, in one thread
+      --threads <N>  With --plain, up to how many threads solve: 1 to 64 [default: 1]
       --report       Print what the run did to standard error
   -h, --help         Print help
   -V, --version      Print version
@@ -575,6 +576,26 @@ fn takes_the_words_for_what_they_ask(rt: HostRuntime) {
     expect_same(&rt, (report.report, report.plain), (true, false));
 }
 
+// The words are lawful, and ask for so many threads.
+fn expect_threads(rt: &(impl Abort + Alloc<A = Global>), words: &[&str], threads: u32) {
+    let chosen = options(rt.alloc(), words).expect(rt, "lawful words");
+    expect_same(rt, chosen.threads, threads);
+}
+
+#[test]
+fn takes_threads_beside_the_plain_word(rt: HostRuntime) {
+    expect_threads(&rt, &["boruvka"], 1);
+    expect_threads(&rt, &["boruvka", "--plain"], 1);
+    expect_threads(&rt, &["boruvka", "--plain", "--threads", "1"], 1);
+    expect_threads(&rt, &["boruvka", "--threads=64", "--plain"], 64);
+    let words = ["boruvka", "--plain", "--threads", "2"];
+    expect(&rt, &words, SMALL_NET, 0, SMALL_FOREST, b"");
+    let without =
+        b"error: --threads needs --plain\n\nUsage: boruvka [OPTIONS] [FILE]\n\nFor more information, try '--help'.\n";
+    let words = ["boruvka", "--threads", "2"];
+    expect(&rt, &words, SMALL_NET, 2, b"", without);
+}
+
 // These words are refused as the usage says, and nothing goes to the output.
 fn expect_refused(
     rt: &(impl Abort
@@ -604,6 +625,10 @@ fn refuses_wrong_words(rt: HostRuntime) {
     for wrong in ["--workers=65", "--shards=0", "--shards=4097", "--wrong"] {
         expect_refused(&rt, &["boruvka", wrong]);
     }
+    for wrong in ["--threads=0", "--threads=65", "--threads=x", "--threads"] {
+        expect_refused(&rt, &["boruvka", "--plain", wrong]);
+    }
+    expect_refused(&rt, &["boruvka", "--threads=1", "--workers", "0"]);
     expect_refused(&rt, &["boruvka", "--workers", "65"]);
     expect_refused(&rt, &["boruvka", "--shards", "0"]);
     expect_refused(&rt, &["boruvka", "--plain", "a.gr", "b.gr"]);

@@ -1,6 +1,6 @@
 //! A whole run over lines to workers, from the bytes of a `.gr` file to the text of its minimum spanning forest. It goes in
 //! rounds; ferries, one for each open port, ask for light offers, in threads (no contract says so). What callers need
-//! beside it is handed on: runs by one thread of `plain_run`, rounds over any ports of `port_rounds`.
+//! beside it is handed on: runs without workers of `plain_run`, rounds over any ports of `port_rounds`.
 //!
 //! ```text
 //!     run_lines      read (gr_text), cut, a wire and a lane a line (wires), solve (port_rounds), write (gr_text)
@@ -23,5 +23,5 @@ mod lines;
 
 pub use cutting::Cutting;
 pub use lines::run_lines;
-pub use plain_run::{LINE_ROOM, Report, RunFault, plain_text, run_plain};
+pub use plain_run::{LINE_ROOM, Report, RunFault, plain_text, run_plain, run_threads};
 pub use port_rounds::{Lane, solve};

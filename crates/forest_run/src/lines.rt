@@ -14,11 +14,12 @@ ghost use Rattle.forest_run.specs.LinesRun.{run_fault, RanLines, RanServed, Ends
 
 use crate::cutting::Cutting;
 use byte_streams::{Sink, Source};
-use gr_text::{read_graph, write_forest};
+use gr_text::{read_graph_par, write_forest_par};
 use limits::MAX_WORKERS;
 use links::{Cut, CutFault, Forest, Link};
 use plain_run::{Report, RunFault};
 use port_rounds::{Lane, solve};
+use rayon::current_num_threads;
 use round_core::SolveFault;
 use std::alloc::{AllocError, Allocator};
 use std::sync::Wait;
@@ -129,10 +130,11 @@ fn solve_lines<
 /// a shard, or for want of memory here or at its worker; whatever comes over them, the links close no cycle and span
 /// those of the file.
 ///
-/// It waits for the workers' answers. The forest is whole before the first byte is written; after a fault the lines are
-/// dropped. It takes a list of the links, the places of the cut, 600 bytes for each line and less than 128 KiB, or 4 bytes
-/// a vertex where the labels find no memory for bytes of their own, and what [`solve`] takes; the time of a round is
-/// that of scanning the links once, shared by the workers.
+/// It waits for the workers' answers. It reads and writes by as many threads as there are processors. The forest is whole
+/// before the first byte is written; after a fault the lines are dropped. It takes a list of the links, the places of the
+/// cut, 600 bytes for each line and less than 128 KiB, or 4 bytes a vertex where the labels find no memory for bytes of
+/// their own, what [`solve`] takes, and what [`read_graph_par`] and [`write_forest_par`] take for their threads; the time
+/// of a round is that of scanning the links once, shared by the workers.
 pub fn run_lines<
     S: Source,
     W: Sink,
@@ -178,7 +180,8 @@ pub fn run_lines<
     ensures flushed { OnOk result (IsFlushed (W.unflushed sink.new)) }
     ensures again { OnOk result (W.can_write sink.new) }
 {
-    let graph = match read_graph(alloc, source) {
+    let threads = current_num_threads(rt);
+    let graph = match read_graph_par(rt, threads, alloc, source) {
         Ok(graph) => graph,
         Err(fault) => return Err(RunFault::Read(fault)),
     };
@@ -190,7 +193,7 @@ pub fn run_lines<
         Ok(solved) => solved,
         Err(fault) => return Err(run_fault_for(fault)),
     };
-    match write_forest(sink, graph.n(), &forest) {
+    match write_forest_par(rt, threads, alloc, sink, graph.n(), &forest) {
         Ok(_) => Ok((report, lines)),
         Err(fault) => Err(RunFault::Write {
             written: fault.written,

@@ -6,12 +6,14 @@
 //! lines --verdicts/lines_so_far--> graph
 //! pieces --feeders--> whole arc lines --parallel, by threads--> parts --arc_lines--> links
 //! forest --spelled--> lines --piece--> 8 KiB --writer--> sink
+//! forest --spelled, by threads--> text_parts of 8,192 lines --parallel_writer--> sink
 //! ```
 //!
 //! What it promises:
 //! - A text, a source or pieces give a graph exactly where they mean one; else the fault of the first faulty line, with
 //!   its number and its kind ([`GrFault`]).
 //! - The text of a forest goes out byte for byte, or the fault counts how many of its bytes did.
+//!   So it does by several threads.
 //! - A text means one graph or has one first fault, and never both; a forest's text means just its links ([`laws`]).
 //!
 //! Where to start a change: what a line may say, `specs/Statement`, then `words`; what is wrong with a line, and which

@@ -1,6 +1,6 @@
 -- What a parse of the program's words gives: what each word sets, and numbers that passed the ranges of their arguments.
-use Rattle.std.proofs.Common.{◌≡◌, ◌⊎◌, ◌∙◌, ◌<◌, ℕ, true, false, List, [], ◌∷◌, length, Option, Some, None, Result, refl, sym, ap, subst, inl, inr, arith, codes, slice_index, ◌||◌}
-use Rattle.std.specs.Prelude.{pos}
+use Rattle.std.proofs.Common.{ap₂, ◌≡◌, ◌≢◌, ◌⊎◌, ◌∙◌, ◌<◌, ℕ, true, false, List, [], ◌∷◌, length, Option, Some, None, Result, refl, sym, ap, subst, inl, inr, arith, codes, slice_index, ◌||◌}
+use Rattle.std.specs.Prelude.{Bool, pos, not, is_some, ◌&&◌, if◌then◌else◌}
 use Rattle.std.specs.List.{All, slice_index_or}
 use Rattle.std.specs.Str.{bytes_eq}
 use Rattle.std.specs.Borrow.{Bor}
@@ -19,12 +19,18 @@ use Rattle.clap.specs.declared.builder.value_parser.ValueParser.TheVariants as v
 use Rattle.clap.specs.declared.parser.matches.ArgMatches.{ArgMatches}
 use Rattle.clap.specs.declared.parser.matches.Found.{Found}
 use Rattle.clap.specs.declared.parser.matches.MatchedArg.{MatchedArg}
-use Rattle.clap.specs.Words.{App, FailsBy, HasMatchesOf, fault_of, first_of, first_value, is_simple, is_simple_and_free, matches_of, one_of, rows_of}
+use Rattle.clap.specs.Words.{App, FailsBy, HasMatchesOf, kind_of, fault_of, first_of, first_value, is_simple, is_simple_and_free, matches_of, one_of, rows_of}
 use Rattle.clap.proofs.OnLiterals.{clap_on_literals}
 use Rattle.clap.proofs.WalkLemmas.{first_value-rows, one_text-rows}
 use Rattle.clap.specs.declared.error.Error.{Error}
 use Rattle.limits.specs.declared.TheConstants.{MAX_SHARDS, MAX_WORKERS}
-use Rattle.program_words.specs.Arguments.{TakesFrom, IsOwn, IsOwnArg, HoldsFrom, program, refusals, given, said}
+use Rattle.program_words.specs.declared.chosen.TheConstants.{MAX_THREADS}
+use Rattle.program_words.specs.Arguments.{TakesFrom, IsOwn, IsOwnArg, HoldsFrom, IsUsage, program, refusals, is_true, lacks_plain, given, said}
+use Rattle.program_words.specs.declared.chosen.OptionsFault.{OptionsFault}
+use Rattle.program_words.specs.declared.chosen.OptionsFault.TheVariants.{Usage, Memory}
+use Rattle.clap.specs.Kinds.{Kinds, IsAmong, or_else}
+use Rattle.clap.specs.declared.error.kind.ErrorKind.{ErrorKind}
+use Rattle.clap.specs.declared.error.kind.ErrorKind.TheVariants.{MissingRequiredArgument, OutOfMemory}
 
 -- an argument takes what the caller's does
 takes_same : (name : List ℕ) (low high : ℕ) (a b : Arg) → SameRules a b → TakesFrom name low high a → TakesFrom name low high b
@@ -37,6 +43,7 @@ own_more old new a added own arg = record {
   local = added.globals ∙ (ap (λ b. b || a.global) own.local ∙ ap (λ b. false || b) arg.local);
   workers = rw added.args (All-push (TakesFrom (codes "workers") 0 MAX_WORKERS) (args_of old) added.arg own.workers (takes_same (codes "workers") 0 MAX_WORKERS a added.arg added.rules arg.workers));
   shards = rw added.args (All-push (TakesFrom (codes "shards") 1 MAX_SHARDS) (args_of old) added.arg own.shards (takes_same (codes "shards") 1 MAX_SHARDS a added.arg added.rules arg.shards));
+  threads = rw added.args (All-push (TakesFrom (codes "threads") 1 MAX_THREADS) (args_of old) added.arg own.threads (takes_same (codes "threads") 1 MAX_THREADS a added.arg added.rules arg.threads));
 }
 
 -- an argument of the built command with this name is the caller's, and takes such numbers
@@ -127,6 +134,13 @@ shards_hold c m own p =
     (apart (codes "shards") (codes "help") (λ (e : 115 ≡ 104). absurd (omega arith)))
     (apart (codes "shards") (codes "version") (λ (e : 115 ≡ 118). absurd (omega arith)))
 
+pub threads_hold : (c : Command) (m : ArgMatches) → IsOwn c → IsParsedFrom c m → HoldsFrom m (codes "threads") 1 MAX_THREADS
+threads_hold c m own p =
+    parsed_holds c m (codes "threads") 1 MAX_THREADS own p own.threads
+    (λ e. let bad : 116 ≡ slice_index [] 0 = ap (λ (t : List ℕ). slice_index t 0) e in absurd (omega arith))
+    (apart (codes "threads") (codes "help") (λ (e : 116 ≡ 104). absurd (omega arith)))
+    (apart (codes "threads") (codes "version") (λ (e : 116 ≡ 118). absurd (omega arith)))
+
 -- ---- what the words say
 
 program_simple : is_simple program ≡ true
@@ -154,5 +168,41 @@ said_is app words m name is has = first_value-rows (found_of m) name ∙ ap (fir
 
 -- a parse fails as the words say
 pub fails_by_words : {T : Type 0} (app : App) (words : List (List ℕ)) (r : Result T Error) → app ≡ program
-    → (is_simple_and_free app ≡ true → FailsBy (fault_of app words) r) → FailsBy (refusals words) r
+    → (is_simple_and_free app ≡ true → FailsBy (fault_of app words) r) → FailsBy (fault_of program words) r
 fails_by_words {T} app words r is fails = subst (λ (a : App). FailsBy (fault_of a words) r) is (fails (ap is_simple_and_free is ∙ program_free))
+
+-- whether the words lack `--plain`, as it is found
+pub lacks_is : (app : App) (words : List (List ℕ)) (m : ArgMatches) → app ≡ program → HasMatchesOf app words m
+    → (is_some (first_value (found_of m) (codes "threads")) && not (is_true (first_value (found_of m) (codes "plain")))) ≡ lacks_plain words
+lacks_is app words m is has =
+    ap₂ (λ (a b : Option (List ℕ)). is_some a && not (is_true b)) (said_is app words m (codes "threads") is has) (said_is app words m (codes "plain") is has)
+
+-- words that are refused one by one are refused
+among_first : (kind : ErrorKind) (kinds others : Kinds) → IsAmong kind kinds → IsAmong kind (or_else kinds others)
+among_first kind [] others among = absurd among
+among_first kind (k ∷ kinds) others among = among
+
+pub refused_first : (words : List (List ℕ)) (fault : OptionsFault) → IsUsage fault (λ error. IsAmong (kind_of error) (fault_of program words))
+    → IsUsage fault (λ error. IsAmong (kind_of error) (refusals words))
+refused_first words (Usage error) among = among_first (kind_of error) (fault_of program words) (if lacks_plain words then MissingRequiredArgument ∷ [] else []) among
+refused_first words Memory among = tt
+
+-- words that are taken one by one are taken where they don't lack `--plain`, and else refused for that
+rest_of : (words : List (List ℕ)) (lacks : Bool) → fault_of program words ≡ [] → lacks ≡ lacks_plain words
+    → refusals words ≡ (if lacks then MissingRequiredArgument ∷ [] else [])
+rest_of words lacks none is =
+    ap (λ (kinds : Kinds). or_else kinds (if lacks_plain words then MissingRequiredArgument ∷ [] else [])) none
+    ∙ ap (λ (b : Bool). if b then MissingRequiredArgument ∷ [] else []) (sym is)
+
+pub taken_whole : (words : List (List ℕ)) (lacks : Bool) → fault_of program words ≡ [] → lacks ≡ lacks_plain words → lacks ≡ false → refusals words ≡ []
+taken_whole words lacks none is not_so = rest_of words lacks none is ∙ ap (λ (b : Bool). if b then MissingRequiredArgument ∷ [] else []) not_so
+
+pub refused_alone : (words : List (List ℕ)) (lacks : Bool) (fault : OptionsFault) → fault_of program words ≡ [] → lacks ≡ lacks_plain words → lacks ≡ true
+    → IsUsage fault (λ error. kind_of error ≡ MissingRequiredArgument) → IsUsage fault (λ error. IsAmong (kind_of error) (refusals words))
+refused_alone words lacks (Usage error) none is so kind =
+    subst (IsAmong (kind_of error)) (sym (rest_of words lacks none is ∙ ap (λ (b : Bool). if b then MissingRequiredArgument ∷ [] else []) so)) (inl kind)
+refused_alone words lacks Memory none is so kind = tt
+
+pub alone_is_no_memory : (fault : OptionsFault) → IsUsage fault (λ error. kind_of error ≡ MissingRequiredArgument) → IsUsage fault (λ error. kind_of error ≢ OutOfMemory)
+alone_is_no_memory (Usage error) kind = λ memory. let bad : MissingRequiredArgument ≡ OutOfMemory = sym kind ∙ memory in absurd (cc)
+alone_is_no_memory Memory kind = tt

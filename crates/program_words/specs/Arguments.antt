@@ -1,9 +1,10 @@
 -- The words of the command line: what the program takes, and what each word sets.
-use Rattle.std.specs.Prelude.{◌≡◌, ◌≢◌, ◌⊎◌, ℕ, ⊤, pos, true, false, if◌then◌else◌, List, [], ◌∷◌, Option, Some, None, Bool, Result, Err, codes}
+use Rattle.std.specs.Prelude.{◌≡◌, ◌≢◌, ◌⊎◌, ℕ, ⊤, pos, true, false, not, ◌&&◌, is_some, if◌then◌else◌, List, [], ◌∷◌, Option, Some, None, Bool, Result, Ok, Err, codes}
 use Rattle.std.specs.List.{All}
 use Rattle.std.specs.Str.{bytes_eq}
 use Rattle.std.specs.Str.Parse.{digits_value, without_leading_plus}
 use Rattle.limits.specs.declared.TheConstants.{MAX_SHARDS, MAX_WORKERS}
+use Rattle.clap.specs.Kinds.{or_else}
 use Rattle.clap.specs.Words.{App, Rule, IsPlain, IsPlainArg, IsSignedIn, Kinds, args_of, fault_of, first_of, found_of, kind_of, matches_of, new_app, new_rule, one_of, one_text, with_rule, without_minus}
 use Rattle.clap.specs.declared.builder.action.ArgAction.TheVariants.{SetTrue}
 use Rattle.clap.specs.declared.builder.arg.Arg.{Arg}
@@ -12,21 +13,25 @@ use Rattle.clap.specs.declared.builder.command.Command.TheViews.{out-Command}
 use Rattle.clap.specs.declared.builder.value_parser.ValueParser.TheVariants as vp
 use Rattle.clap.specs.declared.error.Error.{Error}
 use Rattle.clap.specs.declared.error.kind.ErrorKind.{ErrorKind}
-use Rattle.clap.specs.declared.error.kind.ErrorKind.TheVariants.{DisplayHelp, DisplayVersion, OutOfMemory}
+use Rattle.clap.specs.declared.error.kind.ErrorKind.TheVariants.{DisplayHelp, DisplayVersion, MissingRequiredArgument, OutOfMemory}
 use Rattle.clap.specs.declared.parser.matches.ArgMatches.{ArgMatches}
+use Rattle.program_words.specs.declared.chosen.TheConstants.{MAX_THREADS}
 use Rattle.program_words.specs.declared.chosen.OptionsFault.{OptionsFault}
 use Rattle.program_words.specs.declared.chosen.OptionsFault.TheVariants.{Usage, Memory}
 
 -- ---- what the program takes
 
 -- an option with a whole number from low to high
-abbrev pub number_rule : List ℕ → List ℕ → ℕ → ℕ → Rule
-number_rule name default low high = record (new_rule name) {
+abbrev pub number_rule : List ℕ → ℕ → ℕ → Rule
+number_rule name low high = record (new_rule name) {
   long = Some name;
   value_names = 1;
-  defaults = default ∷ [];
   parser = Some (vp.Signed (pos low) (pos high));
 }
+
+-- the same, with the number that is taken where it isn't there
+abbrev pub default_rule : List ℕ → List ℕ → ℕ → ℕ → Rule
+default_rule name default low high = record (number_rule name low high) { defaults = default ∷ [] }
 
 -- an option that is there or not
 abbrev pub flag_rule : List ℕ → Rule
@@ -40,24 +45,22 @@ word_rule name = record (new_rule name) { value_names = 1 }
 abbrev pub with_version : App → App
 with_version a = record a { top = record a.top { has_version = true } }
 
--- the program: its version, two numbers, two flags, and a file
+-- the program: its version, three numbers, two flags, and a file
 abbrev pub program : App
 program =
     with_rule
     (with_rule
     (with_rule
     (with_rule
-    (with_rule (with_version (new_app (codes "boruvka"))) (number_rule (codes "workers") (codes "2") 0 MAX_WORKERS))
-    (number_rule (codes "shards") (codes "64") 1 MAX_SHARDS))
+    (with_rule
+    (with_rule (with_version (new_app (codes "boruvka"))) (default_rule (codes "workers") (codes "2") 0 MAX_WORKERS))
+    (default_rule (codes "shards") (codes "64") 1 MAX_SHARDS))
     (flag_rule (codes "plain")))
+    (number_rule (codes "threads") 1 MAX_THREADS))
     (flag_rule (codes "report")))
     (word_rule (codes "file"))
 
 -- ---- what words say to it, the program's name first
-
--- what is wrong with the words, or that they ask for the help: nothing where the program takes them
-abbrev pub refusals : List (List ℕ) → Kinds
-refusals words = fault_of program words
 
 -- what the words give under a name, or else its default
 abbrev pub given : List (List ℕ) → List ℕ → Option (List ℕ)
@@ -90,6 +93,15 @@ is_true (Some text) = bytes_eq text (codes "true")
 abbrev pub is_set : List (List ℕ) → List ℕ → Bool
 is_set words name = is_true (said words name)
 
+-- whether the words say how many threads there are, and not that they stand in the place of workers
+abbrev pub lacks_plain : List (List ℕ) → Bool
+lacks_plain words = is_some (said words (codes "threads")) && not (is_set words (codes "plain"))
+
+-- what is wrong with the words, or that they ask for the help: nothing where the program takes them. Words that are right
+-- one by one are wrong where `--plain` lacks
+abbrev pub refusals : List (List ℕ) → Kinds
+refusals words = or_else (fault_of program words) (if lacks_plain words then MissingRequiredArgument ∷ [] else [])
+
 -- ---- why words ask for nothing
 
 -- what the program makes of an error of its words: want of memory is its own case, and every other stays as it is
@@ -97,10 +109,15 @@ abbrev pub IsCauseOf : Error → OptionsFault → Type 0
 IsCauseOf error (Usage same) = (kind_of error ≢ OutOfMemory) × (same ≡ error)
 IsCauseOf error Memory = kind_of error ≡ OutOfMemory
 
+-- P of the error of words, where the fault has one
+abbrev pub IsUsage : OptionsFault → (Error → Type 0) → Type 0
+IsUsage (Usage error) P = P error
+IsUsage Memory P = ⊤
+
 -- P of the error of words that aren't taken
 abbrev pub OnUsage : {T : Type 0} → Result T OptionsFault → (Error → Type 0) → Type 0
-OnUsage (Err (Usage error)) P = P error
-OnUsage other P = ⊤
+OnUsage (Ok taken) P = ⊤
+OnUsage (Err fault) P = IsUsage fault P
 
 -- words of this kind are wrong: they ask neither for the help nor for the version
 abbrev pub IsMistake : ErrorKind → Type 0
@@ -118,6 +135,7 @@ pub record IsOwnArg (a : Arg) : Type 0 where
   pub local : a.global ≡ false
   pub workers : TakesFrom (codes "workers") 0 MAX_WORKERS a
   pub shards : TakesFrom (codes "shards") 1 MAX_SHARDS a
+  pub threads : TakesFrom (codes "threads") 1 MAX_THREADS a
 
 -- a command with such arguments alone
 pub record IsOwn (c : Command) : Type 0 where
@@ -125,10 +143,11 @@ pub record IsOwn (c : Command) : Type 0 where
   pub local : (out-Command c).has_globals ≡ false
   pub workers : All (TakesFrom (codes "workers") 0 MAX_WORKERS) (args_of c)
   pub shards : All (TakesFrom (codes "shards") 1 MAX_SHARDS) (args_of c)
+  pub threads : All (TakesFrom (codes "threads") 1 MAX_THREADS) (args_of c)
 
 -- a name of an argument that takes no number
 abbrev pub IsOtherName : List ℕ → Type 0
-IsOtherName name = ¬ (name ≡ codes "workers") × ¬ (name ≡ codes "shards")
+IsOtherName name = ¬ (name ≡ codes "workers") × ¬ (name ≡ codes "shards") × ¬ (name ≡ codes "threads")
 
 -- what was found under this name, if anything, is a number from low to high
 abbrev pub HoldsFrom : ArgMatches → List ℕ → ℕ → ℕ → Type 0

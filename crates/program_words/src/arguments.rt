@@ -1,14 +1,15 @@
 //! The words of the command line.
-ghost use Rattle.std.specs.Prelude.{◌≡◌, ◌≢◌, ◌<◌, ◌≤◌, ℕ, ◌^◌, [], map, option_map, Some, IfOk, OnOk, codes};
+ghost use Rattle.std.specs.Prelude.{◌≡◌, ◌≢◌, ◌<◌, ◌≤◌, ℕ, ◌^◌, [], not, ◌&&◌, is_some, map, option_map, Some, IfOk, OnOk, codes};
 ghost use Rattle.std.specs.String.{string_bytes};
-ghost use Rattle.clap.specs.Words.{IsAmong, app_of, first_value, found_of, kind_of, one_text, rule_of, with_rule};
-ghost use Rattle.clap.specs.declared.error.kind.ErrorKind.TheVariants.{OutOfMemory};
-ghost use Rattle.program_words.specs.Arguments.{program, number_rule, flag_rule, word_rule, refusals, given, file_named, number_of, is_true, is_set, OnUsage};
+ghost use Rattle.clap.specs.Words.{IsAmong, app_of, fault_of, first_value, found_of, kind_of, one_text, rule_of, with_rule};
+ghost use Rattle.clap.specs.declared.error.kind.ErrorKind.TheVariants.{MissingRequiredArgument, OutOfMemory};
+ghost use Rattle.program_words.specs.Arguments.{program, number_rule, default_rule, flag_rule, word_rule, refusals, given, file_named, number_of, is_true, is_set, OnUsage};
 ghost use Rattle.program_words.specs.Arguments.{file_of as the_file_of};
-ghost use Rattle.program_words.specs.Arguments.{IsOwn, IsOwnArg, IsOtherName, HoldsFrom};
+ghost use Rattle.program_words.specs.Arguments.{IsOwn, IsOwnArg, IsOtherName, HoldsFrom, IsUsage, lacks_plain};
 
-use crate::chosen::{Options, OptionsFault};
+use crate::chosen::{MAX_THREADS, Options, OptionsFault};
 use crate::version::RELEASE;
+use clap::error::ErrorKind;
 use clap::{Arg, ArgAction, ArgMatches, Command};
 use limits::{MAX_SHARDS, MAX_WORKERS};
 use std::alloc::{Alloc, AllocError, Global};
@@ -17,6 +18,8 @@ use std::env::{self, Env};
 use std::io;
 
 const ABOUT: &str = "Computes the minimum spanning forest of a graph in the .gr format.";
+
+const THREADS_ALONE: &str = "--threads needs --plain";
 
 const BEHIND_THE_HELP: &str = "Exit status:
   0  Done
@@ -36,7 +39,7 @@ Examples:
 
 fn workers_arg<'a>(alloc: Global) -> Arg<'a>
     ensures own { IsOwnArg result }
-    ensures rule { rule_of result ≡ number_rule (codes "workers") (codes "2") 0 MAX_WORKERS }
+    ensures rule { rule_of result ≡ default_rule (codes "workers") (codes "2") 0 MAX_WORKERS }
 {
     Arg::new(alloc, "workers")
         .long("workers")
@@ -48,7 +51,7 @@ fn workers_arg<'a>(alloc: Global) -> Arg<'a>
 
 fn shards_arg<'a>(alloc: Global) -> Arg<'a>
     ensures own { IsOwnArg result }
-    ensures rule { rule_of result ≡ number_rule (codes "shards") (codes "64") 1 MAX_SHARDS }
+    ensures rule { rule_of result ≡ default_rule (codes "shards") (codes "64") 1 MAX_SHARDS }
 {
     Arg::new(alloc, "shards")
         .long("shards")
@@ -56,6 +59,17 @@ fn shards_arg<'a>(alloc: Global) -> Arg<'a>
         .help("How many shards the links are cut into: 1 to 4096")
         .default_value("64")
         .value_parser(clap::value_parser!(u32).range(1..=MAX_SHARDS as i64))
+}
+
+fn threads_arg<'a>(alloc: Global) -> Arg<'a>
+    ensures own { IsOwnArg result }
+    ensures rule { rule_of result ≡ number_rule (codes "threads") 1 MAX_THREADS }
+{
+    Arg::new(alloc, "threads")
+        .long("threads")
+        .value_name("N")
+        .help("With --plain, up to how many threads solve: 1 to 64 [default: 1]")
+        .value_parser(clap::value_parser!(u32).range(1..=MAX_THREADS as i64))
 }
 
 fn flag<'a>(alloc: Global, name: &'a str, help: &'a str) -> Arg<'a>
@@ -100,8 +114,9 @@ fn the_command<'a>(alloc: Global) -> Result<Command<'a>, AllocError>
     command = with(command, shards_arg(alloc))?;
     command = with(
         command,
-        flag(alloc, "plain", "Solve in one thread, without workers"),
+        flag(alloc, "plain", "Solve without workers, in one thread"),
     )?;
+    command = with(command, threads_arg(alloc))?;
     command = with(
         command,
         flag(alloc, "report", "Print what the run did to standard error"),
@@ -129,6 +144,27 @@ fn is_set(matches: &ArgMatches<'_>, name: &str) -> bool
     }
 }
 
+// Whether threads are asked for, and not that they stand in the place of workers.
+fn is_alone(matches: &ArgMatches<'_>) -> bool
+    ensures { result ≡ is_some (first_value (found_of matches.now) (codes "threads"))
+        && not (is_true (first_value (found_of matches.now) (codes "plain"))) }
+{
+    matches.get_str("threads").is_some() && !is_set(matches, "plain")
+}
+
+// What is answered where threads are asked for without `--plain`.
+fn threads_alone(alloc: Global) -> OptionsFault
+    ensures { IsUsage result (λ error. kind_of error ≡ MissingRequiredArgument) }
+{
+    match the_command(alloc) {
+        Ok(mut command) => match command.error(ErrorKind::MissingRequiredArgument, THREADS_ALONE) {
+            Ok(error) => OptionsFault::Usage(error),
+            Err(AllocError) => OptionsFault::Memory,
+        },
+        Err(AllocError) => OptionsFault::Memory,
+    }
+}
+
 // The file of a name: `-` is none, but standard input.
 fn file_of(alloc: Global, name: &str) -> Result<Option<String>, AllocError>
     ensures { IfOk result (λ file. option_map string_bytes file ≡ the_file_of (Some name.now)) }
@@ -148,11 +184,56 @@ pub fn all_words<R: Env + Alloc<A = Global>>(rt: &R) -> io::Result<Vec<String>> 
     Ok(words)
 }
 
+// What the words ask for, each for itself, and whether they ask for threads alone.
+fn options_of<'a, S: AsStr>(alloc: Global, words: &'a [S]) -> Result<(Options, bool), OptionsFault>
+    ensures lawful { OnOk result (fault_of program (map S.text words.entry.now) ≡ []) }
+    ensures lacks { IfOk result (λ o. o.1 ≡ lacks_plain (map S.text words.entry.now)) }
+    ensures workers { IfOk result (λ o.
+        o.0.workers ≡ number_of (given (map S.text words.entry.now) (codes "workers")) 2) }
+    ensures shards { IfOk result (λ o.
+        o.0.shards ≡ number_of (given (map S.text words.entry.now) (codes "shards")) 64) }
+    ensures plain { IfOk result (λ o.
+        o.0.plain ≡ is_set (map S.text words.entry.now) (codes "plain")) }
+    ensures threads { IfOk result (λ o.
+        o.0.threads ≡ number_of (given (map S.text words.entry.now) (codes "threads")) 1) }
+    ensures report { IfOk result (λ o.
+        o.0.report ≡ is_set (map S.text words.entry.now) (codes "report")) }
+    ensures file { IfOk result (λ o.
+        option_map string_bytes o.0.file ≡ file_named (map S.text words.entry.now)) }
+    ensures few_workers { IfOk result (λ o. o.0.workers ≤ MAX_WORKERS) }
+    ensures some_shards { IfOk result (λ o. 1 ≤ o.0.shards) }
+    ensures few_shards { IfOk result (λ o. o.0.shards ≤ MAX_SHARDS) }
+    ensures some_threads { IfOk result (λ o. 1 ≤ o.0.threads) }
+    ensures few_threads { IfOk result (λ o. o.0.threads ≤ MAX_THREADS) }
+    ensures refused { OnUsage result (λ error.
+        IsAmong (kind_of error) (fault_of program (map S.text words.entry.now))) }
+    ensures memory { OnUsage result (λ error. kind_of error ≢ OutOfMemory) }
+{
+    let command = the_command(alloc)?;
+    let matches = command.try_get_matches_from(words)?;
+    let workers = number(&matches, "workers", 2);
+    let shards = number(&matches, "shards", 64);
+    let threads = number(&matches, "threads", 1);
+    let file = match matches.get_str("file") {
+        Some(name) => file_of(alloc, name)?,
+        None => None,
+    };
+    let chosen = Options {
+        workers,
+        shards,
+        plain: is_set(&matches, "plain"),
+        threads,
+        report: is_set(&matches, "report"),
+        file,
+    };
+    Ok((chosen, is_alone(&matches)))
+}
+
 /// What the words ask for, the program's name first.
 ///
-/// Words that the program doesn't take, those that ask for the help or the version, and numbers past their ranges are
-/// `Usage`. A FILE of the name `-` is none. What each word means is clap's to say; it is asked for the arguments above. In time and
-/// memory linear in the words.
+/// Words that the program doesn't take, those that ask for the help or the version, numbers past their ranges, and threads
+/// without `--plain` are `Usage`. A FILE of the name `-` is none. What each word means is clap's to say; it is asked for the
+/// arguments above. In time and memory linear in the words.
 pub fn options<'a, S: AsStr>(alloc: Global, words: &'a [S]) -> Result<Options, OptionsFault>
     // Words are taken only where nothing is wrong with them, and each sets what it names.
     ensures lawful { OnOk result (refusals (map S.text words.entry.now) ≡ []) }
@@ -162,6 +243,8 @@ pub fn options<'a, S: AsStr>(alloc: Global, words: &'a [S]) -> Result<Options, O
         o.shards ≡ number_of (given (map S.text words.entry.now) (codes "shards")) 64) }
     ensures plain { IfOk result (λ o.
         o.plain ≡ is_set (map S.text words.entry.now) (codes "plain")) }
+    ensures threads { IfOk result (λ o.
+        o.threads ≡ number_of (given (map S.text words.entry.now) (codes "threads")) 1) }
     ensures report { IfOk result (λ o.
         o.report ≡ is_set (map S.text words.entry.now) (codes "report")) }
     ensures file { IfOk result (λ o.
@@ -171,25 +254,20 @@ pub fn options<'a, S: AsStr>(alloc: Global, words: &'a [S]) -> Result<Options, O
     ensures few_workers { IfOk result (λ o. o.workers ≤ MAX_WORKERS) }
     ensures some_shards { IfOk result (λ o. 1 ≤ o.shards) }
     ensures few_shards { IfOk result (λ o. o.shards ≤ MAX_SHARDS) }
+    ensures some_threads { IfOk result (λ o. 1 ≤ o.threads) }
+    ensures few_threads { IfOk result (λ o. o.threads ≤ MAX_THREADS) }
 
     // What is refused is refused for what is wrong with it; want of memory is answered as such.
     ensures refused { OnUsage result (λ error.
         IsAmong (kind_of error) (refusals (map S.text words.entry.now))) }
     ensures memory { OnUsage result (λ error. kind_of error ≢ OutOfMemory) }
 {
-    let command = the_command(alloc)?;
-    let matches = command.try_get_matches_from(words)?;
-    let workers = number(&matches, "workers", 2);
-    let shards = number(&matches, "shards", 64);
-    let file = match matches.get_str("file") {
-        Some(name) => file_of(alloc, name)?,
-        None => None,
+    let (chosen, lacks) = match options_of(alloc, words) {
+        Ok(found) => found,
+        Err(fault) => return Err(fault),
     };
-    Ok(Options {
-        workers,
-        shards,
-        plain: is_set(&matches, "plain"),
-        report: is_set(&matches, "report"),
-        file,
-    })
+    if lacks {
+        return Err(threads_alone(alloc));
+    }
+    Ok(chosen)
 }

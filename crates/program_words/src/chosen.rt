@@ -4,6 +4,9 @@ ghost use Rattle.program_words.specs.Arguments.{IsCauseOf};
 use clap::error::ErrorKind;
 use std::alloc::AllocError;
 
+/// The greatest number of threads that words can ask for.
+pub const MAX_THREADS: u32 = 64;
+
 /// What the words ask for.
 #[derive(Debug, Drop)]
 pub struct Options {
@@ -11,8 +14,10 @@ pub struct Options {
     pub workers: u32,
     /// How many shards the links are cut into: 1 to 4,096.
     pub shards: u32,
-    /// Whether the forest is found by one thread.
+    /// Whether the forest is found without workers.
     pub plain: bool,
+    /// By how many threads it is found then, at the most: 1 to 64.
+    pub threads: u32,
     /// Whether the report goes to standard error.
     pub report: bool,
     /// The file that is read; standard input where there is none.

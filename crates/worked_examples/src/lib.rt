@@ -8,7 +8,8 @@
 //!   drawn_lists     the solver beside a simple program, over drawn lists
 //!   drawn_texts     `.gr` texts in pieces and byte by byte, over drawn texts
 //!   reading         `.gr` texts, their faults, pieces and limits
-//!   by_threads      files read by threads, over drawn texts, with each fault, and memory that is refused
+//!   reading_by_threads  files read by threads, over drawn texts, with each fault, and memory that is refused
+//!   runs_by_threads     forests' texts and whole runs by threads
 //!   writing         forest texts, how a sink is called, and how much of a text went out
 //!   plain_runs      a file, and a forest's own text, to its forest text
 //!   again           a forest's text, run again: the premise of that promise is met

@@ -1,4 +1,3 @@
-mod by_threads;
 mod components;
 mod drawn_lists;
 mod drawn_texts;
@@ -7,6 +6,8 @@ mod lists;
 mod memory_of_graphs;
 mod plain_runs;
 mod reading;
+mod reading_by_threads;
+mod runs_by_threads;
 mod same;
 mod sizes;
 mod totals;

@@ -16,6 +16,7 @@
 //!   runs              whole runs
 //!   lost_lines        whole runs that go on without a worker that finds no memory
 //!   goes_on           sessions behind an ask without memory, rounds behind a refused answer
+//!   by_threads        a forest's text, and a run, by threads
 //!   devices           a reader and a writer of std, by each kind of failure
 //!   streams           a source and a sink, one of which fails at a byte
 //!   files, sessions   such streams, at each byte: of a run, and of a worker's session

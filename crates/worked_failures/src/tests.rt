@@ -1,4 +1,5 @@
 mod asks_again;
+mod by_threads;
 mod devices;
 mod files;
 mod frame_texts;

@@ -36,14 +36,14 @@ fn put_path(rt: &impl Abort, arcs: &mut Vec<Row>, n: u32) {
     }
 }
 
-fn path(rt: &impl Abort, alloc: Global, n: u32) -> Vec<Row> {
+pub(crate) fn path(rt: &impl Abort, alloc: Global, n: u32) -> Vec<Row> {
     let mut arcs = Vec::new(alloc);
     put_path(rt, &mut arcs, n);
     arcs
 }
 
 // The path as a file, which is also its forest's text.
-fn path_text(rt: &impl Abort, alloc: Global, n: u32, arcs: &[Row]) -> Vec<u8> {
+pub(crate) fn path_text(rt: &impl Abort, alloc: Global, n: u32, arcs: &[Row]) -> Vec<u8> {
     let first = format!(in alloc; "p sp {n} {}\n", arcs.len()).expect(rt, "memory");
     let mut text = Vec::from_slice(alloc, first.as_bytes()).expect(rt, "memory");
     for (u, v, w) in arcs {

@@ -5,22 +5,22 @@ use Rattle.boruvka.proofs.command.run_on.Goals as goal
 pub returns-then-chosen-clause-ends : goal.returns-then-chosen-clause-ends
 returns-then-chosen-clause-ends g c = as_plain _ _ _ _ _ c.if-chosen.true
     (record {
-      result = c.run_plain-ended.result;
+      result = c.run_here-ended.result;
       status_is = c.write_end.ensures.status;
-      ran = c.run_plain-ended.ensures.ran;
+      ran = c.run_here-ended.ensures.ran;
       reported = c.write_end.ensures.reported;
-      malformed = c.run_plain-ended.ensures.malformed;
-      lawful = c.run_plain-ended.ensures.lawful;
+      malformed = c.run_here-ended.ensures.malformed;
+      lawful = c.run_here-ended.ensures.lawful;
     })
 
 pub returns-then-chosen-clause-plain_status : goal.returns-then-chosen-clause-plain_status
-returns-then-chosen-clause-plain_status g c = λ plain. plain_bound c.run_plain-ended.result _ _ _ _ _ c.write_end.ensures.status c.run_plain-ended.ensures.ran
+returns-then-chosen-clause-plain_status g c = λ plain. plain_bound c.run_here-ended.result _ _ _ _ _ c.write_end.ensures.status c.run_here-ended.ensures.ran
 
 pub returns-then-chosen-clause-silent : goal.returns-then-chosen-clause-silent
-returns-then-chosen-clause-silent g c = λ silent. silent_plainly c.run_plain-ended.result _ _ _ _ _ c.write_end.ensures.status c.run_plain-ended.ensures.ran silent
+returns-then-chosen-clause-silent g c = λ silent. silent_plainly c.run_here-ended.result _ _ _ _ _ c.write_end.ensures.status c.run_here-ended.ensures.ran silent
 
 pub returns-then-chosen-clause-flushed : goal.returns-then-chosen-clause-flushed
-returns-then-chosen-clause-flushed g c = flushed_at_end c.run_plain-ended.result _ _ c.write_end.ensures.status c.run_plain-ended.ensures.flushed
+returns-then-chosen-clause-flushed g c = flushed_at_end c.run_here-ended.result _ _ c.write_end.ensures.status c.run_here-ended.ensures.flushed
 
 pub returns-in_default-clause-ends : goal.returns-in_default-clause-ends
 returns-in_default-clause-ends g c = as_over _ _ _ _ _ c.if-chosen.false (wants_memory_over _ _ _ _ _ _ _ c.write_fault.ensures)

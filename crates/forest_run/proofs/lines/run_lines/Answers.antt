@@ -68,24 +68,24 @@ returns-in-Err-solve_lines-clause-malformed g c = λ bytes file nothing. absurd 
 
 -- ---- a forest is found
 
-pub returns-in-Ok-write_forest-clause-ran : goal.returns-in-Ok-write_forest-clause-ran
-returns-in-Ok-write_forest-clause-ran g c =
+pub returns-in-Ok-write_forest_par-clause-ran : goal.returns-in-Ok-write_forest_par-clause-ran
+returns-in-Ok-write_forest_par-clause-ran g c =
     let solved = c.in-Ok-solve_lines.solved in
     let went : RunsOverLines g.row.A.Denot g.L.Line c.args.cutting c.args.lines.items solved.2.items c.in-Ok.graph solved.0 solved.1 =
     lines_went g.L.Line c.args.cutting c.in-Ok.graph c.in-Ok-cut_links.cut (rw c.links.ensures.links at c.in-Ok-cut_links.ensures.cut) c.args.lines.items solved.2.items solved.0 solved.1
     (rw c.n.ensures.vertices at c.in-Ok-solve_lines.ensures.went) in
-    done IsSpanning _ c.in-Ok.graph solved.0 c.n-2.result _ _ _ _ c.in-Ok.ensures.outcome (spanning _ _ _ _ _ _ _ went) c.n-2.ensures.vertices c.in-Ok-write_forest.ensures.whole went
+    done IsSpanning _ c.in-Ok.graph solved.0 c.n-2.result _ _ _ _ c.in-Ok.ensures.outcome (spanning _ _ _ _ _ _ _ went) c.n-2.ensures.vertices c.in-Ok-write_forest_par.ensures.whole went
 
-pub returns-in-Ok-write_forest-clause-served : goal.returns-in-Ok-write_forest-clause-served
-returns-in-Ok-write_forest-clause-served g c = λ served.
+pub returns-in-Ok-write_forest_par-clause-served : goal.returns-in-Ok-write_forest_par-clause-served
+returns-in-Ok-write_forest_par-clause-served g c = λ served.
     let solved = c.in-Ok-solve_lines.solved in
     let went : RunsOverLines g.row.A.Denot g.L.Line c.args.cutting c.args.lines.items solved.2.items c.in-Ok.graph solved.0 solved.1 =
     lines_went g.L.Line c.args.cutting c.in-Ok.graph c.in-Ok-cut_links.cut (rw c.links.ensures.links at c.in-Ok-cut_links.ensures.cut) c.args.lines.items solved.2.items solved.0 solved.1
     (rw c.n.ensures.vertices at c.in-Ok-solve_lines.ensures.went) in
-    done IsLeast _ c.in-Ok.graph solved.0 c.n-2.result _ _ _ _ c.in-Ok.ensures.outcome (went.least served).0 c.n-2.ensures.vertices c.in-Ok-write_forest.ensures.whole (served_report _ _ _ _ _ _ _ went served)
+    done IsLeast _ c.in-Ok.graph solved.0 c.n-2.result _ _ _ _ c.in-Ok.ensures.outcome (went.least served).0 c.n-2.ensures.vertices c.in-Ok-write_forest_par.ensures.whole (served_report _ _ _ _ _ _ _ went served)
 
-pub returns-in-Ok-write_forest-clause-malformed : goal.returns-in-Ok-write_forest-clause-malformed
-returns-in-Ok-write_forest-clause-malformed g c = λ bytes file nothing. absurd (something_of_file _ _ _ c.in-Ok.ensures.outcome bytes file nothing)
+pub returns-in-Ok-write_forest_par-clause-malformed : goal.returns-in-Ok-write_forest_par-clause-malformed
+returns-in-Ok-write_forest_par-clause-malformed g c = λ bytes file nothing. absurd (something_of_file _ _ _ c.in-Ok.ensures.outcome bytes file nothing)
 
 -- ---- and not all of its text went out
 
@@ -97,7 +97,7 @@ returns-clause-ran g c =
     (rw c.n.ensures.vertices at c.in-Ok-solve_lines.ensures.went) in
     let found = spanning _ _ _ _ _ _ _ went in
     lines_broken_off g.L.Line c.args.cutting c.in-Ok.graph c.args.lines.items solved.0 solved.1 solved.2 _ c.n-2.result _ _ _ _ c.in-Ok.ensures.outcome found (few_enough _ _ (few_links _ _ _ _ _ _ _ went) c.links.ensures.few)
-    c.n-2.ensures.vertices c.in-Err-write_forest.ensures.part went
+    c.n-2.ensures.vertices c.in-Err-write_forest_par.ensures.part went
 
 pub returns-clause-served : goal.returns-clause-served
 returns-clause-served g c = λ served.
@@ -106,10 +106,10 @@ returns-clause-served g c = λ served.
     lines_went g.L.Line c.args.cutting c.in-Ok.graph c.in-Ok-cut_links.cut (rw c.links.ensures.links at c.in-Ok-cut_links.ensures.cut) c.args.lines.items solved.2.items solved.0 solved.1
     (rw c.n.ensures.vertices at c.in-Ok-solve_lines.ensures.went) in
     served_broken_off c.args.cutting c.in-Ok.graph solved.0 solved.1 solved.2 _ c.n-2.result _ _ _ _ c.in-Ok.ensures.outcome (went.least served).0 (few_enough _ _ (few_links _ _ _ _ _ _ _ went) c.links.ensures.few)
-    c.n-2.ensures.vertices c.in-Err-write_forest.ensures.part (served_report _ _ _ _ _ _ _ went served)
+    c.n-2.ensures.vertices c.in-Err-write_forest_par.ensures.part (served_report _ _ _ _ _ _ _ went served)
 
 pub returns-clause-malformed : goal.returns-clause-malformed
 returns-clause-malformed g c = λ bytes file nothing. absurd (something_of_file _ _ _ c.in-Ok.ensures.outcome bytes file nothing)
 
 pub returns-clause-ends_well : goal.returns-clause-ends_well
-returns-clause-ends_well g c = λ served it. had_setback _ _ _ _ c.in-Err-write_forest.ensures.part
+returns-clause-ends_well g c = λ served it. had_setback _ _ _ _ c.in-Err-write_forest_par.ensures.part

@@ -1,54 +1,16 @@
-use Rattle.std.specs.String.{string_bytes}
-use Rattle.std.proofs.Common.{rules, ap, option_map, arith, sym, ◌∙◌, ℕ, List, Option, Ok}
-use Rattle.program_words.specs.Arguments.{number_of, is_true, file_of}
-use Rattle.program_words.proofs.WordMeanings.{workers_hold, shards_hold, given_is, said_is, fails_by_words}
+use Rattle.std.proofs.Common.{map}
+use Rattle.program_words.proofs.WordMeanings.{refused_first, taken_whole, refused_alone, alone_is_no_memory}
 use Rattle.program_words.proofs.arguments.options.Goals as goal
-use Rattle.program_words.proofs.arguments.options.Goals.{in-Some+in_ok-file-in-Some, in-None}
+
+pub returns-in-Err-clause-refused : goal.returns-in-Err-clause-refused
+returns-in-Err-clause-refused g c = refused_first (map g.S.AsStr.text c.args.words.now) c.in-Err.fault c.in-Err.ensures.refused
+
+pub returns-then-lacks-clause-refused : goal.returns-then-lacks-clause-refused
+returns-then-lacks-clause-refused g c =
+    refused_alone (map g.S.AsStr.text c.args.words.now) _ c.threads_alone.result c.in-Ok.ensures.lawful c.in-Ok.ensures.lacks c.if-lacks.true c.threads_alone.ensures
+
+pub returns-then-lacks-clause-memory : goal.returns-then-lacks-clause-memory
+returns-then-lacks-clause-memory g c = alone_is_no_memory c.threads_alone.result c.threads_alone.ensures
 
 pub returns-clause-lawful : goal.returns-clause-lawful
-returns-clause-lawful g c = fails_by_words _ _ (Ok c.in_ok-matches.matches) c.in_ok-command.ensures.app c.in_ok-matches.ensures.kinds
-
-pub returns-clause-workers : goal.returns-clause-workers
-returns-clause-workers g c =
-    let held = workers_hold _ _ c.in_ok-command.ensures.own c.in_ok-matches.ensures.parsed in
-    c.number-workers.ensures.value 0 64 (search rules) (omega arith)
-    ∙ ap (λ (t : Option (List ℕ)). number_of t 2) (given_is _ _ _ _ c.in_ok-command.ensures.app c.in_ok-matches.ensures.matches)
-
-pub returns-clause-shards : goal.returns-clause-shards
-returns-clause-shards g c =
-    let held = shards_hold _ _ c.in_ok-command.ensures.own c.in_ok-matches.ensures.parsed in
-    c.number-shards.ensures.value 1 4096 (search rules) (omega arith)
-    ∙ ap (λ (t : Option (List ℕ)). number_of t 64) (given_is _ _ _ _ c.in_ok-command.ensures.app c.in_ok-matches.ensures.matches)
-
-pub returns-clause-plain : goal.returns-clause-plain
-returns-clause-plain g c =
-    c.is_set.ensures ∙ ap is_true (said_is _ _ _ _ c.in_ok-command.ensures.app c.in_ok-matches.ensures.matches)
-
-pub returns-clause-report : goal.returns-clause-report
-returns-clause-report g c =
-    c.is_set-2.ensures ∙ ap is_true (said_is _ _ _ _ c.in_ok-command.ensures.app c.in_ok-matches.ensures.matches)
-
-pub returns-clause-file : goal.returns-clause-file
-returns-clause-file g c =
-    let read = c.get_str.ensures ∙ said_is _ _ _ _ c.in_ok-command.ensures.app c.in_ok-matches.ensures.matches in
-    elim c.match-get_str.branch [
-      | in-Some+in_ok-file-in-Some w ↦
-          ap (option_map string_bytes) w.file-is
-          ∙ (w.in_ok-file-in-Some.ensures ∙ ap file_of (sym (ap (option_map (λ s. s.now)) w.in-Some.is) ∙ read))
-      | in-None w ↦ ap (option_map string_bytes) w.file-is ∙ ap file_of (sym (ap (option_map (λ s. s.now)) w.in-None.is) ∙ read)
-    ]
-
-pub returns-clause-few_workers : goal.returns-clause-few_workers
-returns-clause-few_workers g c =
-    let held = workers_hold _ _ c.in_ok-command.ensures.own c.in_ok-matches.ensures.parsed in
-    (c.number-workers.ensures.range 0 64 (search rules) (omega arith) (omega arith) (omega arith)).1
-
-pub returns-clause-some_shards : goal.returns-clause-some_shards
-returns-clause-some_shards g c =
-    let held = shards_hold _ _ c.in_ok-command.ensures.own c.in_ok-matches.ensures.parsed in
-    (c.number-shards.ensures.range 1 4096 (search rules) (omega arith) (omega arith) (omega arith)).0
-
-pub returns-clause-few_shards : goal.returns-clause-few_shards
-returns-clause-few_shards g c =
-    let held = shards_hold _ _ c.in_ok-command.ensures.own c.in_ok-matches.ensures.parsed in
-    (c.number-shards.ensures.range 1 4096 (search rules) (omega arith) (omega arith) (omega arith)).1
+returns-clause-lawful g c = taken_whole (map g.S.AsStr.text c.args.words.now) _ c.in-Ok.ensures.lawful c.in-Ok.ensures.lacks c.if-lacks.false

@@ -12,5 +12,6 @@ returns-clause-app c =
     let one = c.in_ok-command.ensures.app ∙ ap₂ with_rule empty c.workers_arg.ensures.rule in
     let two = c.in_ok-command-2.ensures.app ∙ ap₂ with_rule one c.shards_arg.ensures.rule in
     let three = c.in_ok-command-3.ensures.app ∙ ap₂ with_rule two c.flag.ensures.rule in
-    let four = c.in_ok-command-4.ensures.app ∙ ap₂ with_rule three c.flag-2.ensures.rule in
-    IfOk-weaker c.with-5.result _ _ (λ r is. is ∙ ap₂ with_rule four c.file_arg.ensures.rule) c.with-5.ensures.app
+    let four = c.in_ok-command-4.ensures.app ∙ ap₂ with_rule three c.threads_arg.ensures.rule in
+    let five = c.in_ok-command-5.ensures.app ∙ ap₂ with_rule four c.flag-2.ensures.rule in
+    IfOk-weaker c.with-6.result _ _ (λ r is. is ∙ ap₂ with_rule five c.file_arg.ensures.rule) c.with-6.ensures.app
