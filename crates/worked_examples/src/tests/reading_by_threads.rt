@@ -156,9 +156,9 @@ fn fault(line: u64, kind: GrKind) -> ReadFault {
     ReadFault::Gr(GrFault { line, kind })
 }
 
-// Lines of one length, so that the place of each is known; in one of them a byte is another.
-fn even_lines(rt: &impl Abort, alloc: Global, count: u32) -> Vec<u8> {
-    let first = format!(in alloc; "p sp 99 {count:08}\n").expect(rt, "memory");
+// A problem line that states so many arc lines, and so many of these, all of one length, so that the place of each is known.
+fn even_lines(rt: &impl Abort, alloc: Global, stated: u32, count: u32) -> Vec<u8> {
+    let first = format!(in alloc; "p sp 99 {stated:08}\n").expect(rt, "memory");
     let mut text = Vec::from_slice(alloc, first.as_bytes()).expect(rt, "memory");
     for _ in 0..count {
         text.extend_from_slice(b"a 11 12 123456789\n")
@@ -178,7 +178,7 @@ fn tells_the_first_fault(rt: HostRuntime) {
         (b"a 00", GrKind::EndOutOfRange),
         (b"a 11 00", GrKind::EndOutOfRange),
     ];
-    let whole = even_lines(&rt, rt.alloc(), count);
+    let whole = even_lines(&rt, rt.alloc(), count, count);
     for place in [1u32, 4_000, 4_001, 4_002, 12_000] {
         for (bytes, kind) in rows {
             let mut text = whole.clone().expect(&rt, "memory");
@@ -206,17 +206,12 @@ fn tells_the_first_fault(rt: HostRuntime) {
 // One arc line more than are stated, one less, a weight past the range in the middle, and no problem line.
 #[test]
 fn tells_what_is_wrong_with_the_whole(rt: HostRuntime) {
-    let mut text = even_lines(&rt, rt.alloc(), 20_000);
-    text.extend_from_slice(b"a 1 2 3\n").expect(&rt, "memory");
-    expect_fault(&rt, rt.alloc(), &text, fault(20_002, GrKind::TooManyArcs));
-    let lines = text.len().wrapping_sub(26);
-    expect_fault(
-        &rt,
-        rt.alloc(),
-        &text[..lines],
-        fault(20_001, GrKind::MissingArcs),
-    );
-    expect_fault(&rt, rt.alloc(), &text[17..], fault(1, GrKind::NoProblemYet));
+    let text = even_lines(&rt, rt.alloc(), 19_999, 20_000);
+    expect_fault(&rt, rt.alloc(), &text, fault(20_001, GrKind::TooManyArcs));
+    let text = even_lines(&rt, rt.alloc(), 20_001, 20_000);
+    expect_fault(&rt, rt.alloc(), &text, fault(20_002, GrKind::MissingArcs));
+    let arcs = text.get(17..).expect(&rt, "arc lines");
+    expect_fault(&rt, rt.alloc(), arcs, fault(1, GrKind::NoProblemYet));
     let mut drawn = Drawn::begun(&rt, rt.alloc(), LINES);
     drawn.put_arcs(&rt, rt.alloc(), LINES / 2, "\n");
     drawn.put(&rt, b"a 1 2 9223372036854775808\n");
@@ -233,7 +228,7 @@ fn tells_what_is_wrong_with_the_whole(rt: HostRuntime) {
 #[test]
 fn tells_where_a_read_failed(rt: HostRuntime) {
     for threads in THREADS {
-        let text = even_lines(&rt, rt.alloc(), 20_000);
+        let text = even_lines(&rt, rt.alloc(), 20_000, 20_000);
         let mut source = FusedSource::new(text, 17 + 18 * 9_000 + 5, 100_000);
         let found = read_graph_par(&rt, threads, rt.alloc(), &mut source).err();
         expect_same(&rt, found, Some(ReadFault::Source { line: 9_002 }));
@@ -244,7 +239,7 @@ fn tells_where_a_read_failed(rt: HostRuntime) {
 // on, where no memory is left for the links.
 #[test]
 fn goes_on_without_memory_to_spare(rt: HostRuntime) {
-    let text = even_lines(&rt, rt.alloc(), 20_000);
+    let text = even_lines(&rt, rt.alloc(), 20_000, 20_000);
     let memory = Refusing::new(rt.alloc(), Refusals::none());
     let whole = read_graph_par(&rt, 3, &memory, &mut text.as_slice()).map(|graph| graph.n());
     expect_same(&rt, whole, Ok(99));
