@@ -23,16 +23,8 @@ from browsing.page import Page
 from cases.running import CASES, Program, Skipped
 
 
-def main():
-    words = argparse.ArgumentParser(usage=__doc__.split("\n\n")[1].removeprefix("usage: "))
-    words.add_argument("--strict", action="store_true")
-    words.add_argument("--module", default=Page.module)
-    words.add_argument("--program", default=Program.path)
-    words.add_argument("--pictures")
-    words.add_argument("cases", nargs="*")
-    given = words.parse_args()
-    Page.module, Program.path, Page.pictures = os.path.realpath(given.module), os.path.realpath(given.program), given.pictures
-    chosen = [it for it in CASES if not given.cases or any(word in it.__name__ for word in given.cases)]
+def tried(chosen, strict):
+    """Tries these cases, and answers how many failed and how many were skipped."""
     failed = skipped = 0
     with tempfile.TemporaryDirectory(prefix="boruvka-web-") as folder:
         for number, function in enumerate(chosen):
@@ -44,11 +36,27 @@ def main():
                 told = function(room)
                 print(f"web: {name}: ok, {time.monotonic() - begun:.1f} s{f': {told}' if told else ''}", flush=True)
             except Skipped as why:
-                failed, skipped = failed + given.strict, skipped + (not given.strict)
+                failed, skipped = failed + strict, skipped + (not strict)
                 print(f"web: {name}: skipped: {why}", flush=True)
             except (AssertionError, OSError, subprocess.SubprocessError) as error:
                 failed += 1
                 print(f"web: {name}: FAILED: {error}", flush=True)
+    return failed, skipped
+
+
+def main():
+    words = argparse.ArgumentParser(usage=__doc__.split("\n\n")[1].removeprefix("usage: "))
+    words.add_argument("--strict", action="store_true")
+    words.add_argument("--module", default=Page.module)
+    words.add_argument("--program", default=Program.path)
+    words.add_argument("--pictures")
+    words.add_argument("cases", nargs="*")
+    given = words.parse_args()
+    Page.module, Program.path, Page.pictures = os.path.realpath(given.module), os.path.realpath(given.program), given.pictures
+    chosen = [it for it in CASES if not given.cases or any(word in it.__name__ for word in given.cases)]
+    try:
+        failed, skipped = tried(chosen, given.strict)
+    finally:
         Page.end()
     print(f"{len(chosen) - failed - skipped} passed, {failed} failed")
     return 1 if failed else 0

@@ -19,14 +19,14 @@ export class Refusal extends Error {
 const aligned = bytes => Math.ceil(bytes / 16) * 16;
 
 // An instance for one call. Its memory has what the module itself needs, two words that say where the call may work,
-// `room` bytes for arguments from `at` on, and the bytes to work in.
+// `room` bytes for arguments from `at` on, and `work` bytes to work in.
 class Call {
-  constructor(module, room) {
+  constructor(module, room, work) {
     this.exports = new WebAssembly.Instance(module).exports;
     this.words = aligned(Number(this.exports.__heap_base.value));
     this.at = this.words + 16;
     this.start = this.at + aligned(room);
-    this.give(0);
+    this.give(aligned(work));
   }
 
   get buffer() {
@@ -38,6 +38,7 @@ class Call {
     const pages = Math.ceil((this.start + work - this.buffer.byteLength) / PAGE);
     if (pages > 0) this.grow(pages);
     new BigUint64Array(this.buffer, this.words, 2).set([BigInt(this.start), BigInt(work)]);
+    this.work = work;
   }
 
   grow(pages) {
@@ -56,28 +57,27 @@ class Call {
     }
   }
 
-  // What a call answers that works in so many bytes, or in twice as many as long as it lacks memory. Then its arguments are
-  // as they were.
-  answer(work, call) {
-    for (let bytes = aligned(work); ; bytes *= 2) {
-      this.give(bytes);
+  // What a call answers, with twice as many bytes to work in as long as it lacks memory. Its arguments are then as before.
+  answer(call) {
+    for (;;) {
       const answer = call(this.exports, BigInt(this.words));
-      if (answer !== NO_MEMORY || bytes > MOST_WORK) return answer;
+      if (answer !== NO_MEMORY || this.work > MOST_WORK) return answer;
+      this.give(2 * this.work);
     }
   }
 }
 
 // The refusal of a code.
 function refusalOf(module, code, line = 0) {
-  const room = 32, call = new Call(module, room), length = call.exports.boruvka_fault_text_within(code, BigInt(call.at), BigInt(room));
+  const room = 32, call = new Call(module, room, 0), length = call.exports.boruvka_fault_text_within(code, BigInt(call.at), BigInt(room));
   return new Refusal(new TextDecoder().decode(new Uint8Array(call.buffer, call.at, Number(length))), line);
 }
 
 // The forest of links between the vertices 1 to n, lightest first, each with its lower end first.
 export function forestOfLinks(module, n, links) {
-  const call = new Call(module, links.byteLength), count = links.length / 4;
+  const count = links.length / 4, call = new Call(module, links.byteLength, PAGE + 26 * count + 10 * n);
   new Uint32Array(call.buffer, call.at, links.length).set(links);
-  const answer = call.answer(PAGE + 26 * count + 10 * n, ({ boruvka_forest_within: forest }, memory) => forest(memory, n, BigInt(call.at), BigInt(count)));
+  const answer = call.answer(({ boruvka_forest_within: forest }, memory) => forest(memory, n, BigInt(call.at), BigInt(count)));
   if (answer < 0n) throw refusalOf(module, answer);
   return new Uint32Array(call.buffer, call.at, 4 * Number(answer)).slice();
 }
@@ -85,9 +85,10 @@ export function forestOfLinks(module, n, links) {
 // The text of the forest of a .gr text, both as bytes. It is at most one byte longer: an LF at the end.
 export function forestOfText(module, text) {
   const room = text.length + 1, fault = aligned(text.length), into = fault + 16;
-  const call = new Call(module, into + room), [from, to, why] = [0, into, fault].map(it => BigInt(call.at + it));
+  const call = new Call(module, into + room, PAGE + 4 * text.length);
+  const [from, to, why] = [0, into, fault].map(it => BigInt(call.at + it));
   new Uint8Array(call.buffer, call.at, text.length).set(text);
-  const answer = call.answer(PAGE + 4 * text.length, ({ boruvka_forest_text_within: forest }, memory) =>
+  const answer = call.answer(({ boruvka_forest_text_within: forest }, memory) =>
     forest(memory, from, BigInt(text.length), to, BigInt(room), why));
   if (answer < 0n) throw refusalOf(module, answer, Number(new BigUint64Array(call.buffer, call.at + fault, 2)[1]));
   return new Uint8Array(call.buffer, call.at + into, Number(answer)).slice();

@@ -65,6 +65,8 @@ def forests_in_node(room):
         texts.append(drawn_graph(seed, n, draw.randint(0, 6 * n), draw.choice([0, 3, 10**6]))[0])
     ends = [-(2**63), -1, 0, 2**53 + 1, 2**63 - 1]
     texts += [file_of(9, [(draw.randint(1, 9), draw.randint(1, 9), draw.choice(ends)) for _ in range(40)]) for _ in range(10)]
+    # so many vertices in so short a text want more memory than is given at first
+    texts.append(file_of(10**6, [(1, 2, 3), (2, 10**6, 5)]))
     # past the size of each inner piece
     texts.append(drawn_graph(99, 70000, 300000, 10**9)[0])
     rows = [(*arcs_of(it), it) for it in texts]

@@ -27,7 +27,11 @@ for (const kind of ['input', 'change']) it.dispatchEvent(new Event(kind, { bubbl
 
 
 class Quiet(http.server.SimpleHTTPRequestHandler):
-    """Files of a folder, without a word about it."""
+    """Files of a folder, which the browser asks for each time, without a word about it."""
+
+    def end_headers(self):
+        self.send_header("Cache-Control", "no-store")
+        super().end_headers()
 
     def log_message(self, *_words):
         pass

@@ -43,13 +43,12 @@ def nothing_comes_from_elsewhere(_room):
 
 @case
 def the_packed_page_works_from_a_file(room):
-    packed = f"{room}/a folder/boruvka.html"
+    page = Page.opened()
+    before, packed = page.shown(), f"{room}/a folder/boruvka.html"
     for path in (packed, f"{room}/again.html"):
         subprocess.run([sys.executable, f"{ROOT}/tools/page.py", Page.module, path], check=True)
     with open(packed, "rb") as one, open(f"{room}/again.html", "rb") as other:
         is_so(one.read() == other.read(), True)
-    page = Page.opened()
-    before = page.shown()
     page.browser.open(f"file://{packed}")
     page.settle()
     is_so(page.shown(), before)
