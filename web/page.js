@@ -132,6 +132,16 @@ let solver;
 
 // ---- clusters
 
+// Two lists in this order, as one.
+function mergedLists(one, other, order) {
+  const all = new Uint32Array(one.length + other.length);
+  for (let i = 0, j = 0; i + j < all.length;) {
+    const isFirst = j === other.length || (i < one.length && order(one[i], other[j]) < 0);
+    all[i + j] = isFirst ? one[i++] : other[j++];
+  }
+  return all;
+}
+
 // The clusters that are left once the forest's heaviest links are cut: their nodes, the largest first, and the colour of
 // each vertex. `kept` links stay.
 function clustersAt(count) {
@@ -142,7 +152,8 @@ function clustersAt(count) {
     if (smaller[i] < n + kept) cut.push(smaller[i]);
   }
   const colours = new Uint32Array(n);
-  const all = Uint32Array.from([...nodes, ...cut]).sort((a, b) => size[b] - size[a] || least[a] - least[b]);
+  const largerFirst = (a, b) => size[b] - size[a] || least[a] - least[b];
+  const all = mergedLists(nodes, cut.sort(largerFirst), largerFirst);
   for (const node of all) {
     for (let at = first[node]; at < first[node] + size[node]; at++) colours[order[at]] = colour[node];
   }

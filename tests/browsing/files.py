@@ -2,7 +2,7 @@
 import random
 
 from browsing.page import Page, clusters_of, forest_by_program, is_same_partition, is_so
-from cases.running import ROOT, SMALL_FOREST, SMALL_NET, case, drawn_graph, file_of, forest_of, forest_text
+from cases.running import ROOT, SMALL_FOREST, SMALL_NET, case, drawn_graph, file_of, forest_of
 
 PLACES = b"c places\np aux sp co 6\n" + b"".join(b"v %d %d %d\n" % (v, 10 * v, v * v) for v in range(1, 7))
 
@@ -66,6 +66,14 @@ def graphs_of_many_parts(_room):
         page.set("clusters", min(n, trees + 5))
         rows = page.saved("saveclusters", "clusters.csv").decode().splitlines()[1:]
         is_same_partition([int(it.split(",")[1]) for it in rows], clusters_of(forest, min(n, trees + 5)))
+
+
+@case
+def a_graph_that_is_too_large_to_be_drawn(_room):
+    page = Page.opened()
+    page.drop(("large.gr", b"p sp 1500000 2\na 1 1500000 7\na 7 1 -3\n"))
+    page.expect(points="1,500,000", size="2", total="4", heaviest="7", largest="1,499,998 clusters, of 3, 1, 1, 1, 1, 1 and 1,499,992 more")
+    is_so(page.saved("saveforest", "forest.gr"), b"p sp 1500000 2\na 1 7 -3\na 1 1500000 7\n")
 
 
 @case

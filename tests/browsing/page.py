@@ -5,6 +5,7 @@ import http.server
 import os
 import random
 import shutil
+import sys
 import tempfile
 import threading
 
@@ -37,6 +38,14 @@ class Quiet(http.server.SimpleHTTPRequestHandler):
         pass
 
 
+class Server(http.server.ThreadingHTTPServer):
+    """One that tells nothing of a request that the browser breaks off, as when a worker is stopped."""
+
+    def handle_error(self, *request):
+        if not isinstance(sys.exc_info()[1], ConnectionError):
+            super().handle_error(*request)
+
+
 class Page:
     """One browser and one server for all cases. Each case has the page anew."""
 
@@ -56,7 +65,7 @@ class Page:
             shutil.copy(Page.module, f"{self.folder}/web/boruvka.wasm")
             shutil.copy(f"{os.path.dirname(os.path.realpath(__file__))}/kruskal.js", f"{self.folder}/web")
             handler = functools.partial(Quiet, directory=f"{self.folder}/web")
-            self.server = http.server.ThreadingHTTPServer(("127.0.0.1", 0), handler)
+            self.server = Server(("127.0.0.1", 0), handler)
         except BaseException:
             shutil.rmtree(self.folder)
             raise

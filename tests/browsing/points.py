@@ -11,8 +11,8 @@ ENTER, DELETE, LEFT, DOWN, SHIFT = "\ue007", "\ue017", "\ue012", "\ue015", "\ue0
 
 def steps(points, step):
     """The arcs between all pairs of points, from 1 on; each weight is a number of steps."""
-    weight = lambda one, other: math.floor(math.dist(one, other) / step + 0.5)
-    return [(u + 1, v + 1, weight(points[u], points[v])) for u in range(len(points)) for v in range(u + 1, len(points))]
+    pairs = [(u, v) for v in range(len(points)) for u in range(v)]
+    return sorted((u + 1, v + 1, math.floor(math.dist(points[u], points[v]) / step + 0.5)) for u, v in pairs)
 
 
 @case

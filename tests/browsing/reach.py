@@ -65,6 +65,11 @@ def lab(ink, seen):
     return 116 * y - 16, 500 * (x - y), 200 * (y - z)
 
 
+def apart(one, other):
+    """How far two of these are from each other."""
+    return sum((a - b) ** 2 for a, b in zip(one, other)) ** 0.5
+
+
 @case
 def colours_are_told_apart(_room):
     """Any two, by each kind of eye: they differ by 12 at least, where about 2 is just seen; from white by 25."""
@@ -76,7 +81,6 @@ def colours_are_told_apart(_room):
     least = {}
     for name, seen in BLINDNESS.items():
         found = [lab(it, seen) for it in inks]
-        apart = lambda one, other: sum((a - b) ** 2 for a, b in zip(one, other)) ** 0.5
         least[name] = min(apart(one, other) for i, one in enumerate(found) for other in found[:i])
         is_so(min(apart(it, lab("#ffffff", seen)) for it in found) > 25, True)
     is_so({name: it for name, it in least.items() if it < 12}, {})
