@@ -1,3 +1,4 @@
+mod by_threads;
 mod components;
 mod drawn_lists;
 mod drawn_texts;
