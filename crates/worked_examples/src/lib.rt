@@ -5,7 +5,7 @@
 //! ```text
 //!   lists           links of arcs, labels, offers, forests; the forests of the worked graphs
 //!   components      the components of a forest's links, and cycles, which have none
-//!   by_threads      the solver by threads, beside a simple program, and its memory
+//!   forests_by_threads  the solver by threads, beside a simple program, and its memory
 //!   drawn_lists     the solver beside a simple program, over drawn lists
 //!   drawn_texts     `.gr` texts in pieces and byte by byte, over drawn texts
 //!   reading         `.gr` texts, their faults, pieces and limits

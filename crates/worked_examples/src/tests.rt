@@ -1,8 +1,8 @@
-mod by_threads;
 mod components;
 mod drawn_lists;
 mod drawn_texts;
 mod fault_texts;
+mod forests_by_threads;
 mod lists;
 mod memory_of_graphs;
 mod plain_runs;
