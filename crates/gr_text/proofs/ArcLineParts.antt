@@ -1,7 +1,7 @@
 -- Bytes that are arc lines, put together, and what they add to what whole lines say.
-use Rattle.std.proofs.Common.{◌≡◌, ℕ, ◌+◌, ◌-◌, ◌<◌, ◌≤◌, inl, inr, List, [], ◌∷◌, ◌++◌, refl, ap, sym, ◌∙◌, subst, arith, append_assoc, append-nil, map, length, take, Option, Some, None, length-append, drop, ap₂, not}
+use Rattle.std.proofs.Common.{◌≡◌, ℕ, ◌+◌, ◌-◌, ◌≤◌, inl, inr, List, [], ◌∷◌, ◌++◌, refl, ap, sym, ◌∙◌, subst, arith, map, length, take, Option, Some, length-append, drop, ap₂, not}
 use Rattle.std.specs.Prelude.{option_to_list, All}
-use Rattle.std.specs.List.{AllByRecursion, filter, flat_map, copy_within}
+use Rattle.std.specs.List.{AllByRecursion, filter, copy_within}
 use Rattle.std.proofs.lemmas.List.{map-append, length-map, get_or-map, take-append-le}
 use Rattle.std.proofs.lemmas.List.Elements.{All-append, All-filter, All-from_recursion, All-map}
 use Rattle.std.proofs.lemmas.List.Filters.{length-filter_both}
@@ -10,9 +10,9 @@ use Rattle.std.proofs.Math.Seq.{paste, drop-append_seam}
 use Rattle.links.specs.Arc.{Arc}
 use Rattle.links.specs.Link.{Key, key_of, arc_key, is_no_loop, AreLinksOf, EndsUpTo}
 use Rattle.links.specs.declared.links.Link.{Link}
-use Rattle.gr_text.specs.Lines.{IsLine, ended, EndsLines}
-use Rattle.gr_text.specs.Statement.{Statement, Problem, ArcLine, Says, Say}
-use Rattle.gr_text.specs.Graph.{IsArcOf, AreLawfulLines}
+use Rattle.gr_text.specs.Lines.{ended}
+use Rattle.gr_text.specs.Statement.{Statement, Problem, ArcLine, Say}
+use Rattle.gr_text.specs.Graph.{IsArcOf}
 use Rattle.gr_text.specs.ArcLines.{AreArcLines, FillsRoom, BeginsWithArc}
 use Rattle.gr_text.specs.LinesSoFar.{AreKept, IsWithinSize}
 use Rattle.gr_text.specs.declared.arc_lines.ArcLines.{ArcLines}

@@ -1,4 +1,3 @@
-use Rattle.std.proofs.Common.{subst, sym}
 use Rattle.links.specs.Arc.{Arc}
 use Rattle.gr_text.proofs.UsualLines.{usual_is_line}
 use Rattle.gr_text.proofs.arc_lines.first_arc.Goals as goal

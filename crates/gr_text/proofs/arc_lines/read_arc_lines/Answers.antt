@@ -1,4 +1,4 @@
-use Rattle.std.proofs.Common.{◌≡◌, ℕ, ◌+◌, List, [], ◌∷◌, ◌++◌, length, length-append, take, refl, ap, sym, ◌∙◌, subst, append_assoc, arith, rules}
+use Rattle.std.proofs.Common.{ℕ, ◌+◌, List, [], ◌++◌, length, length-append, take, refl, ap, sym, ◌∙◌, subst, append_assoc, arith, rules}
 use Rattle.std.proofs.lemmas.List.{length_push}
 use Rattle.links.specs.declared.links.Link.{Link}
 use Rattle.gr_text.specs.Lines.{line_feed, ended}

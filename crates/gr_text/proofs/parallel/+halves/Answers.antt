@@ -1,4 +1,4 @@
-use Rattle.std.proofs.Common.{◌≡◌, ℕ, ◌+◌, List, ◌++◌, length, length-append, rules, sym, ap₂, ◌∙◌, arith, take-append-drop}
+use Rattle.std.proofs.Common.{◌≡◌, ◌+◌, ◌++◌, length, length-append, rules, sym, ap₂, ◌∙◌, arith, take-append-drop}
 use Rattle.std.specs.List.{copy_within}
 use Rattle.gr_text.specs.ArcLines.{FillsRoom}
 use Rattle.gr_text.proofs.ArcLineParts.{fills_both}

@@ -1,4 +1,4 @@
-use Rattle.std.proofs.Common.{◌≡◌, ◌+◌, ◌-◌, ◌≤◌, ◌++◌, List, ℕ, take, subst, sym, Option, Some, rules}
+use Rattle.std.proofs.Common.{◌≡◌, ◌+◌, ◌-◌, ◌≤◌, ◌++◌, List, take, subst, sym, Option, Some, rules}
 use Rattle.links.specs.declared.links.Link.{Link}
 use Rattle.gr_text.specs.LinesSoFar.{LinesSoFarValue, AreKept, Gives, IsWithinSize}
 use Rattle.gr_text.specs.declared.sizes.Size.{Size}

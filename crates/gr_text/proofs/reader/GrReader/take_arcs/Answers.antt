@@ -1,4 +1,4 @@
-use Rattle.std.proofs.Common.{◌≡◌, ◌+◌, ◌≤◌, ℕ, List, length, None, false, arith, rules}
+use Rattle.std.proofs.Common.{◌≡◌, ◌+◌, ◌≤◌, length, None, false, arith, rules}
 use Rattle.gr_text.proofs.Pieces.{takes_lines}
 use Rattle.gr_text.proofs.reader.GrReader.take_arcs.Goals as goal
 
