@@ -47,10 +47,12 @@ def words_for(size):
 
 class Run:
     """What a command did whose call of this name and number failed by this error, or those up to another number; how
-    many failed, and how many threads were joined. None was left, and no text for the user went to a socket."""
+    many failed, and how many threads were joined. None was left, and no text for the user went to a socket. It is told of
+    one processor, if not of more."""
 
-    def __init__(self, room, command, source, call, number, error, last=None):
+    def __init__(self, room, command, source, call, number, error, last=None, processors=1):
         environment = {"FAIL_CALL": call, "FAIL_NUMBER": str(number), "FAIL_ERROR": str(error), "JOINED": "1"}
+        environment["PROCESSORS"] = str(processors)
         if last:
             environment["FAIL_LAST"] = str(last)
         self.found, told = told_by(room, command, source, environment, seconds=20)
@@ -86,23 +88,25 @@ class Run:
             raise AssertionError(f"{self.what}: {left} workers are left and {threads} threads: {self.threads}, {vars(report)}")
 
 
-def each_place(room, command, source, call, errors, in_turn=1):
+def each_place(room, command, source, call, errors, in_turn=1, processors=1):
     """Fails a call of this name, or so many in turn, at one place after another, by these errors in turn, until none is
     left to fail, and answers these runs. In the last no call failed."""
     runs = []
     while not runs or runs[-1].failed:
         number = len(runs) + 1
-        runs.append(Run(room, command, source, call, number, errors[number % len(errors)], number + in_turn - 1))
+        error = errors[number % len(errors)]
+        runs.append(Run(room, command, source, call, number, error, number + in_turn - 1, processors))
     return runs
 
 
-def each_error(room, size, graph, call, errors, more=()):
+def each_error(room, size, graph, call, errors, more=(), processors=1):
     """The runs over so many workers and shards in which a call of this name failed, for each error a list of them. On
     the small net each place is failed by each error, and on others by one."""
     file, _ = graph
     command = [Program.path, *words_for(size), "--report", *more]
     turns = [[it] for it in errors] if file == SMALL_NET else [errors]
-    return [each_place(room, command, b"" if more else file, call, turn) for turn in turns]
+    source = b"" if more else file
+    return [each_place(room, command, source, call, turn, processors=processors) for turn in turns]
 
 
 def expect_places(runs, count):
@@ -343,7 +347,7 @@ def each_call_of_a_scan_by_threads_fails(room):
     size = (2, 1)
     graph = drawn_graph(11, 700, 140_000)
     for call in ["open", "sched_getaffinity", "thread", "close"]:
-        for runs in each_error(room, size, graph, call, ERRORS):
+        for runs in each_error(room, size, graph, call, ERRORS, processors=4):
             if len(runs) < 2:
                 raise AssertionError(f"{call}: no call failed")
             for run in runs:

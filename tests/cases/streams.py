@@ -164,8 +164,21 @@ def reads_of_64_KiB_and_one_write_for_each_8_KiB(room):
     name = written(f"{room}/net.gr", file)
     reads = -(-len(file) // READ_ROOM) + 1
     for words in MODES:
-        found, told = told_by(room, [Program.path, *words, name], b"", {"COUNTED": "1"})
+        found, told = told_by(room, [Program.path, *words, name], b"", {"COUNTED": "1", "PROCESSORS": "1"})
         expect(found, 0, text, b"")
         writes = told.count(b"w")
         if told.count(b"R") != reads or told.strip(b"Rw") or not 1 < writes <= len(text) // LEAST_PIECE + 1:
             raise AssertionError(f"{words}: {len(file)} bytes in, {len(text)} out: {told!r:.600}")
+
+
+@case
+def by_threads_reads_of_more_and_one_write_for_each_8192_links(room):
+    file, text = drawn_graph(18, 20_000, 40_000)
+    name = written(f"{room}/net.gr", file)
+    links = text.count(b"\n") - 1
+    for words, processors in [(["--plain", "--threads", "2"], "1"), (MODES[1], "2")]:
+        found, told = told_by(room, [Program.path, *words, name], b"", {"COUNTED": "1", "PROCESSORS": processors})
+        expect(found, 0, text, b"")
+        # the file is less than one read asks for; the text's first line is a write of its own
+        if told != b"rr" + b"w" * (1 + -(-links // 8192)):
+            raise AssertionError(f"{words}: {len(file)} bytes in, {links} links out: {told!r:.600}")
