@@ -1,4 +1,5 @@
 """Refused memory: each allocation in turn, alone and with all that follow; little address space."""
+import os
 import resource
 
 from cases.running import NO_MEMORY, SMALL_FOREST, SMALL_NET, SMALL_REPORT, Program, Report, case, drawn_graph, expect, ran, told_by, written
@@ -114,11 +115,17 @@ def each_large_allocation_of_a_run_by_threads_refused(room):
     each_refused_over_workers(room, file, text, 2, 2, 2**19, 10)
 
 
+def on_one_processor():
+    """What runs from here on has one processor, so that no thread shares what is read, which would take room for that."""
+    os.sched_setaffinity(0, [min(os.sched_getaffinity(0))])
+
+
 @case
 def no_allocation_of_twice_the_largest_list(room):
     # (of 4,096 answers, of 32 bytes each beside its offers)
     words = [Program.path, *over(64, 4096)]
-    found, told = told_by(room, words, SMALL_NET, {"REFUSE_ABOVE": str(2 * 4096 * 32 - 1)}, library="refusing")
+    more = {"REFUSE_ABOVE": str(2 * 4096 * 32 - 1)}
+    found, told = told_by(room, words, SMALL_NET, more, library="refusing", preexec_fn=on_one_processor)
     expect(found, 0, SMALL_FOREST, b"")
     expect((told, b"", b""), b"", b"", b"")
 
@@ -138,9 +145,10 @@ def each_allocation_of_wrong_words_refused(room):
 
 
 def in_space(size, words, source=b""):
-    """What the program did with so many bytes of address space."""
+    """What the program did with so many bytes of address space, on one processor."""
 
     def limit():
+        on_one_processor()
         resource.setrlimit(resource.RLIMIT_AS, (size, size))
 
     return ran(words, source, preexec_fn=limit)
@@ -160,8 +168,9 @@ def least_space_for_help():
 
 
 def grown_space(last):
-    """Thirty sizes of address space, from the least for the help to the last, which grow faster and faster."""
-    least = least_space_for_help()
+    """Thirty sizes of address space, from the least for the help and a stack to the last, which grow faster and faster. (A
+    run's stack grows, and where no space is left for that the system ends the program: enough stack isn't promised.)"""
+    least = least_space_for_help() + (256 << 10)
     return [least + (last - least) * step**2 // 29**2 for step in range(30)]
 
 

@@ -75,7 +75,9 @@ fn expect_steps<'a>(rt: &impl Abort, memory: &'a Memory, cut: &Cut<&'a Memory>, 
         let picks = picks_over(rt, memory, cut, solver.labels());
         let before = memory.watch();
         let turn = solver.step(&picks).expect(rt, "a turn");
-        let most = u64::from(n).wrapping_mul(stays + 4).wrapping_add(8);
+        let most = u64::from(n)
+            .wrapping_mul(stays.wrapping_add(4))
+            .wrapping_add(8);
         expect_at_most(rt, "step", list, most_beside(memory, before), most);
         if turn == Turn::Done {
             break;
@@ -183,7 +185,9 @@ fn bytes_of_a_scan_by_threads(rt: HostRuntime) {
         drop(scan_par(&rt, &memory, links, &labels).expect(&rt, "memory"));
         let vertices = u64::from(n);
         let tables = parts(&rt, links.len() as u64, vertices).wrapping_mul(8);
-        let most = vertices.wrapping_mul(tables + 24).wrapping_add(64);
+        let most = vertices
+            .wrapping_mul(tables.wrapping_add(24))
+            .wrapping_add(64);
         expect_at_most(&rt, "scan_par", list, most_beside(&memory, before), most);
     }
 }
