@@ -70,7 +70,7 @@ fn expect_steps<'a>(rt: &impl Abort, memory: &'a Memory, cut: &Cut<&'a Memory>, 
     let n = list.n;
     assert!(rt; n <= 1 << 26);
     let mut solver = Solver::new(memory, n).expect(rt, "memory");
-    let mut stays = 24;
+    let mut stays: u64 = 24;
     for _ in 0..26 {
         let picks = picks_over(rt, memory, cut, solver.labels());
         let before = memory.watch();
@@ -101,7 +101,7 @@ fn expect_steps_par<'a>(
     let n = list.n;
     assert!(rt; n <= 1 << 26);
     let mut solver = Solver::new(memory, n).expect(rt, "memory");
-    let mut stays = 24;
+    let mut stays: u64 = 24;
     for _ in 0..26 {
         let mut picks = picks_over(rt, memory, cut, solver.labels());
         let before = memory.watch();
