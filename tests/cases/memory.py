@@ -145,10 +145,9 @@ def each_allocation_of_wrong_words_refused(room):
 
 
 def in_space(size, words, source=b""):
-    """What the program did with so many bytes of address space, on one processor."""
+    """What the program did with so many bytes of address space."""
 
     def limit():
-        on_one_processor()
         resource.setrlimit(resource.RLIMIT_AS, (size, size))
 
     return ran(words, source, preexec_fn=limit)
@@ -167,10 +166,10 @@ def least_space_for_help():
     return enough * page
 
 
-def grown_space(last):
-    """Thirty sizes of address space, from the least for the help and a stack to the last, which grow faster and faster. (A
-    run's stack grows, and where no space is left for that the system ends the program: enough stack isn't promised.)"""
-    least = least_space_for_help() + (256 << 10)
+def grown_space(last, stack=0):
+    """Thirty sizes of address space, from the least for the help, and so much stack, to the last, which grow faster and
+    faster."""
+    least = least_space_for_help() + stack
     return [least + (last - least) * step**2 // 29**2 for step in range(30)]
 
 
@@ -208,7 +207,8 @@ def no_more_memory_than_is_documented(room):
 @case
 def little_address_space_for_workers(_room):
     file, text = drawn_graph(7, 3000, 10_000)
-    for size in grown_space(1 << 30):
+    # (a run by threads grows its stack late, and where no space is left for that the system ends the program)
+    for size in grown_space(1 << 30, stack=256 << 10):
         found = in_space(size, [*over(2, 4), "--report"], file)
         expect_right_or_no_memory(found, text, 2, 4)
     # in a gigabyte both workers have their threads
