@@ -1,19 +1,17 @@
 -- Bytes that are arc lines, put together, and what they add to what whole lines say.
-use Rattle.std.proofs.Common.{◌≡◌, ℕ, ◌+◌, ◌-◌, ◌≤◌, inl, inr, List, [], ◌∷◌, ◌++◌, refl, ap, sym, ◌∙◌, subst, arith, map, length, take, Option, Some, length-append, drop, ap₂, not}
+use Rattle.std.proofs.Common.{◌≡◌, ℕ, ◌+◌, ◌-◌, ◌≤◌, inl, inr, List, [], ◌∷◌, ◌++◌, refl, ap, sym, ◌∙◌, subst, arith, map, length, take, Option, Some, length-append, append_assoc, not}
 use Rattle.std.specs.Prelude.{option_to_list, All}
-use Rattle.std.specs.List.{AllByRecursion, filter, copy_within}
-use Rattle.std.proofs.lemmas.List.{map-append, length-map, get_or-map, take-append-le}
+use Rattle.std.specs.List.{AllByRecursion, filter}
+use Rattle.std.proofs.lemmas.List.{map-append, length-map, get_or-map}
 use Rattle.std.proofs.lemmas.List.Elements.{All-append, All-filter, All-from_recursion, All-map}
 use Rattle.std.proofs.lemmas.List.Filters.{length-filter_both}
-use Rattle.std.proofs.lemmas.List.Edits.{take-paste}
-use Rattle.std.proofs.Math.Seq.{paste, drop-append_seam}
 use Rattle.links.specs.Arc.{Arc}
 use Rattle.links.specs.Link.{Key, key_of, arc_key, is_no_loop, AreLinksOf, EndsUpTo}
 use Rattle.links.specs.declared.links.Link.{Link}
 use Rattle.gr_text.specs.Lines.{ended}
 use Rattle.gr_text.specs.Statement.{Statement, Problem, ArcLine, Say}
 use Rattle.gr_text.specs.Graph.{IsArcOf}
-use Rattle.gr_text.specs.ArcLines.{AreArcLines, FillsRoom, BeginsWithArc}
+use Rattle.gr_text.specs.ArcLines.{AreArcLines, AppendsOrNot, FillsRoom, BeginsWithArc}
 use Rattle.gr_text.specs.LinesSoFar.{AreKept, IsWithinSize}
 use Rattle.gr_text.specs.declared.arc_lines.ArcLines.{ArcLines}
 use Rattle.gr_text.specs.declared.sizes.Size.{Size}
@@ -102,28 +100,18 @@ within_more size count k old links bytes within are room = (
   omega (arith, length-append old links, within.2, links_few are.arcs links are.of_arcs, are.each_arc),
 )
 
--- the links of the second part moved behind those of the first
-pub moved : (front back : List Link) (middle a b : ℕ) → length front ≡ middle → a ≤ length front → b ≤ length back
-    → take (a + b) (copy_within (front ++ back) middle (middle + b) a) ≡ take a front ++ take b back
-moved front back middle a b at few more =
-    let whole = front ++ back in
-    let behind : drop middle whole ≡ back = ap (λ k. drop k whole) (sym at) ∙ drop-append_seam front back in
-    let count : (middle + b) - middle ≡ b = omega arith in
-    ap₂ (λ (xs : List Link) (k : ℕ). take (a + b) (paste whole a xs k)) behind count
-    ∙ take-paste whole a back b (omega (arith, few, length-append front back)) more
-    ∙ ap (λ xs. xs ++ take b back) (take-append-le a front back few)
-
-pub fills_both : (n middle : ℕ) (bytes xs ys : List ℕ) (first second : ArcLines) (front back new : List Link) → bytes ≡ xs ++ ys → length front ≡ middle
-    → FillsRoom n xs first front → FillsRoom n ys second back → new ≡ copy_within (front ++ back) middle (middle + second.links) first.links
-    → length new ≡ length (front ++ back) → FillsRoom n bytes (record { lines = first.lines + second.lines; links = first.links + second.links }) new
-fills_both n middle bytes xs ys first second front back new whole at a b is long =
-    let count = first.lines + second.lines in
-    let links : take (first.links + second.links) new ≡ take first.links front ++ take second.links back =
-    ap (take (first.links + second.links)) is ∙ moved front back middle first.links second.links at a.within b.within in
+-- links appended by one part of the bytes, and then by another
+pub appends_both : (n count : ℕ) (bytes xs ys : List ℕ) (found : ArcLines) (room old middle new : List Link) → bytes ≡ xs ++ ys
+    → AppendsOrNot n xs (Some count) old middle → FillsRoom n ys found room → new ≡ middle ++ take found.links room
+    → AppendsOrNot n bytes (Some (count + found.lines)) old new
+appends_both n count bytes xs ys found room old middle new whole first second more =
+    let others = take found.links room in
     record {
-      within = omega (arith, long, length-append front back, a.within, b.within);
-      few = omega (arith, ap length whole, length-append xs ys, a.few, b.few);
-      are = subst (λ (zs : List ℕ). AreArcLines n count zs (take (first.links + second.links) new)) (sym whole)
-          (subst (AreArcLines n count (xs ++ ys)) (sym links)
-          (arcs_append n first.lines second.lines xs ys (take first.links front) (take second.links back) a.are b.are));
+      more = first.more ++ others;
+      appended = more ∙ ap (λ links. links ++ others) first.appended ∙ append_assoc old first.more others;
+      found = (
+        omega (arith, ap length whole, length-append xs ys, first.found.0, second.few),
+        subst (λ zs. AreArcLines n (count + found.lines) zs (first.more ++ others)) (sym whole)
+            (arcs_append n count found.lines xs ys first.more others first.found.1 second.are),
+      );
     }

@@ -1,11 +1,9 @@
 -- The text of a forest as it is written part by part.
-use Rattle.std.proofs.Common.{◌≡◌, ℕ, suc, ◌+◌, ◌*◌, ◌≤◌, ◌<◌, List, [], ◌∷◌, ◌++◌, length, take, drop, get_or, min, ◌-◌, inl, inr, refl, sym, ap, subst, ◌∙◌, arith, append-nil, append_assoc, length-append, length-drop, drop-cons, take_all}
-use Rattle.std.specs.Fork.{slice_chunk}
+use Rattle.std.proofs.Common.{◌≡◌, ℕ, suc, ◌+◌, ◌≤◌, ◌<◌, List, [], ◌∷◌, ◌++◌, length, take, drop, get_or, ◌-◌, refl, sym, ap, subst, ◌∙◌, arith, append-nil, append_assoc, length-append, drop-cons}
 use Rattle.std.specs.List.{flat_map}
 use Rattle.std.proofs.lemmas.Grind.{flat_map-append}
 use Rattle.std.proofs.Math.Seq.{take-add}
-use Rattle.std.proofs.lemmas.List.{take-append-drop, take-append-le, take_more, drop-drop, drop_all}
-use Rattle.std.proofs.lemmas.Bool.{cases_lt}
+use Rattle.std.proofs.lemmas.List.{take-append-drop, take-append-le, take_more}
 use Rattle.links.specs.declared.links.Link.{Link}
 use Rattle.byte_streams.specs.Streams.{SinkState, Took}
 use Rattle.byte_streams.proofs.Streaming.{took_no_more}
@@ -14,25 +12,6 @@ use Rattle.gr_text.specs.Handing.{HandsOn, HandsPrefix}
 use Rattle.gr_text.specs.Written.{written_count, PrefixWentOut}
 use Rattle.gr_text.proofs.ForestLines.{lines_before, text_split, text_whole, text_unflushed}
 use Rattle.gr_text.proofs.Handing.{handed_all, hands_behind, hands_then_hands, hands_then_prefix, hands_all_then_prefix}
-
--- parts that have the lines of chunks of the links have the lines of all links
-pub parts_are : (size : ℕ) (parts : List (List ℕ)) (links : List Link)
-    → ((i : ℕ) (d : List ℕ) → i < length parts → get_or parts i d ≡ flat_map link_line (slice_chunk links size i))
-    → length links ≤ length parts * size → flat_map (λ part. part) parts ≡ flat_map link_line links
-parts_are size [] [] each few = refl
-parts_are size [] (l ∷ links) each few = absurd (omega (arith, few))
-parts_are size (p ∷ parts) links each few =
-    let first : p ≡ flat_map link_line (take size links) = each 0 [] (omega arith) ∙ ap (λ k. flat_map link_line (take size (drop k links))) {x = 0 * size} {y = 0} (omega arith) in
-    let rest : flat_map (λ part. part) parts ≡ flat_map link_line (drop size links) =
-    parts_are size parts (drop size links)
-    (λ i d within. each (suc i) d (omega (arith, within))
-    ∙ ap (λ k. flat_map link_line (take size (drop k links))) {x = suc i * size} {y = size + i * size} (omega arith)
-    ∙ ap (λ xs. flat_map link_line (take size xs)) (sym (drop-drop (i * size) size links)))
-    (omega (arith, few, length-drop size links)) in
-    ap (λ l. l ++ flat_map (λ part. part) parts) first
-    ∙ ap (λ l. flat_map link_line (take size links) ++ l) rest
-    ∙ sym (flat_map-append link_line (take size links) (drop size links))
-    ∙ ap (flat_map link_line) (take-append-drop size links)
 
 -- the lines of the links from i up to j follow those of the first i
 lines_more : (n : ℕ) (links : List Link) (i j : ℕ) → i ≤ j
@@ -125,21 +104,3 @@ header_prefix after n links forest s t same part =
       counted = part.counted ∙ ap written_count {x = 0 + part.sent} {y = part.sent} (omega arith);
       took = subst (λ bytes. Took 1 bytes s t) (sym (take-append-le part.sent (header_of n (length links)) (flat_map link_line links) part.within)) part.took;
     })
-
--- a chunk, cut out within the bounds of the list
-pub chunk_is : (links : List Link) (size begin from count : ℕ) → from ≡ min begin (length links)
-    → count ≡ min size (length (take (length links - from) (drop from links)))
-    → take count (take (length links - from) (drop from links)) ≡ take size (drop begin links)
-chunk_is links size begin from count is few =
-    let rest = drop from links in
-    let whole : take (length links - from) rest ≡ rest = take_all (length links - from) rest (omega (arith, length-drop from links)) in
-    let some : count ≡ min size (length rest) = few ∙ ap (λ xs. min size (length xs)) whole in
-    let same : rest ≡ drop begin links = elim (cases_lt begin (length links)) [
-      | inl under ↦ ap (λ k. drop k links) {x = from} {y = begin} (omega (arith, is, under))
-      | inr over ↦ drop_all from links (omega (arith, is, over)) ∙ sym (drop_all begin links over)
-    ] in
-    let cut : take count rest ≡ take size rest = elim (cases_lt size (length rest)) [
-      | inl under ↦ ap (λ k. take k rest) {x = count} {y = size} (omega (arith, some, under))
-      | inr over ↦ take_all count rest (omega (arith, some, over)) ∙ sym (take_all size rest over)
-    ] in
-    ap (take count) whole ∙ cut ∙ ap (take size) same

@@ -32,6 +32,12 @@ pub record FillsOrNot (n : ℕ) (bytes : List ℕ) (answer : Option ArcLines) (o
   pub len : length new ≡ length old
   pub found : IfSome answer (λ found. FillsRoom n bytes found new)
 
+-- links were appended to a list; where an answer is given, the bytes are so many such lines, and these are their links
+pub record AppendsOrNot (n : ℕ) (bytes : List ℕ) (answer : Option ℕ) (old new : List Link) : Type 0 where
+  pub more : List Link
+  pub appended : new ≡ old ++ more
+  pub found : IfSome answer (λ count. (count ≤ length bytes) × AreArcLines n count bytes more)
+
 -- the bytes begin with such a line, whose arc gives this link, if one; and what is left is this
 pub record BeginsWithArc (n : ℕ) (bytes : List ℕ) (link : Option Link) (rest : List ℕ) : Type 0 where
   pub line : List ℕ

@@ -4,7 +4,7 @@ ghost use Rattle.gr_text.specs.LinesSoFar.{AddsLines, AddsLink, FitsAfter, Gives
 
 use crate::faults::{GrFault, GrKind, ReadFault};
 use crate::graphs::Graph;
-use crate::parallel::read_arc_lines_par;
+use crate::parallel::append_arc_lines;
 use crate::sizes::Size;
 use crate::verdicts::{Verdict, judge};
 use crate::words::LineFields;
@@ -99,16 +99,18 @@ impl<A: Allocator> LinesSoFar<A> {
         ensures { MatchOption result (self.new ≡ self.old) (λ count. AddsLines count bytes.now self.old self.new) }
     {
         let size = self.size?;
-        let found = read_arc_lines_par(rt, threads, size, bytes, room)?;
-        let most = size.arcs - self.count;
-        if found.lines > most as usize {
-            return None;
+        let before = self.links.len();
+        let most = (size.arcs - self.count) as usize;
+        match append_arc_lines(rt, threads, size, bytes, room, &mut self.links) {
+            Some(count) if count <= most => {
+                self.count += count as u32;
+                Some(count)
+            }
+            _ => {
+                self.links.truncate(before);
+                None
+            }
         }
-        if self.links.extend_from_slice(&room[..found.links]).is_err() {
-            return None;
-        }
-        self.count += found.lines as u32;
-        Some(found.lines)
     }
 
     // Adds an arc of this link, or a loop.

@@ -1,11 +1,12 @@
 //! Arc lines read by threads, each over a part of the bytes and a part of the room for their links.
 ghost use Rattle.std.specs.Prelude.{◌≤◌, length};
 ghost use denote.Param.Send.{IsSync};
-ghost use Rattle.gr_text.specs.ArcLines.{FillsOrNot};
+ghost use Rattle.gr_text.specs.ArcLines.{AppendsOrNot, FillsOrNot};
 
 use crate::arc_lines::{ArcLines, read_arc_lines};
 use crate::sizes::Size;
 use links::Link;
+use std::alloc::Allocator;
 use std::thread::{Threads, join_mut};
 
 // So few bytes are worth no thread of their own.
@@ -14,42 +15,60 @@ const FEW_BYTES: usize = 1 << 16;
 /// The least number of bytes of an arc line in its usual form, `a 1 2 3` and the line feed.
 pub(crate) const LEAST_LINE: usize = 8;
 
-/// As [`read_arc_lines`], by at most so many threads. It takes no memory.
-#[cycle(halves)]
-pub(crate) fn read_arc_lines_par<R: Threads + Sync>(
+/// Reads bytes that are whole arc lines of a graph of this size, each in its usual form and lawful, by at most so many
+/// threads, and appends their links to a list. Each thread has a part of the bytes, of 64 KiB or more, and of the room. The
+/// caller's has half of another's, since it appends what all found. It answers how many lines the bytes are. `None` says
+/// that the bytes aren't such, or that room or memory for their links lacks; some links may have been appended then.
+#[cycle(parts)]
+pub(crate) fn append_arc_lines<R: Threads + Sync, A: Allocator>(
     rt: &R,
     threads: usize,
     size: Size,
     bytes: &[u8],
     room: &mut [Link],
-) -> Option<ArcLines>
-    ensures { FillsOrNot size.vertices bytes.now result room.old room.new }
+    links: &mut Vec<Link, A>,
+) -> Option<usize>
+    ensures { AppendsOrNot size.vertices bytes.now result links.old.items links.new.items }
 {
-    if threads < 2 || bytes.len() < FEW_BYTES {
-        return read_arc_lines(size, bytes, room);
+    let threads = threads.min(bytes.len() / FEW_BYTES);
+    if threads < 2 {
+        return append_by_one(size, bytes, room, links);
     }
-    let fewer = threads / 2;
-    let others = threads - fewer;
-    let place = line_end(bytes, bytes.len() / threads * fewer);
+    let fewer = threads - 1;
+    let place = line_end(bytes, bytes.len() / (threads + fewer) * (fewer + fewer - 1));
     let middle = room.len().min(place / LEAST_LINE);
     let (earlier, later) = bytes.split_at(place);
     let (earlier_room, later_room) = room.split_at_mut(middle);
-    let mut front = || -> Option<ArcLines>
-        requires { IsSync R.row }
-        ensures { FillsOrNot size.vertices earlier.entry.now result earlier_room.entry.now earlier_room.exit.now }
-    { read_arc_lines_par(rt, fewer, size, earlier, earlier_room) };
-    let mut back = || -> Option<ArcLines>
-        requires { IsSync R.row }
+    let mut last = || -> Option<ArcLines>
         ensures { FillsOrNot size.vertices later.entry.now result later_room.entry.now later_room.exit.now }
-    { read_arc_lines_par(rt, others, size, later, later_room) };
-    let (first, second) = join_mut(rt, &mut front, &mut back);
-    let first = first?;
-    let second = second?;
-    room.copy_within(middle..middle + second.links, first.links);
-    Some(ArcLines {
-        lines: first.lines + second.lines,
-        links: first.links + second.links,
-    })
+    { read_arc_lines(size, later, later_room) };
+    let mut others = || -> Option<usize>
+        requires { IsSync R.row }
+        ensures { AppendsOrNot size.vertices earlier.entry.now result links.entry.now.items links.exit.now.items }
+    { append_arc_lines(rt, fewer, size, earlier, earlier_room, links) };
+    let (found, count) = join_mut(rt, &mut last, &mut others);
+    let found = found?;
+    let count = count?;
+    if links.extend_from_slice(&later_room[..found.links]).is_err() {
+        return None;
+    }
+    Some(count + found.lines)
+}
+
+// The same by the caller's thread alone.
+fn append_by_one<A: Allocator>(
+    size: Size,
+    bytes: &[u8],
+    room: &mut [Link],
+    links: &mut Vec<Link, A>,
+) -> Option<usize>
+    ensures { AppendsOrNot size.vertices bytes.now result links.old.items links.new.items }
+{
+    let found = read_arc_lines(size, bytes, room)?;
+    if links.extend_from_slice(&room[..found.links]).is_err() {
+        return None;
+    }
+    Some(found.lines)
 }
 
 /// The place behind the first line feed from a place on, or behind all bytes.

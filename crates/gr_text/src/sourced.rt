@@ -1,5 +1,6 @@
-ghost use Rattle.std.specs.Prelude.{◌≤◌, ◌<◌, length};
-ghost use Rattle.gr_text.specs.Sourced.{IsReadOf};
+ghost use Rattle.std.specs.Prelude.{◌≡◌, ◌≤◌, ◌<◌, false, None, cond, length, IfOk, OnOk, MatchResult, Err};
+ghost use Rattle.byte_streams.specs.Streams.{SourceState};
+ghost use Rattle.gr_text.specs.Sourced.{HasFollowed, IsReadOf};
 
 use crate::faults::ReadFault;
 use crate::feeders::{Feed, ManyThreads, OneThread};
@@ -17,6 +18,9 @@ const READ_ROOM: usize = 65_536;
 
 // The number of bytes that are read at once where threads share them.
 const PAR_READ_ROOM: usize = 1 << 22;
+
+// So many bytes of a source one thread reads before threads share the others.
+const ALONE: u64 = 1 << 20;
 
 /// The graph of a source of at most 2^40 bytes.
 ///
@@ -43,15 +47,16 @@ pub fn read_graph_upto<S: Source, A: Allocator>(
     ensures outcome { IsReadOf limit result (S.state source.old) (S.state source.new) }
 {
     let mut buffer = [0; READ_ROOM];
-    read_pieces(&mut OneThread, alloc, source, &mut buffer, limit)
+    read_rest(&mut OneThread, GrReader::new(alloc, limit), source, &mut buffer)
 }
 
 /// The graph of a source of at most 2^40 bytes, read by at most so many threads; 0 means one.
 ///
-/// As [`read_graph`]. 4 MiB are read at a time, and shared where all of its lines but the first and the last are arc lines
-/// `a U V W` with single spaces, and nothing is wrong with them; any other piece, and one of less than 64 KiB, is read by
-/// one thread. It takes 12 MiB more while it reads; where these are refused, one thread reads.
-pub fn read_graph_par<R: Threads + Sync, S: Source, A: Allocator + Copy + Send + Sync>(
+/// As [`read_graph`], and so the first MiB is read. Of the others 4 MiB are read at a time, and shared where all of their
+/// lines but the first and the last are arc lines `a U V W` with single spaces, and nothing is wrong with them; any other
+/// piece, and one of less than 128 KiB, goes by one thread. From the second MiB on it takes 12 MiB more; where these are
+/// refused, one thread reads.
+pub fn read_graph_par<R: Threads + Sync, S: Source, A: Allocator + Copy>(
     rt: &R,
     threads: usize,
     alloc: A,
@@ -60,55 +65,88 @@ pub fn read_graph_par<R: Threads + Sync, S: Source, A: Allocator + Copy + Send +
     requires { S.can_read source.old }
     ensures outcome { IsReadOf MAX_BYTES result (S.state source.old) (S.state source.new) }
 {
+    let mut reader = GrReader::new(alloc, MAX_BYTES);
+    let mut buffer = [0; READ_ROOM];
     if threads < 2 {
-        return read_graph(alloc, source);
+        return read_rest(&mut OneThread, reader, source, &mut buffer);
+    }
+    match read_pieces(&mut OneThread, &mut reader, source, &mut buffer, ALONE) {
+        Ok(true) => return reader.finish(),
+        Ok(false) => {}
+        Err(fault) => return Err(fault),
     }
     let any = Link {
         weight: 0,
         low: 1,
         high: 2,
     };
-    let mut buffer = Vec::new(alloc);
-    if buffer.resize(PAR_READ_ROOM, 0).is_err() {
-        return read_graph(alloc, source);
-    }
+    let mut pieces = Vec::new(alloc);
     let mut room = Vec::new(alloc);
-    if room.resize(PAR_READ_ROOM / LEAST_LINE, any).is_err() {
-        return read_graph(alloc, source);
+    if pieces.resize(PAR_READ_ROOM, 0).is_err() || room.resize(PAR_READ_ROOM / LEAST_LINE, any).is_err() {
+        return read_rest(&mut OneThread, reader, source, &mut buffer);
     }
     let mut feeder = ManyThreads { rt, threads, room };
-    read_pieces(&mut feeder, alloc, source, buffer.as_mut_slice(), MAX_BYTES)
+    read_rest(&mut feeder, reader, source, pieces.as_mut_slice())
 }
 
-// Reads a source piece by piece, each by one read of at most so many bytes as `buffer` has.
-fn read_pieces<F: Feed<A>, S: Source, A: Allocator>(
+// Reads a source to its end, from where a reader has followed it on.
+fn read_rest<F: Feed<A>, S: Source, A: Allocator>(
     feeder: &mut F,
-    alloc: A,
+    mut reader: GrReader<A>,
     source: &mut S,
     buffer: &mut [u8],
-    limit: u64,
 ) -> Result<Graph<A>, ReadFault>
     requires ready { F.ready }
     requires can { S.can_read source.old }
     requires room { 0 < length buffer.old }
-    requires limit { limit ≤ MAX_BYTES }
-    ensures outcome { IsReadOf limit result (S.state source.old) (S.state source.new) }
+    requires limit { reader.limit ≤ MAX_BYTES }
+    requires clean { reader.fault ≡ None }
+    ensures { (before : SourceState) → HasFollowed 0 reader before (S.state source.old) → IsReadOf reader.limit result before (S.state source.new) }
 {
-    let mut reader = GrReader::new(alloc, limit);
-    for _turn in 0..limit + 1 {
+    match read_pieces(feeder, &mut reader, source, buffer, MAX_BYTES + 1) {
+        Ok(_ended) => reader.finish(),
+        Err(fault) => Err(fault),
+    }
+}
+
+// Reads a source piece by piece, each by one read of at most so many bytes as `buffer` has: to its end, or else until so
+// many bytes or more were read here. It answers whether it has found the end.
+fn read_pieces<F: Feed<A>, S: Source, A: Allocator>(
+    feeder: &mut F,
+    reader: &mut GrReader<A>,
+    source: &mut S,
+    buffer: &mut [u8],
+    enough: u64,
+) -> Result<bool, ReadFault>
+    requires ready { F.ready }
+    requires can { S.can_read source.old }
+    requires room { 0 < length buffer.old }
+    requires limit { reader.old.limit ≤ MAX_BYTES }
+    requires clean { reader.old.fault ≡ None }
+    ensures limit { reader.new.limit ≡ reader.old.limit }
+    ensures clean { OnOk result (reader.new.fault ≡ None) }
+    ensures again { IfOk result (λ ended. ended ≡ false → S.can_read source.new) }
+    ensures enough { IfOk result (λ ended. ended ≡ false → enough ≤ reader.new.limit) }
+    ensures followed { (before : SourceState) → HasFollowed 0 reader.old before (S.state source.old) → MatchResult result
+        (λ ended. HasFollowed (cond ended 1 0) reader.new before (S.state source.new))
+        (λ why. IsReadOf reader.old.limit (Err why) before (S.state source.new)) }
+{
+    let mut read = 0;
+    while read < enough {
         match source.read(buffer) {
             Err(Failed) => {
                 return Err(ReadFault::Source {
                     line: reader.line(),
                 });
             }
-            Ok(0) => return reader.finish(),
+            Ok(0) => return Ok(true),
             Ok(n) => {
-                if let Err(fault) = feeder.feed(&mut reader, &buffer[..n]) {
+                if let Err(fault) = feeder.feed(reader, &buffer[..n]) {
                     return Err(fault);
                 }
+                read += n as u64;
             }
         }
     }
-    unreachable!()
+    Ok(false)
 }

@@ -1,15 +1,14 @@
 //! Parts of a forest's text, each spelled by a thread of its own.
 ghost use Rattle.std.specs.Prelude.{◌≡◌, ◌+◌, ◌*◌, ◌≤◌, [], ◌++◌, length, IfOk, vec_len, vec_capacity};
-ghost use Rattle.std.specs.Fork.{slice_chunk};
 ghost use Rattle.std.specs.List.{flat_map};
+ghost use denote.Param.Send.{IsSync, IsSend, Frees};
 ghost use Rattle.gr_text.specs.ForestText.{link_line};
 
 use crate::spelled::{SPELLED_ROOM, Spelled};
 use links::Link;
 use std::alloc::{AllocError, Allocator};
 use std::marker::Model;
-use std::thread;
-use std::thread::Threads;
+use std::thread::{Threads, join_mut};
 
 /// How many links have their lines in one part, at the most.
 pub(crate) const PART_LINKS: usize = 8192;
@@ -98,7 +97,8 @@ pub(crate) fn text_parts<A: Allocator + Copy>(
     Ok(parts)
 }
 
-/// Puts the lines of these links into the parts, each by a thread of its own where one can be made.
+/// Puts the lines of these links into the parts, each by a thread of its own where one can be made, the first by this one.
+#[cycle(parts)]
 pub(crate) fn spell_parts<R: Threads + Sync, A: Allocator + Send>(
     rt: &R,
     links: &[Link],
@@ -107,23 +107,21 @@ pub(crate) fn spell_parts<R: Threads + Sync, A: Allocator + Send>(
     requires { length links.now ≤ length parts.old * PART_LINKS }
     ensures { flat_map (λ part. part) parts.new ≡ flat_map link_line links.now }
 {
-    let threads = parts.len().max(1);
-    thread::for_each_mut(
-        rt,
-        parts,
-        threads,
-        &|i: usize, part: &mut TextPart<A>|
-            ensures { part.exit.now ≡ flat_map link_line (slice_chunk links.entry.now PART_LINKS i) }
-        { part.spell(nth_part(links, i)) },
-    );
-}
-
-// The links whose lines the part of this number has.
-fn nth_part(links: &[Link], i: usize) -> &[Link]
-    ensures part { result.now ≡ slice_chunk links.now PART_LINKS i }
-    ensures few { length result.now ≤ PART_LINKS }
-{
-    let from = i.saturating_mul(PART_LINKS).min(links.len());
-    let rest = &links[from..];
-    &rest[..PART_LINKS.min(rest.len())]
+    let Some((part, others)) = parts.split_last_mut() else {
+        return;
+    };
+    let (earlier, later) = links.split_at(others.len().saturating_mul(PART_LINKS).min(links.len()));
+    if others.is_empty() {
+        part.spell(later);
+        return;
+    }
+    let mut last = ||
+        requires { length later.now ≤ PART_LINKS }
+        ensures { part.exit.now ≡ flat_map link_line later.entry.now }
+    { part.spell(later) };
+    let mut rest = ||
+        requires { IsSync R.row × IsSend A.row × Frees A.Allocator A.dealloc_token × (length earlier.now ≤ length others.now * PART_LINKS) }
+        ensures { flat_map (λ part. part) others.exit.now ≡ flat_map link_line earlier.entry.now }
+    { spell_parts(rt, earlier, others) };
+    join_mut(rt, &mut last, &mut rest);
 }

@@ -1,27 +1,33 @@
 use Rattle.std.proofs.Common.{rules, ◌∙◌}
-use Rattle.gr_text.proofs.Sourcing.{read_to_end, breaks_off, read_up_to}
+use Rattle.gr_text.proofs.Sourcing.{piece_fed, ends_behind, breaks_off, read_up_to}
 use Rattle.gr_text.proofs.sourced.read_pieces.Goals as goal
 
-pub returns-in-Err : goal.returns-in-Err
-returns-in-Err g c =
-    let so_far = c.loop-turn.invariant in
-    let (text, read, got) = so_far.got in
-    record { outcome = breaks_off _ _ _ text _ _ _ read so_far.clean so_far.limit (c.line.ensures text read so_far.clean) got c.in-Err.ensures.gave }
-
-pub returns-in-Ok-eq0 : goal.returns-in-Ok-eq0
-returns-in-Ok-eq0 g c =
-    let so_far = c.loop-turn.invariant in
-    let (text, read, got) = so_far.got in
+pub loop-read-preserved : goal.loop-read-preserved
+loop-read-preserved g c =
+    let so_far = c.loop-read.invariant in
     record {
-      outcome = read_to_end _ _ _ text _ _ _ read so_far.clean so_far.limit (c.finish.ensures.outcome text read) got
-          (c.in-Ok-eq0.ensures.gave.1 (search rules));
+      can = c.in-Ok.ensures.again (search rules);
+      limit = c.in_default.ensures.limit ∙ so_far.limit;
+      few = search rules;
+      within = search rules;
+      clean = c.in_default.ensures.fault;
+      followed = λ before first.
+          piece_fed _ _ _ before _ _ c.in_default.ensures.fed (so_far.followed before first) (c.in-Ok.ensures.gave.0 (search rules));
     }
 
-pub returns-in-Err-feed : goal.returns-in-Err-feed
-returns-in-Err-feed g c =
-    let so_far = c.loop-turn.invariant in
-    let (text, read, got) = so_far.got in
-    record {
-      outcome = read_up_to _ _ _ text _ _ _ _ (c.in-Err-feed.ensures.fed text read) c.in-Err-feed.ensures.fault
-          (c.in-Err-feed.ensures.limit ∙ so_far.limit) got (c.in-Ok.ensures.gave.0 (search rules));
-    }
+pub returns-in-Err-clause-followed : goal.returns-in-Err-clause-followed
+returns-in-Err-clause-followed g c = λ before first.
+    let so_far = c.loop-read.invariant in
+    breaks_off _ _ _ before _ _ (so_far.followed before first) so_far.clean so_far.limit
+    (λ text read. c.line.ensures text read so_far.clean) c.in-Err.ensures.gave
+
+pub returns-in-Ok-eq0-clause-followed : goal.returns-in-Ok-eq0-clause-followed
+returns-in-Ok-eq0-clause-followed g c = λ before first.
+    ends_behind _ before _ _ (c.loop-read.invariant.followed before first) (c.in-Ok-eq0.ensures.gave.1 (search rules))
+
+pub returns-in-Err-feed-clause-followed : goal.returns-in-Err-feed-clause-followed
+returns-in-Err-feed-clause-followed g c = λ before first.
+    let so_far = c.loop-read.invariant in
+    read_up_to _ _ _ before _
+    (piece_fed _ _ _ before _ _ c.in-Err-feed.ensures.fed (so_far.followed before first) (c.in-Ok.ensures.gave.0 (search rules)))
+    c.in-Err-feed.ensures.fault (c.in-Err-feed.ensures.limit ∙ so_far.limit)

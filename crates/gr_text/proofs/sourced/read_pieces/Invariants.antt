@@ -1,17 +1,20 @@
-use Rattle.std.proofs.Common.{◌≡◌, ◌≤◌, ℕ, List, None}
-use Rattle.byte_streams.specs.Streams.{Gave}
-use Rattle.gr_text.specs.Reader.{HasRead}
+use Rattle.std.proofs.Common.{◌≡◌, ◌-◌, ◌≤◌, None}
+use Rattle.byte_streams.specs.Streams.{SourceState}
+use Rattle.gr_text.specs.Sourced.{HasFollowed}
 use Rattle.gr_text.proofs.sourced.read_pieces.Given as goal
 
--- the reader has read what the source gave, and each turn gave at least a byte
-abbrev pub invariant-loop-turn : goal.invariant-loop-turn
-invariant-loop-turn g l =
+-- the reader was fed what the source gave here
+abbrev pub invariant-loop-read : goal.invariant-loop-read
+invariant-loop-read g l =
     let source = g.S.Source in
     record {
       can : source.can_read l.source;
-      limit : l.reader.limit ≡ l.limit;
-      within : l.reader.fed ≤ l.reader.limit;
-      turns : l._turn ≤ l.reader.fed;
+      limit : l.reader.limit ≡ l.fn.reader.limit;
+      few : l.read ≤ l.reader.fed;
+      within : l.read ≤ l.reader.limit;
       clean : l.reader.fault ≡ None;
-      got : (text : List ℕ) × HasRead l.reader text × Gave 0 0 text (source.state l.fn.source) (source.state l.source);
+      followed : (before : SourceState) → HasFollowed 0 l.fn.reader before (source.state l.fn.source) → HasFollowed 0 l.reader before (source.state l.source);
     }
+
+abbrev pub decreases-loop-read : goal.decreases-loop-read
+decreases-loop-read g l = l.enough - l.read
