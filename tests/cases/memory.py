@@ -1,5 +1,4 @@
 """Refused memory: each allocation in turn, alone and with all that follow; little address space."""
-import os
 import resource
 
 from cases.running import NO_MEMORY, SMALL_FOREST, SMALL_NET, SMALL_REPORT, Program, Report, case, drawn_graph, expect, ran, told_by, written
@@ -115,17 +114,12 @@ def each_large_allocation_of_a_run_by_threads_refused(room):
     each_refused_over_workers(room, file, text, 2, 2, 2**19, 10)
 
 
-def on_one_processor():
-    """What runs from here on has one processor, so that no thread shares what is read, which would take room for that."""
-    os.sched_setaffinity(0, [min(os.sched_getaffinity(0))])
-
-
 @case
 def no_allocation_of_twice_the_largest_list(room):
     # (of 4,096 answers, of 32 bytes each beside its offers)
     words = [Program.path, *over(64, 4096)]
     more = {"REFUSE_ABOVE": str(2 * 4096 * 32 - 1)}
-    found, told = told_by(room, words, SMALL_NET, more, library="refusing", preexec_fn=on_one_processor)
+    found, told = told_by(room, words, SMALL_NET, more, library="refusing")
     expect(found, 0, SMALL_FOREST, b"")
     expect((told, b"", b""), b"", b"", b"")
 
@@ -166,10 +160,9 @@ def least_space_for_help():
     return enough * page
 
 
-def grown_space(last, stack=0):
-    """Thirty sizes of address space, from the least for the help, and so much stack, to the last, which grow faster and
-    faster."""
-    least = least_space_for_help() + stack
+def grown_space(last):
+    """Thirty sizes of address space, from the least for the help to the last, which grow faster and faster."""
+    least = least_space_for_help()
     return [least + (last - least) * step**2 // 29**2 for step in range(30)]
 
 
@@ -207,8 +200,7 @@ def no_more_memory_than_is_documented(room):
 @case
 def little_address_space_for_workers(_room):
     file, text = drawn_graph(7, 3000, 10_000)
-    # (a run by threads grows its stack late, and where no space is left for that the system ends the program)
-    for size in grown_space(1 << 30, stack=256 << 10):
+    for size in grown_space(1 << 30):
         found = in_space(size, [*over(2, 4), "--report"], file)
         expect_right_or_no_memory(found, text, 2, 4)
     # in a gigabyte both workers have their threads

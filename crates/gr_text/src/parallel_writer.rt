@@ -11,7 +11,7 @@ use crate::text_parts::{PART_LINKS, TextPart, spell_parts, text_parts};
 use crate::writer::{WriteFault, hand_out, write_forest};
 use byte_streams::{Failed, Sink};
 use links::Forest;
-use std::alloc::{AllocError, Allocator};
+use std::alloc::Allocator;
 use std::thread::Threads;
 
 // Hands the bytes of the parts to the sink in their order, as the next part of a text of which `written` bytes went out
@@ -107,11 +107,10 @@ pub fn write_forest_par<R: Threads + Sync, W: Sink, A: Allocator + Copy + Send +
     ensures again { OnOk result (W.can_write sink.new) }
 {
     let count = threads.min(forest.links().len() / PART_LINKS);
-    if count < 2 {
-        return write_forest(sink, n, forest);
+    if count > 1 {
+        if let Ok(mut parts) = text_parts(alloc, count) {
+            return write_by_parts(rt, parts.as_mut_slice(), sink, n, forest);
+        }
     }
-    match text_parts(alloc, count) {
-        Ok(mut parts) => write_by_parts(rt, parts.as_mut_slice(), sink, n, forest),
-        Err(AllocError) => write_forest(sink, n, forest),
-    }
+    write_forest(sink, n, forest)
 }

@@ -11,8 +11,11 @@ use std::process::Abort;
 use std::thread::Threads;
 use test_memory::{Refusals, Refusing};
 
-// How many arc lines a text has: about 400 KB of them.
+// How many arc lines a text has: about 400 KB of them, behind the first MiB.
 const LINES: u32 = 20_000;
+
+// How long a comment is that one thread reads, before threads share what is behind it.
+const COMMENT: usize = 1 << 20;
 
 // How many vertices.
 const VERTICES: u32 = 30_000;
@@ -23,6 +26,19 @@ const THREADS: [usize; 6] = [0, 1, 2, 3, 7, 64];
 // As many as find each of many faults.
 const FEW_THREADS: [usize; 3] = [1, 3, 64];
 
+// A problem line of vertices and arc lines, and a comment of so many bytes behind it.
+fn first_lines(rt: &impl Abort, alloc: Global, vertices: u32, lines: u32) -> Vec<u8> {
+    let first = format!(in alloc; "p sp {vertices:08} {lines:08}\nc").expect(rt, "memory");
+    let mut text = Vec::from_slice(alloc, first.as_bytes()).expect(rt, "memory");
+    text.resize(BEFORE.wrapping_sub(1), b'-').expect(rt, "memory");
+    text.push(b'\n').expect(rt, "memory");
+    text
+}
+
+// How many bytes these lines have, and those of the problem line alone.
+const BEFORE: usize = 23 + COMMENT;
+const PROBLEM: usize = 23;
+
 // A text and the links that it gives.
 #[derive(Drop)]
 struct Drawn {
@@ -31,11 +47,10 @@ struct Drawn {
 }
 
 impl Drawn {
-    // A text of the problem line alone, of so many arc lines.
+    // A text of the first lines alone, of so many arc lines.
     fn begun(rt: &impl Abort, alloc: Global, lines: u32) -> Drawn {
-        let first = format!(in alloc; "p sp {VERTICES} {lines}\n").expect(rt, "memory");
         Drawn {
-            text: Vec::from_slice(alloc, first.as_bytes()).expect(rt, "memory"),
+            text: first_lines(rt, alloc, VERTICES, lines),
             links: Vec::new(alloc),
         }
     }
@@ -156,10 +171,9 @@ fn fault(line: u64, kind: GrKind) -> ReadFault {
     ReadFault::Gr(GrFault { line, kind })
 }
 
-// A problem line that states so many arc lines, and so many of these, all of one length, so that the place of each is known.
+// First lines that state so many arc lines, and so many of these, all of one length, so that the place of each is known.
 fn even_lines(rt: &impl Abort, alloc: Global, stated: u32, count: u32) -> Vec<u8> {
-    let first = format!(in alloc; "p sp 99 {stated:08}\n").expect(rt, "memory");
-    let mut text = Vec::from_slice(alloc, first.as_bytes()).expect(rt, "memory");
+    let mut text = first_lines(rt, alloc, 99, stated);
     for _ in 0..count {
         text.extend_from_slice(b"a 11 12 123456789\n")
             .expect(rt, "memory");
@@ -182,7 +196,7 @@ fn tells_the_first_fault(rt: HostRuntime) {
     for place in [1u32, 4_000, 4_001, 4_002, 12_000] {
         for (bytes, kind) in rows {
             let mut text = whole.clone().expect(&rt, "memory");
-            let start = 17usize.wrapping_add((place.wrapping_sub(1) as usize).wrapping_mul(18));
+            let start = BEFORE.wrapping_add((place.wrapping_sub(1) as usize).wrapping_mul(18));
             for (at, byte) in bytes.iter().enumerate() {
                 if let Some(old) = text.get_mut(start.wrapping_add(at)) {
                     *old = *byte;
@@ -197,7 +211,7 @@ fn tells_the_first_fault(rt: HostRuntime) {
             } else {
                 kind
             };
-            let line = u64::from(place).wrapping_add(1);
+            let line = u64::from(place).wrapping_add(2);
             expect_fault(&rt, rt.alloc(), &text, fault(line, told));
         }
     }
@@ -207,11 +221,11 @@ fn tells_the_first_fault(rt: HostRuntime) {
 #[test]
 fn tells_what_is_wrong_with_the_whole(rt: HostRuntime) {
     let text = even_lines(&rt, rt.alloc(), 19_999, 20_000);
-    expect_fault(&rt, rt.alloc(), &text, fault(20_001, GrKind::TooManyArcs));
+    expect_fault(&rt, rt.alloc(), &text, fault(20_002, GrKind::TooManyArcs));
     let text = even_lines(&rt, rt.alloc(), 20_001, 20_000);
-    expect_fault(&rt, rt.alloc(), &text, fault(20_002, GrKind::MissingArcs));
-    let arcs = text.get(17..).expect(&rt, "arc lines");
-    expect_fault(&rt, rt.alloc(), arcs, fault(1, GrKind::NoProblemYet));
+    expect_fault(&rt, rt.alloc(), &text, fault(20_003, GrKind::MissingArcs));
+    let arcs = text.get(PROBLEM..).expect(&rt, "arc lines");
+    expect_fault(&rt, rt.alloc(), arcs, fault(2, GrKind::NoProblemYet));
     let mut drawn = Drawn::begun(&rt, rt.alloc(), LINES);
     drawn.put_arcs(&rt, rt.alloc(), LINES / 2, "\n");
     drawn.put(&rt, b"a 1 2 9223372036854775808\n");
@@ -220,7 +234,7 @@ fn tells_what_is_wrong_with_the_whole(rt: HostRuntime) {
         &rt,
         rt.alloc(),
         &drawn.text,
-        fault(10_002, GrKind::WeightOutOfRange),
+        fault(10_003, GrKind::WeightOutOfRange),
     );
 }
 
@@ -229,9 +243,9 @@ fn tells_what_is_wrong_with_the_whole(rt: HostRuntime) {
 fn tells_where_a_read_failed(rt: HostRuntime) {
     for threads in THREADS {
         let text = even_lines(&rt, rt.alloc(), 20_000, 20_000);
-        let mut source = FusedSource::new(text, 17 + 18 * 9_000 + 5, 100_000);
+        let mut source = FusedSource::new(text, BEFORE + 18 * 9_000 + 5, 100_000);
         let found = read_graph_par(&rt, threads, rt.alloc(), &mut source).err();
-        expect_same(&rt, found, Some(ReadFault::Source { line: 9_002 }));
+        expect_same(&rt, found, Some(ReadFault::Source { line: 9_003 }));
     }
 }
 

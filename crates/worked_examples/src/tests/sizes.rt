@@ -226,7 +226,7 @@ fn files_to_graphs(rt: HostRuntime) {
     }
 }
 
-// What is read at once has 65,536 bytes; a piece of a source or of a text has a byte, or about so many as that.
+// What is read at once has 49,152 bytes; a piece of a source or of a text has a byte, or about so many as that.
 #[test]
 fn files_in_pieces(rt: HostRuntime) {
     let n = 10_001;
@@ -234,7 +234,7 @@ fn files_in_pieces(rt: HostRuntime) {
     let links = links_between(&rt, rt.alloc(), n, arcs.as_slice());
     let text = path_text(&rt, rt.alloc(), n, arcs.as_slice());
     let limit = MAX_BYTES.min(text.len() as u64);
-    for piece in [1, 2, 4095, 4096, 65_535, 65_536, 65_537, 1 << 20] {
+    for piece in [1, 2, 4095, 4096, 49_151, 49_152, 49_153, 1 << 20] {
         let bytes = text.clone().expect(&rt, "memory");
         let mut source = FusedSource::new(bytes, usize::MAX, piece);
         let read = read_graph_upto(rt.alloc(), &mut source, limit).expect(&rt, "a graph");
