@@ -36,7 +36,7 @@ impl Model for Owner {
 
 impl Region {
     /// A region of `size` bytes that an allocator gives up for good: they don't go back to it. The bytes behind the last
-    /// whole 16 are counted, but not asked for. The error is that the allocator refuses them.
+    /// whole 16 are counted, but not asked for. The error is that the allocator refuses, or that no block has so many.
     pub fn leaked<A: Allocator>(alloc: &A, size: usize) -> Result<Region, AllocError>
         ensures { IfOk result (λ region. region.size ≡ size) }
     {
