@@ -123,8 +123,14 @@ static void put(struct graph *graph, const char *shape) {
     for (size_t i = 0; i < graph->m; i++) {
         const int64_t weight = (int64_t)(drawn(&seed) % 1000);
         const uint32_t at = (uint32_t)(i % (graph->n - 1)) + 1;
-        const struct boruvka_link any = {weight, (uint32_t)(drawn(&seed) % graph->n) + 1, (uint32_t)(drawn(&seed) % graph->n) + 1};
-        graph->links[i] = !strcmp(shape, "star") ? (struct boruvka_link){weight, graph->n, at} : !strcmp(shape, "path") ? (struct boruvka_link){weight, at, at + 1} : any;
+        const uint32_t low = (uint32_t)(drawn(&seed) % graph->n) + 1, high = (uint32_t)(drawn(&seed) % graph->n) + 1;
+        struct boruvka_link link = {weight, low, high};
+        if (!strcmp(shape, "star")) {
+            link = (struct boruvka_link){weight, graph->n, at};
+        } else if (!strcmp(shape, "path")) {
+            link = (struct boruvka_link){weight, at, at + 1};
+        }
+        graph->links[i] = link;
     }
 }
 
@@ -134,7 +140,8 @@ static struct graph graph_of(const char *shape, uint32_t n, size_t m) {
     graph.text = block_of(64 + 45 * graph.m);
     graph.length = (size_t)sprintf(graph.text, "p sp %" PRIu32 " %zu\n", graph.n, graph.m);
     for (size_t i = 0; i < graph.m; i++) {
-        graph.length += (size_t)sprintf(graph.text + graph.length, "a %" PRIu32 " %" PRIu32 " %" PRId64 "\n", graph.links[i].low, graph.links[i].high, graph.links[i].weight);
+        const struct boruvka_link link = graph.links[i];
+        graph.length += (size_t)sprintf(graph.text + graph.length, "a %" PRIu32 " %" PRIu32 " %" PRId64 "\n", link.low, link.high, link.weight);
     }
     return graph;
 }
@@ -144,7 +151,8 @@ typedef int64_t answer_of(const struct graph *graph, void *block, size_t size, v
 
 static int64_t of_links(const struct graph *graph, void *block, size_t size, void *out) {
     memcpy(out, graph->links, graph->m * sizeof *graph->links);
-    return block == 0 ? boruvka_forest(graph->n, out, graph->m) : boruvka_forest_within((struct boruvka_memory){block, size}, graph->n, out, graph->m);
+    return block == 0 ? boruvka_forest(graph->n, out, graph->m)
+                      : boruvka_forest_within((struct boruvka_memory){block, size}, graph->n, out, graph->m);
 }
 
 static int64_t of_text(const struct graph *graph, void *block, size_t size, void *out) {
