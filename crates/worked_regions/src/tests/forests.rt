@@ -51,7 +51,8 @@ fn expect_refusal<A: Allocator + Copy>(
     expect_rows(rt, alloc, links.as_slice(), rows);
 }
 
-// Vertices, one link with an end that is none of them, and the code: too many vertices come before a bad end.
+// Vertices, one link with an end that is none of them, and the code: too many vertices come before a bad end. (More than
+// 2^30 links, which are refused too, would take 16 GB.)
 const REFUSED: [(u32, Row, i64); 8] = [
     (2, (0, 1, 5), -2),
     (2, (1, 0, 5), -2),
@@ -107,7 +108,22 @@ fn long_row(place: u32) -> Row {
     }
 }
 
-// The heaviest comes first: the forest has all links in the other order, lower ends first.
+// All links of a long path are its forest.
+fn expect_long<A: Allocator + Copy>(
+    rt: &impl Abort,
+    alloc: Global,
+    within: A,
+    rows: &[Row],
+    wanted: &[Row],
+) {
+    let mut links = given(rt, alloc, rows);
+    let count = put_forest(within, LONG + 1, links.as_mut_slice());
+    expect_same(rt, count, 200_003);
+    expect_rows(rt, alloc, links.as_slice(), wanted);
+}
+
+// The heaviest comes first: the forest has them in the other order, lower ends first. The heap has 26 bytes a link, 10 a
+// vertex and 16384 more.
 #[test]
 fn the_forest_of_a_long_path(rt: HostRuntime) {
     let mut rows = Vec::new(rt.alloc());
@@ -120,10 +136,15 @@ fn the_forest_of_a_long_path(rt: HostRuntime) {
             .push((low, low.wrapping_add(1), i64::from(low)))
             .expect(&rt, "memory");
     }
-    let mut links = given(&rt, rt.alloc(), rows.as_slice());
-    let count = put_forest(rt.alloc(), LONG + 1, links.as_mut_slice());
-    expect_same(&rt, count, 200_003);
-    expect_rows(&rt, rt.alloc(), links.as_slice(), wanted.as_slice());
+    expect_long(
+        &rt,
+        rt.alloc(),
+        rt.alloc(),
+        rows.as_slice(),
+        wanted.as_slice(),
+    );
+    let heap = heap_of(&rt, rt.alloc(), 7_216_502);
+    expect_long(&rt, rt.alloc(), &heap, rows.as_slice(), wanted.as_slice());
 }
 
 #[test]

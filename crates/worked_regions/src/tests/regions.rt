@@ -1,7 +1,7 @@
 // A region, and the allocator that gives it out as one block.
 use super::given::{has_room, region_of};
 use super::same::expect_same;
-use region_heap::OneBlock;
+use region_heap::{OneBlock, Region};
 use std::alloc::Global;
 use std::process::Abort;
 
@@ -17,13 +17,17 @@ fn sizes_of_regions(rt: HostRuntime) {
     }
 }
 
+// An allocator of 48 bytes gives up three units, and nothing after that. No block has 2^63 bytes.
 #[test]
-fn a_region_past_what_a_block_can_have(rt: HostRuntime) {
-    expect_same(
-        &rt,
-        region_heap::Region::leaked(&rt.alloc(), 1 << 63).is_err(),
-        true,
-    );
+fn regions_that_are_refused(rt: HostRuntime) {
+    let one = one_block(&rt, rt.alloc(), 48);
+    expect_same(&rt, Region::leaked(&one, 1 << 63).is_err(), true);
+    expect_same(&rt, Region::leaked(&one, 64).is_err(), true);
+    let region = Region::leaked(&one, 63).expect(&rt, "three units");
+    expect_same(&rt, region.size(), 63);
+    expect_same(&rt, Region::leaked(&one, 0).is_err(), true);
+    drop(region);
+    expect_same(&rt, Region::leaked(&one, 16).is_err(), true);
 }
 
 // The bytes of a region, those of a block, and whether it is given out: whole units of 16 bytes, as many as there are.

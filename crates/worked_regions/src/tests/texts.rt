@@ -122,6 +122,7 @@ fn a_text_without_memory(rt: HostRuntime) {
 }
 
 // A path that is past the size of every inner piece, each link as heavy as its lower end: its text is that of its forest.
+// The heap has 4 times its length, 10 bytes a vertex and 16384 more.
 #[test]
 fn the_text_of_a_long_path(rt: HostRuntime) {
     let mut text = Vec::from_slice(rt.alloc(), b"p sp 200004 200003\n").expect(&rt, "memory");
@@ -133,12 +134,12 @@ fn the_text_of_a_long_path(rt: HostRuntime) {
             .expect(&rt, "memory");
     }
     let length = text.as_slice().len();
-    expect_text(
+    let path = text.as_slice();
+    expect_text(&rt, rt.alloc(), rt.alloc(), path, length, path);
+    let heap = heap_of(
         &rt,
         rt.alloc(),
-        rt.alloc(),
-        text.as_slice(),
-        length,
-        text.as_slice(),
+        length.saturating_mul(4).saturating_add(2_016_424),
     );
+    expect_text(&rt, rt.alloc(), &heap, path, length, path);
 }
