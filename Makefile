@@ -100,7 +100,7 @@ uninstall:
 	rm -f $(LIB)/libboruvka.a $(LIB)/libboruvka_within.a $(LIB)/libboruvka.so $(LIB)/libboruvka.so.$(MAJOR) $(LIB)/$(SHARED) $(LIB)/pkgconfig/boruvka.pc
 	rm -f $(BASH_COMPLETIONS)/boruvka $(ZSH_COMPLETIONS)/_boruvka $(FISH_COMPLETIONS)/boruvka.fish
 
-dist: $(PROGRAM) lib
+dist: $(PROGRAM) lib $(WASM)
 	@python3 tools/dist.py
 
 bench: $(PROGRAM) $(BENCH)

@@ -5,8 +5,9 @@ usage: tools/dist.py [--program FILE] [--libraries FOLDER] [INTO]
 
 It proves and builds nothing: `make dist` does that before it. FILE is the program, FOLDER has the libraries, and INTO
 gets the packages: dist/, if none is named. What goes into them is what `make install` copies, with documents, the
-licence, the examples, the sums of all files, and PROVED.txt: the commit, the kit, and the last lines of the gate if it
-has passed on this commit. The wheel has the package of python/boruvka and the shared library; no compiler made it.
+licence, the examples, the page of web/ as `make page` packs it, its module, the sums of all files, and PROVED.txt: the
+commit, the kit, and the last lines of the gate if it has passed on this commit. The wheel has the package of
+python/boruvka and the shared library; no compiler made it.
 
 The same files give the same bytes: names are sorted, owners are root, and each time is that of the commit, or
 SOURCE_DATE_EPOCH if that is set. Each package's sum goes to standard output.
@@ -28,12 +29,14 @@ import zipfile
 
 sys.dont_write_bytecode = True
 
+import page
 import record
 from crates import ROOT
 from stamp import git, seconds, text_of, version
 
 PROGRAM = f"{ROOT}/crates/boruvka/out/boruvka"
 LIBRARIES = f"{ROOT}/crates/boruvka_c/out"
+MODULE = f"{ROOT}/crates/boruvka_within/out/boruvka.wasm"
 EXAMPLES = ["examples/small.gr", "examples/roads.gr", *(f"examples/embed/forest.{it}" for it in ("c", "cpp", "py", "rs")), "examples/embed/within.c"]
 # What the README sends its reader to, as far as it isn't code.
 DOCUMENTS = ["README.md", "SECURITY.md", "CHANGELOG.md", *(f"docs/{it}.md" for it in ("GR_FORMAT", "RECIPES", "PROTOCOL", "PROMISES", "PERFORMANCE"))]
@@ -53,7 +56,8 @@ Priority: optional
 Description: minimum spanning forests of weighted graphs
  The program boruvka reads a weighted graph in the .gr format and writes its
  minimum spanning forest. A shared and a static library compute the forest of
- links that lie in the memory of a program in C, Rust or Python.
+ links that lie in the memory of a program in C, Rust or Python. A page draws
+ forests in a browser.
 """
 # What any Linux of the wheel's tag has: the policy manylinux2014 (PEP 599).
 TAG = "py3-none-manylinux2014_x86_64"
@@ -126,6 +130,14 @@ class Release:
         else:
             yield "gate (make test): not known to have passed on this commit"
 
+    def put_page(self, share):
+        """The page of web/, and the module that is in it."""
+        if not os.path.exists(MODULE):
+            raise NotPacked(f"there is no {os.path.relpath(MODULE, ROOT)}: `make wasm` builds it")
+        module = read(MODULE)
+        put(f"{share}/boruvka.wasm", module)
+        put(f"{share}/boruvka.html", page.packed(module))
+
     def settle(self, root):
         """Gives all below a folder the modes and the time that they have in a package."""
         for at, folders, files in os.walk(root, topdown=False):
@@ -172,6 +184,7 @@ def tarball(release, room):
     release.install(root, "")
     for path in ["LICENSE", *DOCUMENTS, *EXAMPLES]:
         put(f"{root}/{path}", text_of(path))
+    release.put_page(f"{root}/share/boruvka")
     put(f"{root}/PROVED.txt", "\n".join(release.proved()) + "\n")
     put(f"{root}/SHA256SUMS", sums(root, "sha256"))
     release.settle(root)
@@ -252,11 +265,12 @@ def debian(release, room):
     root = f"{room}/root"
     lib = "/usr/lib/x86_64-linux-gnu"
     release.install(root, "/usr", LIBDIR=lib, ZSHDIR="/usr/share/zsh/vendor-completions")
-    page = f"{root}/usr/share/man/man1/boruvka.1"
-    put(f"{page}.gz", gzipped(read(page)))
-    os.remove(page)
+    manual = f"{root}/usr/share/man/man1/boruvka.1"
+    put(f"{manual}.gz", gzipped(read(manual)))
+    os.remove(manual)
     # a shared library isn't run
     os.chmod(f"{root}{lib}/libboruvka.so.{release.version}", 0o644)
+    release.put_page(f"{root}/usr/share/boruvka")
     share = f"{root}/usr/share/doc/boruvka"
     put(f"{share}/copyright", text_of("LICENSE"))
     put(f"{share}/PROVED.txt", "\n".join(release.proved()) + "\n")

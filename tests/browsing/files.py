@@ -86,6 +86,7 @@ def places_of_a_graph(_room):
     is_so(page.saved("savepicture", "forest.svg") == together, False)
     page.drop(("places.co", PLACES))
     page.expect(points="6", total="13", size="5")
+    page.keep("places")
     is_so(page.saved("savepicture", "forest.svg"), together)
     # y goes upwards: the vertex 6 is the last, right above
     marks = together.decode().split('fill="#0072b2" d="M')[1].split('"')[0].split("M")

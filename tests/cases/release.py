@@ -1,5 +1,6 @@
 """The version, `make install`, the heads of examples/embed, completions, and the packages of `make dist`, which are made
 out of the built program and libraries, unpacked into empty folders and tried there."""
+import base64
 import gzip
 import hashlib
 import os
@@ -16,6 +17,7 @@ import time
 
 from cases.embedding import ENVIRONMENT, LIBRARIES, compiler, libraries
 from cases.running import ROOT, SMALL_FOREST, SMALL_NET, Program, Skipped, case, expect, ran, run, written
+from cases.within import module
 
 sys.path.insert(0, f"{ROOT}/tools")
 
@@ -353,9 +355,25 @@ def completions_of_fish(room):
 # make dist
 
 
+PAGE_AND_MODULE = ["boruvka.html", "boruvka.wasm"]
+
+
+def expect_page(room, share):
+    """A folder of a package has the module, and the page as `make page` packs it, with that module in it."""
+    built = module()
+    expect(run([sys.executable, f"{ROOT}/tools/page.py", built, f"{room}/page.html"]), 0, b"", b"")
+    for name, path in zip(PAGE_AND_MODULE, [f"{room}/page.html", built], strict=True):
+        with open(f"{share}/{name}", "rb") as found, open(path, "rb") as wanted:
+            is_so((name, found.read() == wanted.read()), (name, True))
+    with open(f"{share}/boruvka.html", encoding="utf-8") as page, open(built, "rb") as it:
+        held = re.search(r'<script type="text/plain" id="packed-module">\n(.*?)\n</script>', page.read(), re.S)[1]
+        is_so(base64.b64decode(held) == it.read(), True)
+
+
 def packed(into, env=KIT, **more):
     """Makes the packages, and answers their bytes by their names."""
     libraries()
+    module()
     words = [sys.executable, f"{ROOT}/tools/dist.py", "--program", Program.path, "--libraries", LIBRARIES, into]
     status, output, errors = run(words, env=env, **more)
     expect((status, b"", errors), 0, b"", b"" if shutil.which("dpkg-deb") else b"dpkg-deb is not there, so no .deb was made\n")
@@ -408,7 +426,9 @@ def the_packed_folder_is_whole_and_runs(room):
     is_so({it.mode for it in members if it.isfile() and it.name not in run_by} | {it.mode + 1 for it in members if it.isdir()}, {0o644, 0o756})
     root = f"{room}/empty/{name}"
     more = ["LICENSE", "PROVED.txt", "SHA256SUMS", *TEXTS]
+    more += [f"share/boruvka/{it}" for it in PAGE_AND_MODULE]
     is_so(files_below(root), {**installed(), **dict.fromkeys(more)})
+    expect_page(room, f"{root}/share/boruvka")
     with open(f"{root}/SHA256SUMS", encoding="utf-8") as it:
         told = dict(reversed(line.split()) for line in it)
     found = {}
@@ -437,7 +457,9 @@ def the_package_of_debian_is_whole_and_runs(room):
     wanted = installed("usr/bin", lib, "usr/include", "usr/share", "usr/share/man", "usr/share/zsh/vendor-completions")
     wanted["usr/share/man/man1/boruvka.1.gz"] = wanted.pop("usr/share/man/man1/boruvka.1")
     doc = ["copyright", "PROVED.txt", *TEXTS]
+    wanted.update({f"usr/share/boruvka/{it}": None for it in PAGE_AND_MODULE})
     is_so(files_below(root), {**wanted, **{f"usr/share/doc/boruvka/{it}": None for it in doc}})
+    expect_page(room, f"{root}/usr/share/boruvka")
     listed = run(["dpkg-deb", "-c", path], env={**PLAIN, "TZ": "UTC"})[1].decode().splitlines()
     is_so({tuple(it.split()[1:2] + it.split()[3:5]) for it in listed}, {("root/root", "2023-11-14", "22:13")})
     fields = dict(it.split(": ", 1) for it in run(["dpkg-deb", "-f", path])[1].decode().splitlines() if not it.startswith(" "))
@@ -460,8 +482,9 @@ def a_package_tells_what_the_gate_passed(room):
     """In a small repository: the record of a pass counts for its commit alone."""
     needs("git")
     libraries()
+    built = module()
     top = f"{room}/top"
-    for name in ["Makefile", "README.md", "SECURITY.md", "CHANGELOG.md", "LICENSE", "docs", "tools", "include", "man", "completions", "examples", "python", VERSION]:
+    for name in ["Makefile", "README.md", "SECURITY.md", "CHANGELOG.md", "LICENSE", "docs", "tools", "include", "man", "completions", "examples", "python", "web", VERSION]:
         copy = shutil.copytree if os.path.isdir(f"{ROOT}/{name}") else shutil.copy
         os.makedirs(os.path.dirname(f"{top}/{name}"), exist_ok=True)
         copy(f"{ROOT}/{name}", f"{top}/{name}")
@@ -499,7 +522,11 @@ def a_package_tells_what_the_gate_passed(room):
         shutil.copy(f"{LIBRARIES}/{name}", f"{top}/crates/boruvka_c/out/{name}")
     os.makedirs(f"{top}/crates/boruvka_within/out")
     shutil.copy(f"{ROOT}/crates/boruvka_within/out/libboruvka_within.a", f"{top}/crates/boruvka_within/out")
-    status, output, _ = run([sys.executable, "-B", f"{top}/tools/dist.py"], env={it: word for it, word in KIT.items() if it != "SOURCE_DATE_EPOCH"})
+    words, env = [sys.executable, "-B", f"{top}/tools/dist.py"], {it: word for it, word in KIT.items() if it != "SOURCE_DATE_EPOCH"}
+    missing = b"tools/dist.py: there is no crates/boruvka_within/out/boruvka.wasm: `make wasm` builds it\n"
+    expect(run(words, env=env), 1, b"", missing)
+    shutil.copy(built, f"{top}/crates/boruvka_within/out")
+    status, output, _ = run(words, env=env)
     is_so((status, output.count(b"\n")), (0, 3 if shutil.which("dpkg-deb") else 2))
     name = f"boruvka-{version()}-x86_64-linux"
     with tarfile.open(f"{top}/dist/{name}.tar.gz") as tar:

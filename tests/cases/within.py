@@ -87,6 +87,21 @@ def each_size_of_memory(room):
 
 
 @case
+def the_least_memory_beside_that_of_malloc(room):
+    """It is at most half as much again, for these graphs of more than a few links."""
+    wrapped = [f"-Wl,--wrap={it}" for it in ("malloc", "realloc", "free")]
+    words = [compiler(), "-O1", "-Wall", "-Wextra", "-Werror", INCLUDE, *wrapped, "-o", f"{room}/least", f"{ROOT}/tests/cases/least.c", library()]
+    expect(run([*words, libraries()[0]]), 0, b"", b"")
+    for shape, vertices, arcs in [("grid", 10_000, 0), ("drawn", 1000, 20_000)]:
+        status, output, errors = run([f"{room}/least", shape, str(vertices), str(arcs)])
+        expect((status, b"", errors), 0, b"", b"")
+        *_, of_links, links_by_malloc, of_text, text_by_malloc = map(int, output.split()[1:])
+        for least, peak in [(of_links, links_by_malloc), (of_text, text_by_malloc)]:
+            if not 0 < 2 * least <= 3 * peak:
+                raise AssertionError(f"{output.decode().strip()}: {least} bytes are more than 1.5 times {peak}")
+
+
+@case
 def lists_and_texts_within_memory(room):
     made = caller(room)
     expect_answers(lambda *words: [made, *words])

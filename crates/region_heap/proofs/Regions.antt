@@ -1,4 +1,4 @@
--- A region that was taken, and its memory as room for a type. Assumes `Logic`.
+-- A region that was taken or is made, and its memory as room for a type. Assumes `Logic`.
 use Rattle.std.proofs.Common.{◌≡◌, ℕ, ◌+◌, ◌-◌, ◌*◌, ◌/◌, ◌%◌, ◌^◌, ◌<◌, ◌≤◌, List, [], ◌∷◌, ◌++◌, IfSome, None, Some, refl, sym, ap, subst, ◌∙◌, w64, arith}
 use seplogic.Ra.Ura.{Ura}
 use mir.Syntax.{Ty, Width, w8, w16, w32, w128, ty_int, ty_array}
@@ -9,13 +9,19 @@ use prog.Align.{Dv, align_w, align-bytes}
 use prog.Capped.{capped_is, capped_small}
 use prog.Memory.{size, align, capped}
 use types.Logic.{Logic, sem}
-use types.Kit.{Item, Goal, Seq, ‵, raw, ◌⊛◌, ◌$◌, ◌∵◌, !, qed, done, move, keep, drop, use1, split, rewrite, fsplit, fpick, feq_l, flt_l}
+use types.Kit.{Item, Goal, Seq, ‵, raw, ◌⊛◌, ◌$◌, ◌∵◌, !, qed, done, move, keep, drop, use1, split, rewrite, fsplit, fjoin, fpick, fpack, feq_l, feq_i, flt_l, flt_i}
 use types.Match.{live}
-use denote.RattleType.{RattleType}
+use denote.RattleType.{RattleType, Valss}
 use denote.RawPtr.{Ptr, block_ptr, ptr_val, in_a_block}
 use denote.RawPtr.Room.{room_cut, past}
-use denote.Steps.{only}
+use denote.Builtin.{usize}
+use denote.RawPtr.{RawPtr}
+use denote.Steps.{only, nothing}
+use denote.Struct.Declared as Declared
+use denote.Struct.Owning as Owning
+use denote.Struct.Struct.{within}
 use Rattle.std.specs.contracts.option.Option as option
+use Rattle.region_heap.specs.contracts.region.Owner as owner
 use Rattle.region_heap.specs.contracts.region.Region as region
 use Rattle.region_heap.specs.Memory.{units, room_within}
 
@@ -26,6 +32,23 @@ Taken = option.the_row region.the_row
 -- a region as the machine has it: its owner takes no bytes
 abbrev pub region_val : Ptr → ℕ → Val
 region_val p n = vstruct (vcons (ptr_val p) (vcons (vint w64 n) (vcons (vstruct vnil) vnil)))
+
+-- the units of n bytes take the whole 16 of them
+pub units_sized : (n whole : ℕ) → n < 2 ^ 63 → whole ≡ n / 16 * 16 → capped (size (units n)) ≡ whole
+units_sized n whole small is = capped_is (size (units n)) (omega arith) ∙ sym is
+
+-- a region is made of its memory
+pub region_made : {M : Type 1} {𝓤 : Ura M} (𝓛 : Logic 𝓤) (p : Ptr) (n : ℕ) → n < 2 ^ 64
+    → ent 𝓤 (sem 𝓛 (room_within p n)) (sem 𝓛 ((region.the_row).own_val (record { start = p; size = n; owner = record { start = p; size = n }; own = (refl, refl) }) (region_val p n ∷ [])))
+region_made 𝓛 p n small =
+    let o : (owner.the_row).Denot = record { start = p; size = n } in
+    qed 𝓛 (‵ (room_within p n) ∷ []) ∵
+    nothing ! $ feq_i ! (List Val) (vstruct vnil ∷ []) (vstruct vnil ∷ []) refl $ fjoin ! $ fpack ! (Valss []) (within (Owning.shape owner.the_type) tt (vstruct vnil ∷ [])) tt $ fjoin ! $
+    nothing ! $ move ! (1 ∷ 0 ∷ []) $ fjoin ! $
+    flt_i ! n (2 ^ 64) small $ feq_i ! (List Val) (vint w64 n ∷ []) (vint w64 n ∷ []) refl $ fjoin ! $ fjoin ! $
+    feq_i ! (List Val) (ptr_val p ∷ []) (ptr_val p ∷ []) refl $ fjoin ! $
+    feq_i ! (List Val) (region_val p n ∷ []) (region_val p n ∷ []) refl $ fjoin ! $
+    fpack ! (Valss (RawPtr ∷ usize ∷ owner.the_row ∷ [])) (within (Declared.shape region.the_type) (p, (n, (o, tt))) (region_val p n ∷ [])) (ptr_val p ∷ [], (vint w64 n ∷ [], (vstruct vnil ∷ [], tt))) $ done !
 
 -- no type is aligned to more than a unit
 aligned : (τ : Ty) → Dv (align τ) 16

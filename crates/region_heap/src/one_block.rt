@@ -2,12 +2,9 @@
 ghost use Rattle.std.specs.Prelude.{◌≡◌, ◌%◌, ◌^◌, ◌<◌, ◌≤◌, IfSome};
 ghost use base.Fml.{ftrue};
 
-use crate::region::Region;
+use crate::region::{Region, UNIT};
 use std::alloc::{AllocError, Allocator};
 use std::cell::Cell;
-
-// Memory is given up in units of so many bytes.
-const UNIT: usize = 16;
 
 /// An allocator that gives a region out as one block, once, for a size that is a multiple of 16. What comes back isn't given
 /// out again.

@@ -1,0 +1,93 @@
+// The codes of refusals, as `include/boruvka.h` has them, and their texts.
+use super::same::expect_same;
+use caller_forests::{Refusal, put_fault_text};
+use gr_text::GrKind;
+use std::alloc::Global;
+use std::process::Abort;
+
+const CODES: [(Refusal, i64, &[u8]); 19] = [
+    (Refusal::NoMemory, -1, b"no memory"),
+    (Refusal::BadEnd, -2, b"an end is no vertex"),
+    (Refusal::TooManyVertices, -3, b"too many vertices"),
+    (Refusal::TooManyLinks, -4, b"too many links"),
+    (Refusal::TooLong, -5, b"file is too long"),
+    (Refusal::Line(GrKind::UnknownLine), -6, b"UnknownLine"),
+    (Refusal::Line(GrKind::NoProblemYet), -7, b"NoProblemYet"),
+    (Refusal::Line(GrKind::SecondProblem), -8, b"SecondProblem"),
+    (Refusal::Line(GrKind::BadProblem), -9, b"BadProblem"),
+    (Refusal::Line(GrKind::TooLarge), -10, b"TooLarge"),
+    (Refusal::Line(GrKind::BadArc), -11, b"BadArc"),
+    (Refusal::Line(GrKind::EndOutOfRange), -12, b"EndOutOfRange"),
+    (
+        Refusal::Line(GrKind::WeightOutOfRange),
+        -13,
+        b"WeightOutOfRange",
+    ),
+    (Refusal::Line(GrKind::TooManyArcs), -14, b"TooManyArcs"),
+    (
+        Refusal::Line(GrKind::MissingProblem),
+        -15,
+        b"MissingProblem",
+    ),
+    (Refusal::Line(GrKind::MissingArcs), -16, b"MissingArcs"),
+    (Refusal::LengthsDiffer, -17, b"lengths differ"),
+    (Refusal::TooFewPlaces, -18, b"too few places"),
+    (Refusal::Cycle, -19, b"a cycle"),
+];
+
+// What is in a room of so many bytes, of `~` before, once the text of this code was put there.
+fn expect_room(
+    rt: &impl Abort,
+    alloc: Global,
+    code: i64,
+    size: usize,
+    length: usize,
+    wanted: &[u8],
+) {
+    let mut room = Vec::from_elem(alloc, b'~', size).expect(rt, "memory");
+    let found = put_fault_text(code, room.as_mut_slice());
+    expect_same(rt, (code, found, room.as_slice()), (code, length, wanted));
+}
+
+#[test]
+fn codes_and_texts(rt: HostRuntime) {
+    for (why, code, text) in CODES {
+        expect_same(&rt, why.code(), code);
+        let mut whole = Vec::from_slice(rt.alloc(), text).expect(&rt, "memory");
+        whole.extend_from_slice(b"\0~").expect(&rt, "memory");
+        expect_room(
+            &rt,
+            rt.alloc(),
+            code,
+            text.len() + 2,
+            text.len(),
+            whole.as_slice(),
+        );
+    }
+}
+
+#[test]
+fn numbers_that_are_no_codes(rt: HostRuntime) {
+    for code in [0, 1, -20, i64::MIN, i64::MAX] {
+        expect_room(&rt, rt.alloc(), code, 12, 10, b"no refusal\0~");
+    }
+}
+
+// `a cycle` has 7 bytes, and a 0 ends it.
+#[test]
+fn small_rooms(rt: HostRuntime) {
+    let rooms: [&[u8]; 9] = [
+        b"",
+        b"\0",
+        b"a\0",
+        b"a \0",
+        b"a c\0",
+        b"a cy\0",
+        b"a cyc\0",
+        b"a cycl\0",
+        b"a cycle\0",
+    ];
+    for wanted in rooms {
+        expect_room(&rt, rt.alloc(), -19, wanted.len(), 7, wanted);
+    }
+}

@@ -1,0 +1,202 @@
+/* The least memory that a call needs, beside what it takes from malloc. For each graph it writes a line
+ *
+ *     SHAPE N M  LEAST PEAK  LEAST PEAK
+ *
+ * first of the call over links, then of the call over their text. LEAST is the size, in whole pages, of the least memory
+ * within which the call of libboruvka_within.a has its answer, PEAK how many bytes the call of libboruvka.a had at once
+ * from malloc and realloc. Both calls have to find the same, and LEAST is no more than include/boruvka.h calls enough.
+ *
+ *     least SHAPE N M    of this graph: grid (M counts for nothing), drawn, star or path
+ *
+ * It is linked with --wrap=malloc, --wrap=realloc and --wrap=free. */
+#include <boruvka.h>
+#include <inttypes.h>
+#include <stdio.h>
+#include <stdlib.h>
+#include <string.h>
+
+#define CHECK(holds) ((holds) ? (void)0 : wrong(#holds, __LINE__))
+
+enum { PAGE = 4096, HEAD = 16 };
+
+void *__real_malloc(size_t size);
+void *__real_realloc(void *block, size_t size);
+void __real_free(void *block);
+
+static size_t live, peak;
+
+static void wrong(const char *what, int line) {
+    fprintf(stderr, "least.c, line %d: not so: %s\n", line, what);
+    exit(1);
+}
+
+/* Before each block stands its size. */
+static void *counted(unsigned char *block, size_t size) {
+    if (block == 0) {
+        return 0;
+    }
+    memcpy(block, &size, sizeof size);
+    live += size;
+    peak = peak < live ? live : peak;
+    return block + HEAD;
+}
+
+static size_t size_of(const void *block) {
+    size_t size;
+    memcpy(&size, (const unsigned char *)block - HEAD, sizeof size);
+    return size;
+}
+
+void *__wrap_malloc(size_t size) {
+    return counted(__real_malloc(HEAD + size), size);
+}
+
+void __wrap_free(void *block) {
+    if (block != 0) {
+        live -= size_of(block);
+        __real_free((unsigned char *)block - HEAD);
+    }
+}
+
+/* What a block grows by counts, as where it stays in its place. */
+void *__wrap_realloc(void *block, size_t size) {
+    if (block == 0) {
+        return __wrap_malloc(size);
+    }
+    const size_t before = size_of(block);
+    unsigned char *made = __real_realloc((unsigned char *)block - HEAD, HEAD + size);
+    if (made == 0) {
+        return 0;
+    }
+    live -= before;
+    return counted(made, size);
+}
+
+struct graph {
+    uint32_t n;
+    size_t m, length;
+    struct boruvka_link *links;
+    char *text;
+};
+
+static void *block_of(size_t size) {
+    void *block = aligned_alloc(16, (size + 16) / 16 * 16);
+    CHECK(block != 0);
+    return block;
+}
+
+/* (none of these blocks is counted) */
+static void give_back(void *block) {
+    __real_free(block);
+}
+
+static uint64_t drawn(uint64_t *seed) {
+    *seed ^= *seed << 13;
+    *seed ^= *seed >> 7;
+    *seed ^= *seed << 17;
+    return *seed;
+}
+
+static void put_grid(struct graph *graph, uint64_t *seed) {
+    uint32_t side = 1;
+    while ((side + 1) * (side + 1) <= graph->n) {
+        side++;
+    }
+    graph->n = side * side;
+    graph->m = 0;
+    for (uint32_t v = 1; v <= graph->n; v++) {
+        if (v % side) {
+            graph->links[graph->m++] = (struct boruvka_link){(int64_t)(drawn(seed) % 1000), v, v + 1};
+        }
+        if (v + side <= graph->n) {
+            graph->links[graph->m++] = (struct boruvka_link){(int64_t)(drawn(seed) % 1000), v, v + side};
+        }
+    }
+}
+
+static void put(struct graph *graph, const char *shape) {
+    uint64_t seed = 1;
+    if (!strcmp(shape, "grid")) {
+        put_grid(graph, &seed);
+        return;
+    }
+    for (size_t i = 0; i < graph->m; i++) {
+        const int64_t weight = (int64_t)(drawn(&seed) % 1000);
+        const uint32_t at = (uint32_t)(i % (graph->n - 1)) + 1;
+        const uint32_t low = (uint32_t)(drawn(&seed) % graph->n) + 1, high = (uint32_t)(drawn(&seed) % graph->n) + 1;
+        struct boruvka_link link = {weight, low, high};
+        if (!strcmp(shape, "star")) {
+            link = (struct boruvka_link){weight, graph->n, at};
+        } else if (!strcmp(shape, "path")) {
+            link = (struct boruvka_link){weight, at, at + 1};
+        }
+        graph->links[i] = link;
+    }
+}
+
+static struct graph graph_of(const char *shape, uint32_t n, size_t m) {
+    struct graph graph = {n, m, 0, block_of((m + 2 * (size_t)n) * sizeof *graph.links), 0};
+    put(&graph, shape);
+    graph.text = block_of(64 + 45 * graph.m);
+    graph.length = (size_t)sprintf(graph.text, "p sp %" PRIu32 " %zu\n", graph.n, graph.m);
+    for (size_t i = 0; i < graph.m; i++) {
+        const struct boruvka_link link = graph.links[i];
+        graph.length += (size_t)sprintf(graph.text + graph.length, "a %" PRIu32 " %" PRIu32 " %" PRId64 "\n", link.low, link.high, link.weight);
+    }
+    return graph;
+}
+
+/* What a call answers within so many bytes, or with malloc if there is no block; the links or the text go to `out`. */
+typedef int64_t answer_of(const struct graph *graph, void *block, size_t size, void *out);
+
+static int64_t of_links(const struct graph *graph, void *block, size_t size, void *out) {
+    memcpy(out, graph->links, graph->m * sizeof *graph->links);
+    return block == 0 ? boruvka_forest(graph->n, out, graph->m)
+                      : boruvka_forest_within((struct boruvka_memory){block, size}, graph->n, out, graph->m);
+}
+
+static int64_t of_text(const struct graph *graph, void *block, size_t size, void *out) {
+    struct boruvka_fault fault;
+    const size_t room = graph->length + 64;
+    const uint8_t *text = (const uint8_t *)graph->text;
+    memset(out, 0, room);
+    return block == 0 ? boruvka_forest_text(text, graph->length, out, room, &fault)
+                      : boruvka_forest_text_within((struct boruvka_memory){block, size}, text, graph->length, out, room, &fault);
+}
+
+static void tell(const struct graph *graph, answer_of *answer, size_t out_size, size_t told) {
+    unsigned char *out = block_of(out_size), *wanted = block_of(out_size);
+    live = peak = 0;
+    const int64_t count = answer(graph, 0, 0, wanted);
+    CHECK(count >= 0 && live == 0);
+    size_t short_of = 0, enough = told / PAGE + 1;
+    unsigned char *block = block_of(enough * PAGE);
+    while (enough - short_of > 1) {
+        const size_t pages = (short_of + enough) / 2;
+        const int64_t found = answer(graph, block, pages * PAGE, out);
+        CHECK(found == count || found == BORUVKA_NO_MEMORY);
+        if (found == count) {
+            CHECK(!memcmp(out, wanted, out_size));
+            enough = pages;
+        } else {
+            short_of = pages;
+        }
+    }
+    CHECK(enough * PAGE <= told);
+    printf("  %zu %zu", enough * PAGE, peak);
+    give_back(block);
+    give_back(out);
+    give_back(wanted);
+}
+
+int main(int count, char **words) {
+    CHECK(count == 4);
+    struct graph graph = graph_of(words[1], (uint32_t)strtoul(words[2], 0, 10), strtoull(words[3], 0, 10));
+    printf("%s %" PRIu32 " %zu", words[1], graph.n, graph.m);
+    tell(&graph, of_links, graph.m * sizeof *graph.links, 26 * graph.m + 10 * (size_t)graph.n + 4 * PAGE);
+    tell(&graph, of_text, graph.length + 64, 4 * graph.length + 10 * (size_t)graph.n + 4 * PAGE);
+    printf("\n");
+    give_back(graph.links);
+    give_back(graph.text);
+    return 0;
+}
