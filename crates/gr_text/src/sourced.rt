@@ -48,7 +48,12 @@ pub fn read_graph_upto<S: Source, A: Allocator>(
     ensures outcome { IsReadOf limit result (S.state source.old) (S.state source.new) }
 {
     let mut buffer = [0; READ_ROOM];
-    read_rest(&mut OneThread, GrReader::new(alloc, limit), source, &mut buffer)
+    read_rest(
+        &mut OneThread,
+        GrReader::new(alloc, limit),
+        source,
+        &mut buffer,
+    )
 }
 
 /// The graph of a source of at most 2^40 bytes, read by at most so many threads; 0 means one.
@@ -83,7 +88,9 @@ pub fn read_graph_par<R: Threads + Sync, S: Source, A: Allocator + Copy>(
     };
     let mut pieces = Vec::new(alloc);
     let mut room = Vec::new(alloc);
-    if pieces.resize(PAR_READ_ROOM, 0).is_err() || room.resize(PAR_READ_ROOM / LEAST_LINE, any).is_err() {
+    if pieces.resize(PAR_READ_ROOM, 0).is_err()
+        || room.resize(PAR_READ_ROOM / LEAST_LINE, any).is_err()
+    {
         return read_rest(&mut OneThread, reader, source, &mut buffer);
     }
     let mut feeder = ManyThreads { rt, threads, room };

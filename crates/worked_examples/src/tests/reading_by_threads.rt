@@ -30,13 +30,15 @@ const FEW_THREADS: [usize; 3] = [1, 3, 64];
 fn first_lines(rt: &impl Abort, alloc: Global, vertices: u32, lines: u32) -> Vec<u8> {
     let first = format!(in alloc; "p sp {vertices:08} {lines:08}\nc").expect(rt, "memory");
     let mut text = Vec::from_slice(alloc, first.as_bytes()).expect(rt, "memory");
-    text.resize(BEFORE.wrapping_sub(1), b'-').expect(rt, "memory");
+    text.resize(BEFORE.wrapping_sub(1), b'-')
+        .expect(rt, "memory");
     text.push(b'\n').expect(rt, "memory");
     text
 }
 
 // How many bytes these lines have, and those of the problem line alone.
 const BEFORE: usize = 23 + COMMENT;
+
 const PROBLEM: usize = 23;
 
 // A text and the links that it gives.
