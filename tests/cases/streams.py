@@ -159,7 +159,7 @@ def an_input_that_comes_a_byte_at_a_time(_room):
 
 
 @case
-def reads_of_64_KiB_and_one_write_for_each_8_KiB(room):
+def reads_of_48_KiB_and_one_write_for_each_8_KiB(room):
     file, text = drawn_graph(18, 20_000, 40_000)
     name = written(f"{room}/net.gr", file)
     reads = -(-len(file) // READ_ROOM) + 1
@@ -173,12 +173,12 @@ def reads_of_64_KiB_and_one_write_for_each_8_KiB(room):
 
 @case
 def by_threads_reads_of_more_and_one_write_for_each_8192_links(room):
-    file, text = drawn_graph(18, 20_000, 40_000)
+    file, text = drawn_graph(18, 40_000, 100_000)
     name = written(f"{room}/net.gr", file)
     links = text.count(b"\n") - 1
     for words, processors in [(["--plain", "--threads", "2"], "1"), (MODES[1], "2")]:
         found, told = told_by(room, [Program.path, *words, name], b"", {"COUNTED": "1", "PROCESSORS": processors})
         expect(found, 0, text, b"")
-        # the file is less than one read asks for; the text's first line is a write of its own
-        if told != b"rr" + b"w" * (1 + -(-links // 8192)):
+        # the first MiB is read as by one thread, and the rest by one read; the text's first line is a write of its own
+        if told != b"R" * -(-(1 << 20) // READ_ROOM) + b"rr" + b"w" * (1 + -(-links // 8192)):
             raise AssertionError(f"{words}: {len(file)} bytes in, {links} links out: {told!r:.600}")

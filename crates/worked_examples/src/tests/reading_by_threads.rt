@@ -14,8 +14,8 @@ use test_memory::{Refusals, Refusing};
 // How many arc lines a text has: about 400 KB of them, behind the first MiB.
 const LINES: u32 = 20_000;
 
-// How long a comment is that one thread reads, before threads share what is behind it.
-const COMMENT: usize = 1 << 20;
+// How long a comment is, in which one thread is still when it has read a MiB or more; threads share what is behind it.
+const COMMENT: usize = (1 << 20) + 65_536;
 
 // How many vertices.
 const VERTICES: u32 = 30_000;
