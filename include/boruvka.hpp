@@ -1,5 +1,5 @@
 /* SPDX-License-Identifier: MIT OR Apache-2.0 */
-/* boruvka.hpp: the calls of boruvka.h over spans, for C++20.
+/* boruvka.hpp: calls of boruvka.h over spans, for C++20.
  *
  * A refusal is thrown as boruvka::refused; with BORUVKA_EXPECTED defined, and C++23, it is answered in a std::expected.
  * What boruvka.h asks of pointers and lengths is seen to here; that no other thread touches a span meanwhile isn't. */
