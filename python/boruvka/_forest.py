@@ -37,8 +37,8 @@ class Forest(NamedTuple):
 def minimum_spanning_forest(n: SupportsIndex, u: ArrayLike, v: ArrayLike, w: ArrayLike) -> Forest:
     """Find the minimum spanning forest of an undirected graph.
 
-    It is the edges that connect all that the graph connects, at the least total weight. Edge i of the m edges joins the vertices u[i] and v[i] with the weight w[i]. It may be a loop, and there may be
-    others between the same vertices.
+    It is the edges that connect all that the graph connects, at the least total weight. Edge i of the m edges joins the
+    vertices u[i] and v[i] with the weight w[i]. It may be a loop, and there may be others between the same vertices.
 
     Parameters
     ----------
