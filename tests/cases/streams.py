@@ -27,7 +27,7 @@ from cases.running import (
 # asks for the room of a pipe, on Linux (`fcntl` names it from Python 3.10 on)
 PIPE_SIZE = 1032
 
-# what a FILE and standard input are read by, and the least that a write takes while more is to come
+# what one thread reads a FILE and standard input by, and the least that a write takes while more is to come
 READ_ROOM = 49_152
 LEAST_PIECE = 8192 - 64
 

@@ -14,7 +14,7 @@ def by(threads):
 
 @functools.cache
 def drawn():
-    """A file of a graph whose forest has more links than seven threads write at a time, and the forest's text."""
+    """A file of a graph whose forest has more links than seven threads spell at a time, and the forest's text."""
     file, text = drawn_graph(21, 120_000, 300_000)
     if text.count(b"\na ") <= 7 * 8192:
         raise AssertionError("the forest is too small")
