@@ -1,5 +1,4 @@
 //! The forest of links that are known to be its links, each once, and that stand in any order.
-ghost use Rattle.std.specs.Prelude.{IfOk};
 ghost use Rattle.std.specs.List.Sorted.{IsPermutation};
 ghost use Rattle.links.specs.Link.{IsAscending};
 ghost use Rattle.links.specs.Least.{AreDistinct};
@@ -7,36 +6,32 @@ ghost use Rattle.links.specs.Least.{AreDistinct};
 use crate::forests::Forest;
 use crate::links::Link;
 use crate::sorting::{sort, sort_par};
-use std::alloc::{AllocError, Allocator};
+use std::alloc::Allocator;
 use std::thread::Threads;
 
 impl<A: Allocator + Copy> Forest<A> {
     /// The links of a list of which no two are one, in whatever order they stand: they are put in the order of their
     /// keys, in the list's own memory.
     ///
-    /// For m links it costs O(m log m) time. It takes no memory beside the list, and no call fails.
-    pub fn of_distinct(_alloc: A, links: Vec<Link, A>) -> Result<Self, AllocError>
+    /// For m links it costs O(m log m) time. It takes no memory.
+    pub fn of_distinct(links: Vec<Link, A>) -> Self
         requires distinct { AreDistinct links.items }
-        ensures same { IfOk result (IsPermutation links.items) }
-        ensures ascending { IfOk result IsAscending }
+        ensures same { IsPermutation links.items result }
+        ensures ascending { IsAscending result }
     {
         let mut links = links;
         sort(links.as_mut_slice());
-        Ok(Forest::of_ascending(links))
+        Forest::of_ascending(links)
     }
 
     /// The same by threads where there are many links, as many as there are processors.
-    pub fn of_distinct_par<R: Threads + Sync>(
-        rt: &R,
-        _alloc: A,
-        links: Vec<Link, A>,
-    ) -> Result<Self, AllocError>
+    pub fn of_distinct_par<R: Threads + Sync>(rt: &R, links: Vec<Link, A>) -> Self
         requires distinct { AreDistinct links.items }
-        ensures same { IfOk result (IsPermutation links.items) }
-        ensures ascending { IfOk result IsAscending }
+        ensures same { IsPermutation links.items result }
+        ensures ascending { IsAscending result }
     {
         let mut links = links;
         sort_par(rt, links.as_mut_slice());
-        Ok(Forest::of_ascending(links))
+        Forest::of_ascending(links)
     }
 }

@@ -26,7 +26,7 @@ use std::alloc::{AllocError, Allocator};
 /// There are at most log2 n + 1 rounds, the last of which picks nothing. For m links in s shards a round costs
 /// O(m + s + n) time and what [`Solver::step`](crate::Solver::step) does: each link of each shard counts for both of the
 /// components that it leaves. Memory: 48 bytes a vertex for labels, picks, links and what a step needs, and 4 more while it
-/// makes new labels; at the end 16 for each link in the forest, beside what [`Forest::of_distinct`] takes while it sorts.
+/// makes new labels; at the end 16 for each link in the forest.
 pub fn solve_alone<A: Allocator + Copy>(
     alloc: A,
     n: u32,

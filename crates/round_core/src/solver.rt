@@ -167,7 +167,7 @@ impl<A: Allocator + Copy> Solver<A> {
     /// in its order, whose ends they don't join; that is looked for before memory is asked for.
     ///
     /// It looks at each link of the cut once, and sorts the links taken: for m links of n vertices O(m + n log n) time.
-    /// Memory: 16 bytes for each link taken, and while it sorts what [`Forest::of_distinct`] takes beside them.
+    /// Memory: 16 bytes for each link taken.
     pub fn finish(&self, cut: &Cut<A>) -> Result<Forest<A>, SolveFault>
         requires ends { All (EndsUpTo (vertices self.now)) cut.now }
         ensures forest { IfOk result (IsFinished self.now (joined cut.now)) }
@@ -180,7 +180,7 @@ impl<A: Allocator + Copy> Solver<A> {
     }
 
     /// The same, but the threads of [`Forest::of_distinct_par`] sort. It takes the solver, at a fault too, and copies no link
-    /// taken: the forest stays in their list. Beside it the memory is what `of_distinct_par` takes while it sorts.
+    /// taken: the forest stays in their list. It takes no memory.
     pub fn finish_par<R: Threads + Sync>(
         self,
         rt: &R,
@@ -193,8 +193,7 @@ impl<A: Allocator + Copy> Solver<A> {
         if let Some(link) = self.first_missed(cut) {
             return Err(SolveFault::Missed { link });
         }
-        let taken = self.taken;
-        Ok(Forest::of_distinct_par(rt, *taken.allocator(), taken)?)
+        Ok(Forest::of_distinct_par(rt, self.taken))
     }
 }
 
@@ -249,5 +248,5 @@ fn in_key_order<A: Allocator + Copy>(alloc: A, links: &[Link]) -> Result<Forest<
     ensures ascending { IfOk result IsAscending }
 {
     let kept = Vec::from_slice(alloc, links)?;
-    Forest::of_distinct(alloc, kept)
+    Ok(Forest::of_distinct(kept))
 }

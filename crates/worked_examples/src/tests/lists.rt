@@ -60,7 +60,7 @@ fn distinct_lists(rt: HostRuntime) {
     let links = links_between(&rt, rt.alloc(), 4, &[(1, 4, 0), (3, 2, 5), (3, 4, -7)]);
     let wanted = links_between(&rt, rt.alloc(), 4, &[(3, 4, -7), (1, 4, 0), (2, 3, 5)]);
     assert!(&rt; have_lows_ascending(links.as_slice()));
-    let forest = Forest::of_distinct(rt.alloc(), links).expect(&rt, "memory");
+    let forest = Forest::of_distinct(links);
     expect_same(&rt, forest.links(), wanted.as_slice());
 }
 

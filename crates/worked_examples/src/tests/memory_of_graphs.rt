@@ -75,6 +75,6 @@ fn distinct_links_take_none(rt: HostRuntime) {
         links.push(link.expect(&rt, "a link")).expect(&rt, "memory");
     }
     assert!(&rt; have_lows_ascending(links.as_slice()));
-    let forest = Forest::of_distinct(&memory, links).expect(&rt, "memory");
+    let forest = Forest::of_distinct(links);
     expect_same(&rt, (forest.links().len(), memory.given()), (1000, 1));
 }

@@ -271,10 +271,10 @@ fn expect_distinct(rt: &(impl Abort + Threads + Sync), alloc: Global, n: u32, we
     wanted.sort_unstable();
     let again = links.clone().expect(rt, "memory");
     assert!(rt; have_lows_ascending(links.as_slice()));
-    let forest = Forest::of_distinct(alloc, links).expect(rt, "memory");
+    let forest = Forest::of_distinct(links);
     expect_same(rt, forest.links(), wanted.as_slice());
     assert!(rt; have_lows_ascending(again.as_slice()));
-    let by_threads = Forest::of_distinct_par(rt, alloc, again).expect(rt, "memory");
+    let by_threads = Forest::of_distinct_par(rt, again);
     expect_same(rt, by_threads.links(), wanted.as_slice());
 }
 

@@ -6,6 +6,6 @@ use Rattle.round_core.proofs.solver.Solver.finish_par.Goals as goal
 
 pub returns-clause-forest : goal.returns-clause-forest
 returns-clause-forest g c =
-    let forest = c.in_ok-of_distinct_par.field-0 in
+    let forest = c.of_distinct_par.result in
     finished c.args.self c.args.cut.now forest (subst IsProgress c.self.view_is c.self.invariant.0) c.requires.ends (sym c.in_default.ensures)
-    (subst (λ (p : Progress). IsPermutation p.taken forest) c.self.view_is c.in_ok-of_distinct_par.ensures.same) c.in_ok-of_distinct_par.ensures.ascending
+    (subst (λ (p : Progress). IsPermutation p.taken forest) c.self.view_is c.of_distinct_par.ensures.same) c.of_distinct_par.ensures.ascending
