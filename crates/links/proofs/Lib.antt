@@ -19,3 +19,4 @@ pub mod InPlace
 pub mod Kept
 pub mod LightFirst
 pub mod Together
+pub mod Sharing

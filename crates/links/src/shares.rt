@@ -1,5 +1,5 @@
 //! How many threads a piece of work over links is worth, and how two parts of it share them.
-ghost use Rattle.std.specs.Prelude.{◌+◌, ◌≤◌, IfSome};
+ghost use Rattle.std.specs.Prelude.{◌+◌, ◌*◌, ◌≤◌, ◌<◌, ◌⊎◌, IfSome, IfNone};
 
 // So many links, at the least, are worth a thread of their own.
 pub(crate) const LEAST_SHARE: usize = 1 << 15;
@@ -21,6 +21,9 @@ pub fn shares_of(links: usize, threads: usize) -> Option<Shares>
     ensures first { IfSome result (λ shares. shares.first ≤ links) }
     ensures some { IfSome result (λ shares. (1 ≤ shares.ahead) × (1 ≤ shares.behind)) }
     ensures all { IfSome result (λ shares. shares.ahead + shares.behind ≤ threads) }
+    ensures worth { IfSome result (λ shares. 32768 * shares.ahead ≤ shares.first) }
+    ensures rest_worth { IfSome result (λ shares. shares.first + 32768 * shares.behind ≤ links) }
+    ensures alone { IfNone result ((threads < 2) ⊎ (links < 65536)) }
 {
     let threads = threads.min(links / LEAST_SHARE);
     if threads < 2 {
