@@ -26,12 +26,12 @@ pub record AreLabelsBy (n : ℕ) (given : List GivenLink) (label : List ℕ) : T
   pub no_cycle : CloseNoCycle given
   pub least : AreLeastVertices n (Contains no_cycle.links) label
 
--- why vertices aren't labelled: the first of these causes, or want of memory if none of the first three is
+-- why vertices aren't labelled: the first of these causes, or want of memory if none of the first three is and no link is a loop
 abbrev pub IsLabelsRefusal : ℕ → List GivenLink → Refusal → Type 0
 IsLabelsRefusal n given TooManyVertices = MAX_VERTICES < n
 IsLabelsRefusal n given TooManyLinks = (n ≤ MAX_VERTICES) × (MAX_ARCS < length given)
 IsLabelsRefusal n given BadEnd = (n ≤ MAX_VERTICES) × (length given ≤ MAX_ARCS) × ¬ (HaveEnds n given)
-IsLabelsRefusal n given NoMemory = AreRight n given
+IsLabelsRefusal n given NoMemory = AreRight n given × HaveNoLoop given
 IsLabelsRefusal n given Cycle = AreRight n given × ¬ (CloseNoCycle given)
 IsLabelsRefusal n given other = ⊥
 

@@ -62,7 +62,8 @@ pub extern "C" fn boruvka_labels_in(alloc: Global, links: &[GivenLink], label: &
     ensures labelled { pos 0 ≤ℤ result → AreLabelsBy (length label.old) links.now label.new }
     ensures counted { pos 0 ≤ℤ result → result ≡ pos (length label.old) }
 
-    // Too many vertices, or else too many links, or else an end that is no vertex, or else a cycle, or want of memory.
+    // Too many vertices, or else too many links, or else an end that is no vertex, or else a loop, or else another cycle or want
+    // of memory.
     ensures refused { result <ℤ pos 0 → RefusesLabels (length label.old) links.now result }
     ensures untouched { result <ℤ pos 0 → label.new ≡ label.old }
 {
