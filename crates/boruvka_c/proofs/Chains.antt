@@ -58,29 +58,11 @@ one_more links heads next i slot x chained i_in i_in' slot_in at slot_is = recor
     next_are : (k : ℕ) (d : Link) → k < i + 1 → IsLastBefore links (length (set heads slot (i + 1))) (slot_of (length (set heads slot (i + 1))) (get_or links k d)) k (get_or (set next i (get_or heads slot 0)) k 0)
     next_are k d lt = subst (λ m. IsLastBefore links m (slot_of m (get_or links k d)) k (get_or (set next i (get_or heads slot 0)) k 0)) (sym same) (next_at k d lt)
 
--- none is in a chain yet
-pub none_chained : (links : List Link) (heads next : List ℕ) → ((s : ℕ) → s < length heads → get_or heads s 0 ≡ 0) → AreChained links 0 heads next
-none_chained links heads next empty = record {
-  heads_are = λ s s_in. subst (IsLastBefore links (length heads) s 0) (sym (empty s s_in)) (record {
-    before = omega arith;
-    in_slot = λ d some. absurd (omega (arith, some));
-    none_behind = λ k d lt is. absurd (omega (arith, lt));
-  });
-  next_are = λ k d lt. absurd (omega (arith, lt));
-}
-
 -- On the way down the chain of a link's slot: the link stands before `last`, if it stands anywhere.
 pub record IsOnWay (links : List Link) (slots : ℕ) (link : Link) (last : ℕ) : Type 0 where
   pub few : last ≤ length links
   pub in_slot : (d : Link) → 0 < last → slot_of slots (get_or links (last - 1) d) ≡ slot_of slots link
   pub above : (k : ℕ) (d : Link) → k < length links → get_or links k d ≡ link → k < last
-
-pub on_way : {links : List Link} {slots : ℕ} {link : Link} {last : ℕ} → IsLastBefore links slots (slot_of slots link) (length links) last → IsOnWay links slots link last
-on_way {links} {slots} {link} is = record {
-  few = is.before;
-  in_slot = is.in_slot;
-  above = λ k d lt at. is.none_behind k d lt (ap (slot_of slots) at);
-}
 
 -- one step down, from a link that is another one
 pub step_down : {links : List Link} {slots : ℕ} {link : Link} {last next : ℕ} → IsOnWay links slots link last → 0 < last

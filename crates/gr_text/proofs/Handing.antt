@@ -1,9 +1,9 @@
 -- Bytes handed to a sink in several calls.
-use Rattle.std.proofs.Common.{◌≡◌, ℕ, ◌+◌, ◌^◌, ◌<◌, List, [], ◌++◌, length, take, refl, sym, ap, subst, ◌∙◌, arith, append-nil, append_assoc, length-append}
+use Rattle.std.proofs.Common.{◌≡◌, ℕ, ◌+◌, ◌^◌, ◌<◌, List, [], ◌++◌, length, take, sym, ap, subst, ◌∙◌, arith, append-nil, append_assoc, length-append}
 use Rattle.std.proofs.Math.Seq.{take-append-add}
 use Rattle.std.proofs.lemmas.List.{take-append-le}
 use Rattle.byte_streams.specs.Streams.{SinkState, Took, WentOut}
-use Rattle.byte_streams.proofs.Streaming.{took_more, took_nothing}
+use Rattle.byte_streams.proofs.Streaming.{took_more}
 use Rattle.gr_text.specs.Handing.{HandsOn, HandsPrefix}
 use Rattle.gr_text.specs.Written.{written_count, PrefixWentOut}
 
@@ -63,10 +63,6 @@ pub prefix_is_exact : (written : ℕ) (text : List ℕ) (s t : SinkState) → le
 prefix_is_exact written text s t short part =
     let same : part.count ≡ written = omega (arith, part.within, part.counted) in
     record { within = omega (arith, part.within, same); took = subst (λ n. Took 1 (take n text) s t) same part.took }
-
--- nothing went out yet, and nothing waits
-pub hands_none : (count : ℕ) (s : SinkState) → count < 2 ^ 64 → HandsOn count count [] [] s s
-hands_none count s fits = record { out = []; took = took_nothing s; counted = omega (arith, fits); split = refl }
 
 -- all of some bytes went out, and then a prefix of the next ones before a setback
 pub hands_all_then_prefix : (count middle after : ℕ) (xs ys more : List ℕ) (s t u : SinkState) → HandsOn count middle xs [] s t

@@ -64,10 +64,6 @@ pub silent_alone : (first : List ℕ) (others : List (List ℕ)) → AreSilent (
 silent_alone [] others silent = silent
 silent_alone (b ∷ bytes) others silent = silent
 
--- a kept number within a limit is the number itself
-pub kept_end : (kept k n : ℕ) → IsCapped kept k → kept ≤ n → n ≤ MAX_VERTICES → k ≡ kept
-kept_end kept k n is in_range small = omega arith
-
 pub ends_of : (n u v : ℕ) (arc : Arc) → n ≤ MAX_VERTICES → IsCapped u arc.tail → IsCapped v arc.head → 1 ≤ u → u ≤ n → 1 ≤ v → v ≤ n → HasEnds n arc
 ends_of n u v arc small tail head u1 un v1 vn =
     record { tail_from_one = omega arith; tail_in_range = omega arith; head_from_one = omega arith; head_in_range = omega arith }

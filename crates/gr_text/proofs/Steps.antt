@@ -1,16 +1,15 @@
 -- What lines say when one more comes.
 use Rattle.std.proofs.Common.{◌≡◌, ℕ, ◌+◌, ◌<◌, ◌≤◌, inl, inr, List, [], ◌∷◌, ◌++◌, refl, ap, sym, ◌∙◌, subst, arith, append-nil, map, length, Option, Some, None, cond, true, false, Bool, Result, Ok, Err, MatchResult}
-use Rattle.std.specs.Prelude.{◌≢◌, ◌↔◌, IsNone, IfSome, option_to_list, max}
+use Rattle.std.specs.Prelude.{option_to_list}
 use Rattle.std.specs.List.{filter}
 use Rattle.std.proofs.lemmas.List.{map-append, length_push}
 use Rattle.std.proofs.lemmas.List.Elements.{filter-append}
-use Rattle.std.proofs.lemmas.Bool.Decides.{nat_tests}
 use Rattle.limits.specs.declared.TheConstants.{MAX_ARCS, MAX_VERTICES}
 use Rattle.links.specs.Arc.{Arc}
 use Rattle.links.specs.Link.{Key, key_of, arc_key, is_no_loop, AreLinksOf}
 use Rattle.links.specs.declared.links.Link.{Link}
 use Rattle.gr_text.specs.Statement.{Statement, Problem, ArcLine, IsSilent, Says, Say}
-use Rattle.gr_text.specs.Graph.{HasEnds, IsArcOf, AreLawfulLines}
+use Rattle.gr_text.specs.Graph.{IsArcOf, AreLawfulLines}
 use Rattle.gr_text.specs.LinesSoFar.{LinesSoFarValue, Counts, AreKept, Gives, Judges, AddsLink, IsLineFault}
 use Rattle.gr_text.proofs.Alls.{All-push}
 use Rattle.gr_text.specs.declared.sizes.Size.{Size}
@@ -74,16 +73,6 @@ AreLinksOf-link arcs links arc link are no_loop key =
     ∙ sym (map-append arc_key (filter is_no_loop arcs) (arc ∷ []))
     ∙ ap (map arc_key) (ap (λ (b : Bool). filter is_no_loop arcs ++ cond b (arc ∷ []) []) (sym no_loop) ∙ sym (filter-append is_no_loop arcs (arc ∷ [])))
 
--- the links of an arc alone, and those of more arcs after others
-pub links_of_arc : (arc : Arc) (link : Option Link) → (IsNone link ↔ (arc.tail ≡ arc.head)) → IfSome link (λ l. key_of l ≡ arc_key arc)
-    → AreLinksOf (arc ∷ []) (option_to_list link)
-links_of_arc arc None loop key =
-    let same : arc.tail ≡ arc.head = loop.0 refl in
-    AreLinksOf-loop [] [] arc refl (grind (arith, nat_tests))
-links_of_arc arc (Some link) loop key =
-    let differ : arc.tail ≢ arc.head = λ same. let never : true ≡ false = loop.1 same in cc in
-    AreLinksOf-link [] [] arc link refl (grind (arith, nat_tests)) key
-
 pub AreLinksOf-append : (arcs more : List Arc) (links others : List Link) → AreLinksOf arcs links → AreLinksOf more others → AreLinksOf (arcs ++ more) (links ++ others)
 AreLinksOf-append arcs more links others are also =
     map-append key_of links others
@@ -91,13 +80,6 @@ AreLinksOf-append arcs more links others are also =
     ∙ ap (λ (ks : List Key). map arc_key (filter is_no_loop arcs) ++ ks) also
     ∙ sym (map-append arc_key (filter is_no_loop arcs) (filter is_no_loop more))
     ∙ ap (map arc_key) (sym (filter-append is_no_loop arcs more))
-
--- an arc's link has its ends
-pub link_within : (n : ℕ) (arc : Arc) (link : Option Link) → HasEnds n arc → IfSome link (λ l. key_of l ≡ arc_key arc) → IfSome link (λ l. l.high ≤ n)
-link_within n arc None ends key = tt
-link_within n arc (Some link) ends key =
-    let high : link.high ≡ max arc.tail arc.head = ap (λ (k : Key). k.2) key in
-    omega (arith, high, ends.tail_in_range, ends.head_in_range)
 
 pub counts_of : (size : Option Size) (count : ℕ) (links : List Link) (lines : List (List ℕ)) → AreKept size count links lines → Counts size count lines
 counts_of None count links lines (say, zero_count, none) = (say, zero_count)

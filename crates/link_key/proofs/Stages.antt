@@ -1,8 +1,7 @@
 -- The forest found round by round: what is taken is in it, and what is left is still to be joined.
-use Rattle.std.proofs.Common.{◌≡◌, ◌≢◌, ℕ, ◌+◌, ◌<◌, ◌≤◌, ◌⊎◌, ◌↔◌, Bool, true, false, not, cond, List, [], ◌∷◌, Contains, length, get_or, refl, sym, ap, ◌∙◌, subst, inl, inr, arith}
+use Rattle.std.proofs.Common.{◌≡◌, ◌≢◌, ℕ, ◌+◌, ◌<◌, ◌≤◌, ◌⊎◌, ◌↔◌, true, List, [], ◌∷◌, Contains, length, get_or, sym, ap, ◌∙◌, subst, inl, inr, arith}
 use Rattle.std.specs.List.{AllByRecursion, filter}
 use Rattle.std.proofs.lemmas.List.Elements.{All-contains, Contains-get_or}
-use Rattle.std.proofs.lemmas.List.Filters.{length-filter_both}
 use Rattle.std.proofs.lemmas.Bool.{cases_eq, cases_lt}
 use Rattle.std.proofs.lemmas.Bool.Decides.{nat_tests}
 use Rattle.links.specs.declared.links.Link.{Link}
@@ -19,13 +18,6 @@ use Rattle.links.proofs.Kept.{kept_in, kept_if}
 use Rattle.links.proofs.Members.{contains_none}
 use Rattle.links.proofs.Walks.{joins_same, joins_symm, joins_replace, joins_more}
 use Rattle.links.proofs.Spanning.{spanning_part}
-
--- a test keeps fewer where the first fails
-pub kept_fewer : {X : Type 0} (p : X → Bool) (xs : List X) → ((d : X) → p (get_or xs 0 d) ≡ false) → 0 < length xs → length (filter p xs) < length xs
-kept_fewer p [] fails some = absurd (omega (arith, some))
-kept_fewer p (y ∷ xs) fails some =
-    let few = length-filter_both p (λ x. not (p x)) (λ x. refl) xs in
-    subst (λ b. length (cond b (y ∷ filter p xs) (filter p xs)) < length (y ∷ xs)) (sym (fails y)) (omega (arith, few))
 
 -- the test for ends of different labels
 pub apart_from : (labels : List ℕ) (l : Link) → is_apart labels l ≡ true → ¬ (HasOneLabel labels l)

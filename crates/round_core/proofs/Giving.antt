@@ -8,7 +8,6 @@ use Rattle.std.proofs.lemmas.List.Elements.{Contains-append_left, Contains-push,
 use Rattle.std.proofs.lemmas.List.Quantifiers.{all_pairs_push}
 use Rattle.links.specs.declared.links.Link.{Link}
 use Rattle.links.specs.Labels.{AreLabels}
-use Rattle.links.proofs.Members.{contains_none}
 use Rattle.round_theory.specs.Offers.{Hearing, IsNamed}
 use Rattle.round_theory.proofs.Labels.{labelling_is_labels}
 use Rattle.round_core.specs.Picks.{pick_of, ArePicks, ArePicksOfHearings, AreNoPicks}
@@ -20,12 +19,6 @@ use Rattle.round_core.proofs.Picking.{place_of, picked_there, first_place}
 -- the place of the pick of the root that so many roots stand before
 abbrev pub place_at : List ℕ → ℕ → ℕ
 place_at roots j = get_or roots j 0 - 1
-
-pub given_none : (picks : List (Option Link)) (roots : List ℕ) → AreGiven picks roots 0 []
-given_none picks roots = record {
-  exact = λ l. (λ l_in. absurd (contains_none l l_in), λ some. absurd (omega (arith, some.1)));
-  in_order = λ i j d lt within. absurd (omega (arith, within));
-}
 
 pub given_skip : (picks : List (Option Link)) (roots : List ℕ) (k : ℕ) (links : List Link) → ((l : Link) → ¬ (IsFirstPickedAt picks l (place_at roots k))) → AreGiven picks roots k links → AreGiven picks roots (k + 1) links
 given_skip picks roots k links none are = record {

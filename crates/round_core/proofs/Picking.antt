@@ -1,5 +1,5 @@
 -- The links picked, each once: of two labels that pick a link the lesser one gives it.
-use Rattle.std.proofs.Common.{◌≡◌, ◌≢◌, ℕ, zero, suc, ◌+◌, ◌-◌, ◌<◌, ◌≤◌, ◌⊎◌, min, List, [], ◌∷◌, length, get_or, Some, None, sym, ap, ◌∙◌, subst, inl, inr, arith}
+use Rattle.std.proofs.Common.{◌≡◌, ◌≢◌, ℕ, zero, suc, ◌+◌, ◌-◌, ◌<◌, ◌≤◌, ◌⊎◌, min, List, [], ◌∷◌, length, get_or, Some, None, ap, ◌∙◌, subst, inl, inr, arith}
 use Rattle.std.specs.Prelude.{Option, AllPairs}
 use Rattle.std.proofs.lemmas.List.{get_or_default}
 use Rattle.links.specs.declared.links.Link.{Link}
@@ -72,12 +72,6 @@ first_at labels heard picks i l are here test = record { here = here; first = fi
         lesser a b (inl at) (inr at') = omega (arith, lt, at, at')
         lesser a b (inr at) (inl at') = omega (arith, lt, at, at')
         lesser a b (inr at) (inr at') = omega (arith, lt, at, at')
-
--- a place that has no pick gives no link
-pub none_given : (picks : List (Option Link)) (i : ℕ) → get_or picks i None ≡ None → (m : Link) → ¬ (IsFirstPickedAt picks m i)
-none_given picks i is m first =
-    let wrong : None ≡ Some m = sym is ∙ first.here in
-    absurd (cc)
 
 -- a link that is picked is so somewhere first
 pub pick_dec : (x : Option Link) (l : Link) → (x ≡ Some l) ⊎ (x ≢ Some l)
