@@ -6,6 +6,7 @@
  *     embedding places BASE     the same list as arcs whose vertices are numbered from BASE on: the places of the forest
  *     embedding limits          empty lists, loops alone, each refusal of links, the largest n, rooms of all sizes
  *     embedding threads         four threads at once, each over lists of its own
+ *     embedding stack           each call by a thread that has 128 KiB of stack in all
  *     embedding many            ten million links
  *     embedding memory          a list and a text; where memory is refused, it says so and looks that nothing changed
  *     embedding again           each call 10,000 times with each of its ends, after which the process holds no more
@@ -240,6 +241,17 @@ static void compare_places(uint64_t seed, uint32_t n, size_t m, uint64_t weights
     free(all);
 }
 
+/* So many bytes, of which no page is ever touched; or none. */
+static void *unread(size_t bytes) {
+    void *block = mmap(0, bytes, PROT_READ | PROT_WRITE, MAP_PRIVATE | MAP_ANONYMOUS | MAP_NORESERVE, -1, 0);
+    return block == MAP_FAILED ? 0 : block;
+}
+
+/* One link more than there may be; or none. */
+static struct boruvka_link *too_many(void) {
+    return unread((BORUVKA_MAX_LINKS + (size_t)1) * sizeof net[0]);
+}
+
 static void expect_places_refused(uint32_t n, uint32_t base, const uint32_t *u, const uint32_t *v, size_t m, int64_t why) {
     static const int64_t w[4] = {5, 4, 3, 2};
     uint32_t places[4] = {untouched, untouched, untouched, untouched};
@@ -264,6 +276,14 @@ static void limits_of_places(void) {
     expect_places_refused(3, UINT32_MAX - 1, first, wrapped, 2, BORUVKA_BAD_END);
     expect_places_refused(BORUVKA_MAX_VERTICES, UINT32_MAX - 1, wrapped, first, 2, BORUVKA_BAD_END);
     CHECK(boruvka_places(3, UINT32_MAX - 1, first + 1, wrapped + 1, w, 1, places) == 1 && places[0] == 0);
+    /* one column serves as all three: it is only read */
+    const void *column = unread((BORUVKA_MAX_LINKS + (size_t)1) * sizeof *w);
+    if (column) {
+        const size_t m = (size_t)BORUVKA_MAX_LINKS + 1;
+        places[0] = untouched;
+        CHECK(boruvka_places_in(1, 1, column, m, column, m, column, m, places, 3) == BORUVKA_TOO_MANY_LINKS && places[0] == untouched);
+        CHECK(boruvka_places_in(UINT32_MAX, 1, column, m, column, m, column, m, places, 3) == BORUVKA_TOO_MANY_VERTICES && places[0] == untouched);
+    }
     for (size_t i = 0; i < 3; i++) {
         places[i] = untouched;
         const size_t lengths[3] = {4 - (i == 0), 4 - (i == 1), 4 - (i == 2)};
@@ -351,6 +371,12 @@ static void limits_of_labels(void) {
         CHECK(boruvka_labels(3, bad[i], 2, label) == BORUVKA_BAD_END && label[0] == untouched);
     }
     CHECK(boruvka_labels(0, bad[0], 1, label) == BORUVKA_BAD_END);
+    uint32_t *wide_label = unread((BORUVKA_MAX_VERTICES + (size_t)1) * sizeof *label);
+    struct boruvka_link *many = too_many();
+    if (wide_label && many) {
+        CHECK(boruvka_labels(BORUVKA_MAX_VERTICES + 1, many, (size_t)BORUVKA_MAX_LINKS + 1, wide_label) == BORUVKA_TOO_MANY_VERTICES);
+        CHECK(boruvka_labels(3, many, (size_t)BORUVKA_MAX_LINKS + 1, label) == BORUVKA_TOO_MANY_LINKS && label[0] == untouched);
+    }
     /* of one weight or of two, a triangle and a pair of links between the same vertices are cycles */
     const struct boruvka_link triangle[] = {{1, 1, 2}, {1, 2, 3}, {1, 3, 1}}, pair[] = {{1, 1, 2}, {2, 2, 1}}, same[] = {{1, 1, 2}, {5, 3, 2}, {1, 2, 1}}, loop[] = {{1, 3, 3}};
     expect_cycle(3, triangle, 3, label);
@@ -408,12 +434,6 @@ static void expect_refusal(uint32_t n, const struct boruvka_link *given, size_t 
     CHECK(!memcmp(links, given, m * sizeof *links));
 }
 
-/* One link more than there may be, of which no page is ever touched; or none. */
-static struct boruvka_link *too_many(void) {
-    void *links = mmap(0, (BORUVKA_MAX_LINKS + (size_t)1) * sizeof net[0], PROT_READ | PROT_WRITE, MAP_PRIVATE | MAP_ANONYMOUS | MAP_NORESERVE, -1, 0);
-    return links == MAP_FAILED ? 0 : links;
-}
-
 static void limits(void) {
     CHECK(boruvka_version() == BORUVKA_VERSION);
     struct boruvka_link none[1] = {{7, 7, 7}};
@@ -431,6 +451,7 @@ static void limits(void) {
     struct boruvka_link *many = too_many();
     if (many) {
         CHECK(boruvka_forest(1, many, (size_t)BORUVKA_MAX_LINKS + 1) == BORUVKA_TOO_MANY_LINKS);
+        CHECK(boruvka_forest(UINT32_MAX, many, (size_t)BORUVKA_MAX_LINKS + 1) == BORUVKA_TOO_MANY_VERTICES);
         munmap(many, ((size_t)BORUVKA_MAX_LINKS + 1) * sizeof *many);
     }
     struct boruvka_link links[3];
@@ -480,6 +501,39 @@ static void threads(void) {
     for (int i = 0; i < 4; i++) {
         CHECK(!pthread_join(started[i], 0));
     }
+}
+
+/* Calls of more than a few links and lines; the system ends the process if the stack is too small. */
+static void *with_little_stack(void *_) {
+    static const int64_t kinds[] = {BORUVKA_BAD_END, 0};
+    static char line[64];
+    compare(21, 1000, 20000, 0);
+    compare_places(21, 1000, 20000, 0, 1);
+    compare_labels(21, 1000, 20000, 0);
+    compare_total(forest, 5);
+    uint8_t *text = taken(20001, sizeof line), *into = taken(20001, sizeof line);
+    size_t length = (size_t)sprintf((char *)text, "p sp 20001 20000\n");
+    for (int v = 1; v <= 20000; v++) {
+        length += (size_t)sprintf((char *)text + length, "a %d %d %d\n", v, v + 1, v);
+    }
+    struct boruvka_fault fault = {1, 1};
+    /* (each lower end comes first, and the weights ascend: the forest's text is the file's) */
+    CHECK(boruvka_forest_text(text, length, into, length, &fault) == (int64_t)length && !memcmp(into, text, length));
+    /* the last arc without its weight */
+    CHECK(boruvka_forest_text(text, length - 6, into, length, &fault) == BORUVKA_BAD_ARC);
+    for (size_t i = 0; i < sizeof kinds / sizeof *kinds; i++) {
+        CHECK(boruvka_fault_text(kinds[i], line, sizeof line) == strlen(line));
+    }
+    free(text);
+    free(into);
+    return _;
+}
+
+static void stack(void) {
+    pthread_t started;
+    pthread_attr_t how;
+    CHECK(!pthread_attr_init(&how) && !pthread_attr_setstacksize(&how, 128 << 10));
+    CHECK(!pthread_create(&started, &how, with_little_stack, 0) && !pthread_join(started, 0) && !pthread_attr_destroy(&how));
 }
 
 static uint8_t *all_of_input(size_t *length) {
@@ -803,6 +857,8 @@ int main(int count, char **words) {
         limits();
     } else if (!strcmp(what, "threads")) {
         threads();
+    } else if (!strcmp(what, "stack")) {
+        stack();
     } else if (!strcmp(what, "many")) {
         compare(5, 1000000, 10000000, 1000000);
         compare_places(5, 1000000, 10000000, 1000000, 1);

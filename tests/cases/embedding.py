@@ -155,6 +155,12 @@ def calls_at_their_limits(room):
     texts = dict(it.split(" ", 1) for it in output.decode().splitlines())
     kinds = [str(-it) for it in range(1, 20)]
     expect((len({texts[it] for it in kinds}), "no refusal" in {texts[it] for it in kinds}, texts["-1"]), 19, False, "no memory")
+    expect((texts["-5"], b"", b""), "file is too long", b"", b"")
+
+
+@case
+def calls_within_the_stack_that_is_documented(room):
+    expect(run([caller(room), "stack"]), 0, b"", b"")
 
 
 @case

@@ -1,7 +1,7 @@
 /* Calls within memory of many sizes: each answers the forest, or that memory lacks and changes nothing; and what is served
  * within some memory is served within more. Bytes beside the memory stay as they were. A wrong answer ends it by status 1.
  *
- *     within sizes     a small net and its text, within each size up to four pages
+ *     within sizes     a small net and its text, within each size up to four pages, and within two blocks in turn
  *     within enough    lists and texts of many shapes, within as many bytes as include/boruvka.h calls enough */
 #include <boruvka.h>
 #include <inttypes.h>
@@ -78,6 +78,17 @@ static void sizes(void) {
     CHECK(had_forest && had_text);
 }
 
+/* After a call its memory is the caller's again: a later call within other memory doesn't read or write it. */
+static void given_back(void) {
+    static _Alignas(16) unsigned char first[4 * PAGE], second[4 * PAGE];
+    CHECK(has_forest(first, sizeof first) && has_text(first, sizeof first));
+    memset(first, SIGN, sizeof first);
+    CHECK(has_forest(second, sizeof second) && has_text(second, sizeof second));
+    for (size_t i = 0; i < sizeof first; i++) {
+        CHECK(first[i] == SIGN);
+    }
+}
+
 static uint64_t drawn(uint64_t *seed) {
     *seed ^= *seed << 13;
     *seed ^= *seed >> 7;
@@ -146,6 +157,7 @@ int main(int count, char **words) {
     CHECK(count == 2);
     if (!strcmp(words[1], "sizes")) {
         sizes();
+        given_back();
     } else {
         enough();
     }
