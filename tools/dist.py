@@ -38,8 +38,9 @@ PROGRAM = f"{ROOT}/crates/boruvka/out/boruvka"
 LIBRARIES = f"{ROOT}/crates/boruvka_c/out"
 MODULE = f"{ROOT}/crates/boruvka_within/out/boruvka.wasm"
 EXAMPLES = ["examples/small.gr", "examples/roads.gr", *(f"examples/embed/forest.{it}" for it in ("c", "cpp", "py", "rs")), "examples/embed/within.c"]
-# What the README sends its reader to, as far as it isn't code.
-DOCUMENTS = ["README.md", "SECURITY.md", "CHANGELOG.md", *(f"docs/{it}.md" for it in ("GR_FORMAT", "RECIPES", "PROTOCOL", "PROMISES", "PERFORMANCE"))]
+# What the README and these send their reader to, as far as it isn't code.
+DOCUMENTS = ["README.md", "SECURITY.md", "CHANGELOG.md", "CONTRIBUTING.md", "docs/roads.svg"]
+DOCUMENTS += [f"docs/{it}.md" for it in ("ARCHITECTURE", "DECISIONS", "GR_FORMAT", "HEADLINE", "PERFORMANCE", "PROMISES", "PROTOCOL", "RECIPES")]
 # Where an install puts what, if the environment says so; for a package it doesn't count.
 FOLDERS = ("BINDIR", "LIBDIR", "INCLUDEDIR", "MANDIR", "BASHDIR", "ZSHDIR", "FISHDIR")
 # The package of Debian that has a shared library.
