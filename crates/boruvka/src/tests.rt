@@ -37,7 +37,7 @@ Arguments:
 Options:
       --workers <N>  How many workers scan the shards: 0 to 64 [default: 2]
       --shards <S>   How many shards the links are cut into: 1 to 4096 [default: 64]
-      --plain        Solve without workers, in one thread
+      --plain        Solve without workers
       --threads <N>  With --plain, up to how many threads solve: 1 to 64 [default: 1]
       --report       Print what the run did to standard error
   -h, --help         Print help

@@ -112,10 +112,7 @@ fn the_command<'a>(alloc: Global) -> Result<Command<'a>, AllocError>
         .after_help(BEHIND_THE_HELP);
     command = with(command, workers_arg(alloc))?;
     command = with(command, shards_arg(alloc))?;
-    command = with(
-        command,
-        flag(alloc, "plain", "Solve without workers, in one thread"),
-    )?;
+    command = with(command, flag(alloc, "plain", "Solve without workers"))?;
     command = with(command, threads_arg(alloc))?;
     command = with(
         command,
