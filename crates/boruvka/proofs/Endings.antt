@@ -28,7 +28,7 @@ use Rattle.boruvka.specs.Status.{Asked, asked_of, asked_by, EndsAs, EndsOn, Obey
 
 -- ---- how a run ends
 
--- by one thread, or over workers
+-- without workers, or over them
 pub as_plain : (plain : Bool) (asked : Asked) (status : ℕ) (before after : Standard) → plain ≡ true → EndsWith asked.report status before after → EndsAs plain asked status before after
 as_plain true asked status before after is ends = ends
 as_plain false asked status before after is ends = absurd cc

@@ -16,9 +16,9 @@ const FEW_BYTES: usize = 1 << 16;
 pub(crate) const LEAST_LINE: usize = 8;
 
 /// Reads bytes that are whole arc lines of a graph of this size, each in its usual form and lawful, by at most so many
-/// threads, and appends their links to a list. Each thread has a part of the bytes, of 64 KiB or more, and of the room. The
-/// caller's has half of another's, since it appends what all found. It answers how many lines the bytes are. `None` says
-/// that the bytes aren't such, or that room or memory for their links lacks; some links may have been appended then.
+/// threads, and appends their links to a list. Each thread has a part of the bytes and of the room: one that it makes 64 KiB
+/// or more, the caller's half as much, since it appends what all found. It answers how many lines the bytes are. `None`
+/// says that the bytes aren't such, or that room or memory for their links lacks; some links may have been appended then.
 #[cycle(parts)]
 pub(crate) fn append_arc_lines<R: Threads + Sync, A: Allocator>(
     rt: &R,

@@ -13,8 +13,7 @@ use links::Link;
 use std::alloc::Allocator;
 use std::thread::Threads;
 
-// The number of bytes that are read at once by one thread. They are on the stack, which begins with 132 KiB on Linux; a
-// program may have as many for what it writes.
+// The number of bytes that one thread reads at once. They are on the stack, which has 132 KiB on Linux before it grows.
 const READ_ROOM: usize = 49_152;
 
 // The number of bytes that are read at once where threads share them.

@@ -17,7 +17,7 @@ use std::thread::Threads;
 /// Runs as [`run_plain`](crate::run_plain) does, by up to `threads` threads.
 ///
 /// Each step of the run takes as many threads as its work is worth, and goes on with fewer where one can't be made. What
-/// goes out and what is answered is the same for any number. It takes the memory of
+/// goes out and what is answered is the same for any number, but that the system may refuse memory. It takes the memory of
 /// `run_plain`, and what [`read_graph_par`], [`forest_of_par`] and [`write_forest_par`] take for their threads.
 pub fn run_threads<R: Threads + Sync, S: Source, W: Sink, A: Allocator + Copy + Send + Sync>(
     rt: &R,

@@ -9,7 +9,7 @@ use std::fmt;
 /// What a run did, in counts; it is shown as one line of names and numbers.
 ///
 /// In a run over workers each ask brought an answer or closed a port: `asked` is `answered + closed`. Each shard of each
-/// round was answered or scanned alone: `answered + alone` is `(rounds + 1) * shards`. A run by one thread has no rounds
+/// round was answered or scanned alone: `answered + alone` is `(rounds + 1) * shards`. A run without workers has no rounds
 /// and cuts nothing.
 #[derive(Clone, Copy, Debug, PartialEq, Eq)]
 pub struct Report {

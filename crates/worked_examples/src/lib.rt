@@ -1,6 +1,6 @@
-//! Worked examples of files and forests, each a test that needs public calls alone. `worked_streams`, `worked_rounds`,
-//! `worked_runs`, `worked_lines`, `worked_sockets`, `worked_failures` and `worked_memory` have those of the other subjects
-//! (docs/ARCHITECTURE.md says of which).
+//! Worked examples of files and forests, each a test that needs public calls alone. `worked_streams`, `worked_regions`,
+//! `worked_rounds`, `worked_runs`, `worked_lines`, `worked_sockets`, `worked_failures` and `worked_memory` have those of the
+//! other subjects (docs/ARCHITECTURE.md says of which).
 //!
 //! ```text
 //!   lists           links of arcs, labels, offers, forests; the forests of the worked graphs

@@ -14,8 +14,8 @@
 //! Each call that may answer want of memory is made at its bounds too: no vertex, one and two, no links, one shard and
 //! 4,096, a cut at no place and at 4,095, and more rounds than 14. A shard that is just full, of 16,777,216 links, is
 //! too large for a test here, and so are as many vertices as there may be, 67,108,864.
-//! Rounds 21 to 26 that take links want more than a million vertices, and are tried nowhere: what is tried is a book of
-//! such a number.
+//! Rounds 21 to 26 that take links want more than a million vertices. Here a book of such a number is tried, and
+//! tests/cases/workers.py tries a run of 21.
 //!
 //! Where to start a change: a new public call of `ports` or `round_core` gets its example in the file of its subject. What
 //! an example is for, and which crate has those of other subjects, stands at the head of `worked_examples`.

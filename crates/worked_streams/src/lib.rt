@@ -10,6 +10,7 @@
 //!   refused_in_turn              work whose allocations are refused in turn, with a flaw and without one
 //!   same                         what is found beside what is expected
 //!   shard_pieces                 shards that go out and come by pieces, and flaws in each piece
+//!   answer_pieces                answers that come by pieces, and flaws in each piece
 //!   sizes                        frames at the size of every inner piece, beside it and past it
 //! ```
 //!
