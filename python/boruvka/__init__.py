@@ -13,3 +13,15 @@ Three modules are imported by their names:
 from boruvka._forest import Forest, minimum_spanning_forest
 
 __all__ = ["Forest", "minimum_spanning_forest"]
+
+
+def __getattr__(name: str) -> str:
+    """The version of the package that is installed, as `__version__`."""
+    if name == "__version__":
+        from importlib.metadata import PackageNotFoundError, version
+
+        try:
+            return version("boruvka")
+        except PackageNotFoundError:
+            pass
+    raise AttributeError(f"module 'boruvka' has no attribute {name!r}")

@@ -59,7 +59,8 @@ def minimum_spanning_forest(n: SupportsIndex, u: ArrayLike, v: ArrayLike, w: Arr
     ------
     ValueError
         If an end isn't from 0 to n - 1, a weight is NaN or past 2^63 - 1, n is negative or past 2^26, m is past 2^30,
-        an array hasn't one dimension, or the arrays differ in length.
+        an array hasn't one dimension or has masked entries, the arrays differ in length, or numpy would round a list's
+        whole numbers.
     TypeError
         If n or an end is no whole number, or a weight is neither a whole number nor a float of up to 64 bits.
     MemoryError
@@ -70,10 +71,13 @@ def minimum_spanning_forest(n: SupportsIndex, u: ArrayLike, v: ArrayLike, w: Arr
     Ties: of edges that are equally heavy the one with the lower (u, v) comes first, and of edges that are equal in all
     three the first given. So the forest is the only one of least weight in that order.
 
+    Components: `boruvka.linkage.labels(n, forest, height=np.inf)` numbers them. For the maximum spanning forest give -w.
+
     Cost: time about that of sorting the weights once. Memory is about 20 bytes an edge beside the arrays given and the
     answer, up to 36 if most edges are in the forest. Ends that are neither int32 nor uint32 are copied, 8 bytes an edge,
     and so are weights other than int64. The arrays given are never written. No other thread may write them meanwhile.
-    Any number of threads may call at once, and run side by side.
+    Any number of threads may call at once, and run side by side. A child that was forked from a process with threads
+    must not call.
 
     Examples
     --------
@@ -90,6 +94,7 @@ def minimum_spanning_forest(n: SupportsIndex, u: ArrayLike, v: ArrayLike, w: Arr
     """
     count = operator.index(n)
     tails, heads, weights = _column(u, "u"), _column(v, "v"), _column(w, "w")
+    _expect_exact(w, weights)
     if not len(tails) == len(heads) == len(weights):
         raise ValueError(f"u, v and w differ in length: {len(tails)}, {len(heads)} and {len(weights)}")
     index = places(count, tails, heads, weights)
@@ -108,10 +113,20 @@ def places(n: int, tails: np.ndarray, heads: np.ndarray, weights: np.ndarray) ->
 
 
 def _column(given: ArrayLike, name: str) -> np.ndarray:
+    if np.ma.is_masked(given):
+        raise ValueError(f"{name} has masked entries: leave these edges out first")
     column = np.asarray(given)
     if column.ndim != 1:
         raise ValueError(f"{name} has {column.ndim} dimensions, and needs one")
     return column
+
+
+def _expect_exact(given: ArrayLike, weights: np.ndarray) -> None:
+    """A list of whole numbers past 2^53 and others is refused, of which numpy makes doubles."""
+    if weights.dtype.kind == "f" and isinstance(given, (list, tuple)):
+        for place, it in enumerate(given):
+            if isinstance(it, (int, np.integer)) and abs(int(it)) > 2**53:
+                raise ValueError(f"w[{place}] is {it}, which numpy would round beside the others: give an array")
 
 
 def vertices(n: int, ends: np.ndarray, name: str) -> NDArray[np.uint32]:
@@ -120,7 +135,8 @@ def vertices(n: int, ends: np.ndarray, name: str) -> NDArray[np.uint32]:
         # (an empty list has the dtype of floats)
         return np.empty(0, np.uint32)
     if ends.dtype.kind not in "iu":
-        raise TypeError(f"{name} has the dtype {ends.dtype}, and vertices are whole numbers")
+        how = ": .astype(int) makes them" if ends.dtype.kind == "f" else ""
+        raise TypeError(f"{name} has the dtype {ends.dtype}, and vertices are whole numbers{how}")
     if ends.min() < 0 or ends.max() >= n:
         place = np.flatnonzero((ends < 0) | (ends >= n))[0]
         raise ValueError(f"{name}[{place}] is {ends[place]}, and a vertex is at least 0 and below n = {n}")

@@ -7,6 +7,7 @@ there, many points in two or three dimensions have their tree found in their Del
 
 from __future__ import annotations
 
+import numbers
 import operator
 import warnings
 from typing import SupportsIndex
@@ -42,8 +43,8 @@ def single_linkage(y: ArrayLike) -> NDArray[np.float64]:
     Raises
     ------
     ValueError
-        If a coordinate or a distance isn't finite, a distance is negative, there is no point, no n has so many pairs, or
-        there are more than 2^30 pairs to look at.
+        If a coordinate or a distance isn't finite or is masked, a distance is negative, there is no point, no n has so
+        many pairs, or there are more than 2^30 pairs to look at.
     TypeError
         If coordinates or distances are no numbers.
 
@@ -99,10 +100,13 @@ def spanning_tree(y: ArrayLike) -> Forest:
     given = _numbers(y)
     if given.ndim == 1:
         return _of_distances(given)
-    if given.ndim != 2 or not len(given):
+    if given.ndim != 2:
         raise ValueError(f"y has the shape {given.shape}: points are rows, and distances have one dimension")
-    if not np.isfinite(given).all():
-        raise ValueError("a coordinate isn't finite")
+    if not len(given):
+        raise ValueError("there is no point")
+    are_finite = np.isfinite(given).all(axis=1)
+    if not are_finite.all():
+        raise ValueError(f"a coordinate of the point {are_finite.argmin()} isn't finite")
     with np.errstate(over="ignore"):
         if not np.isfinite(_lengths(np.ptp(given, axis=0)[np.newaxis])).all():
             raise ValueError("points are so far apart that doubles don't hold their distances")
@@ -141,8 +145,8 @@ def merges(n: SupportsIndex, forest: Forest) -> NDArray[np.float64]:
     array([[1., 2., 3., 2.],
            [0., 3., 4., 3.]])
     """
+    forest = _lightest_first(forest)
     count = operator.index(n)
-    _expect_forest(forest)
     if len(forest.w) != count - 1:
         raise ValueError(f"{len(forest.w)} edges don't make one tree of {count} vertices")
     u, v = vertices(count, forest.u, "forest.u"), vertices(count, forest.v, "forest.v")
@@ -170,11 +174,11 @@ def labels(
     n : int
         The number of vertices.
     forest : Forest
-        Their forest, as `spanning_tree` or `minimum_spanning_forest` answers it.
+        Their forest, as `spanning_tree` or `minimum_spanning_forest` answers it; in another order it is sorted.
     clusters : int, optional
         How many clusters there shall be: from the number of the forest's components to n.
     height : float, optional
-        The weight up to which edges count. Give either this or `clusters`.
+        Edges count for which numpy says `forest.w <= height`. Give either this or `clusters`.
 
     Returns
     -------
@@ -184,12 +188,16 @@ def labels(
     Raises
     ------
     ValueError
-        If there can't be so many clusters, the height is NaN, or the forest closes a cycle or has other vertices.
+        If there can't be so many clusters, the height is NaN, the forest has n edges or more or another vertex, its
+        arrays differ in shape, or edges that count close a cycle.
     TypeError
-        If not just one of `clusters` and `height` is given, n or `clusters` is no whole number, or `forest` is no Forest.
+        If not just one of `clusters` and `height` is given, n or `clusters` is no whole number, `height` is no real number,
+        or `forest` is no Forest.
 
     Notes
     -----
+    The components of the graph are its clusters at `height=np.inf`.
+
     How many clusters there are is often seen in the last weights, `forest.w[-10:]`: where they leap, clusters lie apart.
     Of equally heavy edges `clusters` leaves out those that come last in the forest. `height` treats them alike.
 
@@ -204,10 +212,13 @@ def labels(
     >>> labels(4, tree, height=0.5)
     array([0, 1, 2, 3])
     """
+    forest = _lightest_first(forest)
     count = operator.index(n)
     if not 0 <= count <= _library.MAX_VERTICES:
         raise ValueError(f"n is {count}, and has to be from 0 to 2^26")
-    _expect_forest(forest)
+    low, high = vertices(count, forest.u, "forest.u"), vertices(count, forest.v, "forest.v")
+    if len(forest.w) >= max(count, 1):
+        raise ValueError(f"{len(forest.w)} edges between {count} vertices close a cycle")
     if clusters is not None and height is None:
         kept = count - operator.index(clusters)
     elif height is not None and clusters is None:
@@ -217,23 +228,32 @@ def labels(
     if not 0 <= kept <= len(forest.w):
         raise ValueError(f"{clusters} clusters can't be cut: there may be {count - len(forest.w)} to {count}")
     links = np.zeros(kept, _library.LINK)
-    links["low"] = vertices(count, forest.u[:kept], "forest.u") + 1
-    links["high"] = vertices(count, forest.v[:kept], "forest.v") + 1
+    links["low"], links["high"] = low[:kept] + 1, high[:kept] + 1
     least = _library.labels(count, links) - 1
     is_first = least == np.arange(count)
     return (np.cumsum(is_first) - 1)[least]
 
 
-def _expect_forest(given: object) -> None:
+def _lightest_first(given: object) -> Forest:
+    """The forest, its edges in ascending order of their weights: so are those that this package answers."""
     if not isinstance(given, Forest):
         raise TypeError(f"a {type(given).__name__} is no Forest, as `spanning_tree` or `minimum_spanning_forest` answers it")
+    forest = Forest(*map(np.asarray, given))
+    if len({it.shape for it in forest}) > 1 or forest.w.ndim != 1:
+        raise ValueError(f"the arrays of the forest have the shapes {', '.join(str(it.shape) for it in forest)}")
+    if (forest.w[1:] >= forest.w[:-1]).all():
+        return forest
+    order = np.argsort(forest.w, kind="stable")
+    return Forest(*(it[order] for it in forest))
 
 
 def _up_to(forest: Forest, height: float) -> int:
-    """How many edges weigh at most so much."""
-    if np.isnan(height):
+    """How many edges weigh at most so much, as numpy compares them."""
+    if not isinstance(height, numbers.Real):
+        raise TypeError(f"the height is a {type(height).__name__}, and has to be a real number")
+    if height != height:
         raise ValueError("the height is NaN")
-    return int(np.searchsorted(forest.w, height, side="right"))
+    return int(np.count_nonzero(forest.w <= height))
 
 
 def _newest(taker: list[int], cluster: int) -> int:
@@ -244,6 +264,8 @@ def _newest(taker: list[int], cluster: int) -> int:
 
 
 def _numbers(y: ArrayLike) -> NDArray[np.float64]:
+    if np.ma.is_masked(y):
+        raise ValueError("y has masked entries")
     given = np.asarray(y)
     if given.dtype.kind not in "biuf":
         raise TypeError(f"y has the dtype {given.dtype}, and has to be real numbers")

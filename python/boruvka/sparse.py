@@ -18,9 +18,9 @@ def minimum_spanning_tree(csgraph: spmatrix | ArrayLike, overwrite: bool = False
     Parameters
     ----------
     csgraph : array_like or sparse matrix, shape (n, n)
-        Entry (i, j) is the weight of an edge between the vertices i and j, and so is (j, i): the lighter counts. What a
-        sparse matrix doesn't store is no edge, and so are a dense array's zeros, infinities and NaNs, and what is
-        masked. Weights are taken as doubles.
+        Entry (i, j) is the weight of an edge between the vertices i and j, and so is (j, i): the lighter counts. No edges
+        are: what a sparse matrix doesn't store; zeros, infinities and NaNs of a dense array; and just what a masked
+        array masks. Weights are taken as doubles.
     overwrite : bool, optional
         Without effect: csgraph is never written.
 
@@ -33,7 +33,8 @@ def minimum_spanning_tree(csgraph: spmatrix | ArrayLike, overwrite: bool = False
     Raises
     ------
     ValueError
-        If csgraph isn't square, or a sparse matrix stores a NaN.
+        If csgraph isn't square, a sparse matrix stores a NaN or a masked array has one that isn't masked, or scipy finds
+        that a sparse matrix isn't well formed.
 
     Notes
     -----
@@ -52,8 +53,11 @@ def minimum_spanning_tree(csgraph: spmatrix | ArrayLike, overwrite: bool = False
            [0., 0., 0., 0.]])
     """
     graph = _as_csr(csgraph)
+    graph.check_format()
     n = graph.shape[0]
     rows = np.repeat(np.arange(n, dtype=np.int32), np.diff(graph.indptr))
+    if np.isnan(graph.data).any():
+        raise ValueError("csgraph has a NaN")
     taken = np.zeros(len(rows), bool)
     taken[places(n, rows, graph.indices, graph.data)] = True
     taken &= graph.data != 0

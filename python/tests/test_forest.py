@@ -113,6 +113,21 @@ class Refused(unittest.TestCase):
             self.expect(TypeError, "^u has the dtype ", 3, wrong, [1, 2], [1, 1])
             self.expect(TypeError, "^v has the dtype ", 3, [1, 2], wrong, [1, 1])
 
+    def test_masked_entries(self):
+        masked = np.ma.masked_equal([0, 1], 1)
+        for place, name in enumerate("uvw"):
+            given = [[0, 1], [1, 2], [1, 1]]
+            given[place] = masked
+            self.expect(ValueError, f"^{name} has masked entries", 3, *given)
+        whole = np.ma.masked_equal([3, 4], 1)
+        self.assertEqual(minimum_spanning_forest(3, [0, 1], [1, 2], whole).w.tolist(), [3, 4])
+
+    def test_lists_that_numpy_would_round(self):
+        for weights in ([2**63 + 1, 2**63, -1], [2**53 + 1, 0.5, 1], (0.5, 1, -(2**53) - 1)):
+            place = max(range(3), key=lambda it: abs(weights[it]))
+            self.expect(ValueError, rf"^w\[{place}\] is {weights[place]}, ", 3, [0, 0, 1], [1, 1, 2], weights)
+        self.assertEqual(minimum_spanning_forest(3, [0, 0, 1], [1, 1, 2], [2**53, 0.5, 1]).index.tolist(), [1, 2])
+
     def test_shapes(self):
         for wrong in (0, [[0, 1]], np.zeros((2, 1), int)):
             for place, name in enumerate("uvw"):
@@ -220,6 +235,11 @@ class Threads(unittest.TestCase):
 class Names(unittest.TestCase):
     def test_each_public_name_says_what_it_is(self):
         self.assertEqual(boruvka.__all__, ["Forest", "minimum_spanning_forest"])
+        # (as it is installed, if it is)
+        if hasattr(boruvka, "__version__"):
+            self.assertRegex(boruvka.__version__, r"^\d+\.\d+\.\d+$")
+        with self.assertRaises(AttributeError):
+            boruvka.no_such_name
         for it in (boruvka, boruvka.Forest, boruvka.minimum_spanning_forest):
             self.assertGreater(len(it.__doc__), 80)
 

@@ -58,6 +58,25 @@ class Worked(unittest.TestCase):
         self.assertEqual(labels(10, ROADS, height=np.inf).tolist(), [0] * 8 + [1] * 2)
         self.assertEqual(labels(10, ROADS, height=1.9).tolist(), list(range(10)))
 
+    def test_heights_are_compared_as_numpy_compares_them(self):
+        for dtype in (np.float32, np.float64, np.int64, np.uint64):
+            weights = np.array([1, 2, 3], dtype) if np.dtype(dtype).kind in "iu" else np.array([0.1, 0.2, 0.3], dtype)
+            forest = minimum_spanning_forest(4, [0, 1, 2], [1, 2, 3], weights)
+            for height in (-1, 0.1, 0.2, 0.3, 2, 2.5, 3, 2**63 - 1, np.inf, *weights):
+                parts = labels(4, forest, height=height).max() + 1
+                self.assertEqual(parts, 4 - (weights <= height).sum(), (dtype, height))
+
+    def test_a_forest_in_another_order(self):
+        # a maximum forest with its weights turned back; edges behind the heavier ones
+        heaviest = minimum_spanning_forest(4, [0, 1, 2, 3], [1, 2, 3, 0], [-1.0, -5.0, -2.0, -4.0])
+        heaviest = heaviest._replace(w=-heaviest.w)
+        self.assertEqual(heaviest.w.tolist(), [5, 4, 2])
+        self.assertEqual(labels(4, heaviest, height=4).tolist(), [0, 1, 0, 0])
+        self.assertEqual(labels(4, heaviest, clusters=3).tolist(), [0, 1, 2, 2])
+        self.assertEqual(merges(4, heaviest).tolist(), [[2, 3, 2, 2], [0, 4, 4, 3], [1, 5, 5, 4]])
+        listed = Forest([0, 1], [1, 2], [5.0, 1.0], [0, 1])
+        self.assertEqual(labels(3, listed, height=2).tolist(), [0, 1, 1])
+
     def test_few_points(self):
         for one in ([[3.0, 4.0]], np.empty((1, 0)), []):
             self.assertEqual(single_linkage(one).shape, (0, 4))
@@ -69,12 +88,13 @@ class Worked(unittest.TestCase):
 class Refused(unittest.TestCase):
     def test_points_and_distances(self):
         for wrong, words in [
-            (np.empty((0, 2)), "shape"),
+            (np.empty((0, 2)), "^there is no point$"),
+            (np.ma.masked_equal([[0.0], [1.0]], 1), "masked"),
             (3.0, "shape"),
             (np.zeros((2, 2, 2)), "shape"),
             ([1.0, 2.0], "^2 distances"),
-            ([[np.nan, 0], [1, 1]], "coordinate"),
-            ([[np.inf], [0]], "coordinate"),
+            ([[1, 1], [np.nan, 0]], "^a coordinate of the point 1 "),
+            ([[np.inf], [0]], "^a coordinate of the point 0 "),
             ([1, np.inf, 2], "distance isn't finite"),
             ([1, np.nan, 2], "distance isn't finite"),
             ([1, -1, 2], "negative"),
@@ -107,6 +127,9 @@ class Refused(unittest.TestCase):
                 labels(10, ROADS, **given)
         with self.assertRaisesRegex(ValueError, "NaN"):
             labels(10, ROADS, height=np.nan)
+        for height in (1j, "1", [1, 2], np.array([4])):
+            with self.assertRaisesRegex(TypeError, "^the height is a "):
+                labels(10, ROADS, height=height)
         for n in (-1, 2**26 + 1, 2**32 + 10):
             with self.assertRaisesRegex(ValueError, f"^n is {n}, "):
                 labels(n, ROADS, height=1)
@@ -124,8 +147,16 @@ class Refused(unittest.TestCase):
                     labels(4, wrong, height=3)
                 with self.assertRaisesRegex(ValueError, f"is {end}, "):
                     merges(4, wrong)
-        for call in (lambda it: labels(3, it, clusters=2), lambda it: merges(3, it)):
-            with self.assertRaisesRegex(TypeError, "^a ndarray is no Forest"):
+        # that is seen wherever it is cut
+        for given in ({"clusters": 1}, {"clusters": 2}, {"height": 9}, {"height": 0}):
+            with self.assertRaisesRegex(ValueError, "^3 edges between 3 vertices close a cycle$"):
+                labels(3, cycle, **given)
+            with self.assertRaisesRegex(ValueError, r"^forest.v\[2\] is 9, "):
+                labels(5, cycle._replace(v=np.array([1, 2, 9])), **given)
+            with self.assertRaisesRegex(ValueError, r"shapes \(1,\), \(3,\), \(3,\), \(3,\)$"):
+                labels(5, cycle._replace(u=np.array([0])), **given)
+        for call in (lambda it: labels(3, it, clusters=2), lambda it: merges(3, it), lambda it: labels(it, 3, clusters=2)):
+            with self.assertRaisesRegex(TypeError, "^a (ndarray|int) is no Forest"):
                 call(single_linkage([[0], [1], [3]]))
         with self.assertRaisesRegex(ValueError, "one tree"):
             merges(10, ROADS)

@@ -89,6 +89,14 @@ class Sparse(unittest.TestCase):
                 minimum_spanning_tree(wrong)
         with self.assertRaisesRegex(ValueError, "NaN"):
             minimum_spanning_tree(sparse.csr_matrix(([np.nan], [1], [0, 1, 1]), shape=(2, 2)))
+        with self.assertRaisesRegex(ValueError, "NaN"):
+            minimum_spanning_tree(np.ma.masked_equal([[0, np.nan], [5, 0]], 5))
+        for name, wrong in [("indices", [7, 0]), ("indptr", [0, 2, 1])]:
+            broken = sparse.csr_matrix(([1.0, 2.0], [1, 0], [0, 1, 2]), shape=(2, 2))
+            setattr(broken, name, np.array(wrong, np.int32))
+            with self.assertRaises(ValueError) as told:
+                minimum_spanning_tree(broken)
+            self.assertNotRegex(str(told.exception), "^[uvw]\\[|repeats")
 
 
 if __name__ == "__main__":

@@ -122,9 +122,9 @@ def a_fresh_environment_installs_the_wheel(room):
     pip = [f"{room}/fresh/bin/python", "-m", "pip", "--disable-pip-version-check", "--quiet"]
     env = {it: word for it, word in WITHOUT.items() if not it.startswith(("PIP_", "PYTHON"))}
     expect(run([*pip, "install", "--no-index", wheel(room)], env=env), 0, b"", b"")
-    code = "import boruvka; print(boruvka.__file__); print(boruvka.minimum_spanning_forest(3, [0, 1, 2], [1, 2, 0], [3, 1, 2]).index)"
+    code = "import boruvka; print(boruvka.__file__); print(boruvka.minimum_spanning_forest(3, [0, 1, 2], [1, 2, 0], [3, 1, 2]).index); print(boruvka.__version__)"
     status, output, errors = run([f"{room}/fresh/bin/python", "-c", code], env=env, cwd=room)
-    expect((status, output.split(b"\n")[1:], errors), 0, [b"[1 2]", b""], b"")
+    expect((status, output.split(b"\n")[1:], errors), 0, [b"[1 2]", version().encode(), b""], b"")
     is_so(output.startswith(f"{os.path.realpath(room)}/fresh/".encode()), True)
     expect(run([*pip, "uninstall", "--yes", "boruvka"], env=env), 0, b"", b"")
     is_so(run([f"{room}/fresh/bin/python", "-c", "import boruvka"], env=env, cwd=room)[0], 1)
