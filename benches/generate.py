@@ -5,10 +5,14 @@
                                    the vertices numbered at random in blocks of 64, and both directions of each link
                                    beside each other
     generate.py random N [SEED]    4 N arcs between vertices drawn at random
+    generate.py dense N [SEED]     16 N arcs between vertices drawn at random
+    generate.py scale-free N [SEED]  four arcs from each vertex but the first to earlier ones, which are drawn in
+                                   proportion to their arcs so far: few vertices have most of the arcs
     generate.py path N [SEED]      N arcs, each from a vertex to the next, so that the forest has them all
 """
 import random
 import sys
+from array import array
 
 
 def grid(n, rng):
@@ -27,23 +31,39 @@ def grid(n, rng):
                 weight = rng.randint(1, 10000)
                 arcs.append((number[v], number[w], weight))
                 arcs.append((number[w], number[v], weight))
-    return n, arcs
+    return n, len(arcs), arcs
 
 
-def at_random(n, rng):
-    return n, [(rng.randint(1, n), rng.randint(1, n), rng.randint(1, 10**6)) for _ in range(4 * n)]
+def at_random(n, rng, each=4):
+    return n, each * n, ((rng.randint(1, n), rng.randint(1, n), rng.randint(1, 10**6)) for _ in range(each * n))
+
+
+def dense(n, rng):
+    return at_random(n, rng, 16)
+
+
+def scale_free(n, rng):
+    def arcs():
+        ends = array("I", [1])
+        for v in range(2, n + 1):
+            for u in [ends[rng.randrange(len(ends))] for _ in range(4)]:
+                ends.extend((u, v))
+                yield v, u, rng.randint(1, 10**6)
+
+    return n, 4 * max(0, n - 1), arcs()
 
 
 def path(n, rng):
-    return n + 1, [(v, v + 1, rng.randint(-10**9, 10**9)) for v in range(1, n + 1)]
+    return n + 1, n, ((v, v + 1, rng.randint(-10**9, 10**9)) for v in range(1, n + 1))
 
 
 def main():
     kind, n = sys.argv[1], int(sys.argv[2])
     seed = int(sys.argv[3]) if len(sys.argv) > 3 else 1
-    n, arcs = {"grid": grid, "random": at_random, "path": path}[kind](n, random.Random(seed))
+    kinds = {"grid": grid, "random": at_random, "dense": dense, "scale-free": scale_free, "path": path}
+    n, count, arcs = kinds[kind](n, random.Random(seed))
     write = sys.stdout.write
-    write(f"p sp {n} {len(arcs)}\n")
+    write(f"p sp {n} {count}\n")
     for u, v, weight in arcs:
         write(f"a {u} {v} {weight}\n")
 

@@ -1,5 +1,6 @@
 #!/usr/bin/env python3
-"""Times `boruvka --plain` beside the C++ program on generated graphs, in turns, and prints the least times.
+"""Times `boruvka --plain`, by one thread and by several, beside the C++ program on generated graphs, in turns, and
+prints the least times.
 
     run.py PROGRAM BENCH [TIMES]
 
@@ -13,7 +14,8 @@ import sys
 import tempfile
 import time
 
-GRAPHS = [("grid", 10**5), ("grid", 10**6), ("random", 10**5), ("random", 10**6), ("path", 10**6)]
+GRAPHS = [("grid", 10**5), ("grid", 10**6), ("grid", 4 * 10**6), ("random", 10**5), ("random", 10**6), ("dense", 10**6), ("scale-free", 2 * 10**6), ("path", 10**6)]
+THREADS = (2, 4)
 HERE = os.path.dirname(os.path.abspath(__file__))
 
 
@@ -65,6 +67,7 @@ class Measured:
         self.peak, self.peak_cpp = peak_of([program, "--plain"], self.graph, self.ours), peak_of([kruskal], self.graph, self.theirs)
         self.whole, self.whole_cpp, self.count = 1e9, 1e9, 1e9
         self.parts, self.parts_cpp = [1e9] * 3, [1e9] * 3
+        self.by_threads = dict.fromkeys(THREADS, 1e9)
 
     def take_turn(self):
         program, bench, kruskal = self.programs
@@ -74,6 +77,11 @@ class Measured:
         _, told = run([bench], self.graph, self.stepped)
         self.parts = least(self.parts, [part / 1000 for part in parts_of(told)])
         self.count = min(self.count, run(["wc", "-l"], self.graph, self.counted)[0])
+        for threads, before in self.by_threads.items():
+            took, _ = run([program, "--plain", "--threads", str(threads)], self.graph, self.counted)
+            self.by_threads[threads] = min(before, took)
+            if not bytes_of(self.counted) == bytes_of(self.ours):
+                sys.exit(f"{self.kind} {self.n}: the answer by {threads} threads differs")
         if not bytes_of(self.ours) == bytes_of(self.stepped) == bytes_of(self.theirs):
             sys.exit(f"{self.kind} {self.n}: the answers differ")
 
@@ -82,6 +90,8 @@ class Measured:
         read, solve, write = self.parts
         print(f"{self.kind} {self.n}: {self.arcs} arcs, {size:.1f} MB in, {size_out:.1f} MB out")
         print(f"    boruvka {self.whole:.0f} ms ({shown(self.parts)}), {self.peak} KiB; reads {size / read * 1000:.0f} MB/s, writes {size_out / write * 1000:.0f} MB/s")
+        told = [f"{threads} threads {took:.0f} ms ({took / self.whole:.2f})" for threads, took in self.by_threads.items()]
+        print(f"    by {', '.join(told)}")
         print(f"    C++     {self.whole_cpp:.0f} ms ({shown(self.parts_cpp)}), {self.peak_cpp} KiB")
         print(f"    ratio   {self.whole / self.whole_cpp:.2f}, of solving {solve / self.parts_cpp[1]:.2f}; wc -l {self.count:.1f} ms")
 
