@@ -26,7 +26,8 @@ from stamp import PAGE, PC, VERSION, text_of, version
 EMBED = f"{ROOT}/examples/embed"
 # the documents and examples of a package
 TEXTS = [
-    "README.md", "SECURITY.md", "CHANGELOG.md", *(f"docs/{it}.md" for it in ("GR_FORMAT", "RECIPES", "PROTOCOL", "PROMISES", "PERFORMANCE")),
+    "README.md", "SECURITY.md", "CHANGELOG.md", "CONTRIBUTING.md", "docs/roads.svg",
+    *(f"docs/{it}.md" for it in ("ARCHITECTURE", "DECISIONS", "GR_FORMAT", "HEADLINE", "PERFORMANCE", "PROMISES", "PROTOCOL", "RECIPES")),
     "examples/small.gr", "examples/roads.gr", *(f"examples/embed/forest.{it}" for it in ("c", "cpp", "py", "rs")), "examples/embed/within.c",
 ]
 AT = 1_700_000_000  # 2023-11-14, in place of the commit's time
@@ -484,7 +485,7 @@ def a_package_tells_what_the_gate_passed(room):
     libraries()
     built = module()
     top = f"{room}/top"
-    for name in ["Makefile", "README.md", "SECURITY.md", "CHANGELOG.md", "LICENSE", "docs", "tools", "include", "man", "completions", "examples", "python", "web", VERSION]:
+    for name in ["Makefile", "README.md", "SECURITY.md", "CHANGELOG.md", "CONTRIBUTING.md", "LICENSE", "docs", "tools", "include", "man", "completions", "examples", "python", "web", VERSION]:
         copy = shutil.copytree if os.path.isdir(f"{ROOT}/{name}") else shutil.copy
         os.makedirs(os.path.dirname(f"{top}/{name}"), exist_ok=True)
         copy(f"{ROOT}/{name}", f"{top}/{name}")
