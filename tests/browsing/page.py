@@ -126,7 +126,9 @@ class Page:
         self.settle()
 
     def saved(self, button, name):
-        self.click(button)
+        """What is saved by a person's click: a page may save ten files by itself."""
+        self.browser.click(button)
+        self.settle()
         return self.browser.downloaded(name)
 
     def keep(self, name):
