@@ -1,8 +1,8 @@
 /* SPDX-License-Identifier: MIT OR Apache-2.0 */
 /* boruvka.h: minimum spanning forests in the caller's memory.
  *
- * What each call answers is proved, in the crates boruvka_c and boruvka_within; those written out here only hand on. A
- * proof ends where C begins, so a caller has to see to this:
+ * What each call answers is proved, in the crates boruvka_c and boruvka_within. The two that this header defines only hand
+ * on to one of these. A proof ends where C begins, so a caller has to see to this:
  * - A pointer is never null, not even one to no elements, and points to as many elements as the number behind it says, aligned
  *   as their type is. What isn't `const` may be read and written by the call, is touched by nothing else meanwhile, and
  *   overlaps nothing that another parameter points to. What is `const` is only read, and may be shared.
