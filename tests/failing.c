@@ -12,7 +12,7 @@
  * too, and then the call fails that asks for the error.
  * For each call that fails an 'x' goes to the descriptor TOLD. With SHORT each recv, read and send is of one byte.
  * With PROCESSORS the program is told that it may run on so many, at most 64, whatever a cgroup grants.
- * With COUNTED an 'R' goes there for each read that asks for 48 KiB, an 'r' for each other, and a 'w' for each write.
+ * With COUNTED an 'R' goes there for each read that asks for 64 KiB, an 'r' for each other, and a 'w' for each write.
  * Where a socket listens on more than the loopback address, an 'A' goes there.
  * Where the program ends and a thread that it started wasn't joined, a 'J' goes there; with JOINED a 'j' too, for each
  * that was. STARTED is how many of the threads that the first one starts are workers, as its first ones are: a 'w' goes
@@ -257,7 +257,7 @@ ssize_t read(int fd, void *into, size_t count) {
     } else if (fails("read", EIO)) {
         return failed();
     } else if (is_counted) {
-        tell(count == 49152 ? "R" : "r");
+        tell(count == 65536 ? "R" : "r");
     }
     return REAL(read)(fd, into, at_most(count));
 }

@@ -28,7 +28,7 @@ from cases.running import (
 PIPE_SIZE = 1032
 
 # what one thread reads a FILE and standard input by, and the least that a write takes while more is to come
-READ_ROOM = 49_152
+READ_ROOM = 65_536
 LEAST_PIECE = 8192 - 64
 
 # by one thread, and over workers

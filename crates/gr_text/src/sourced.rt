@@ -13,8 +13,8 @@ use links::Link;
 use std::alloc::Allocator;
 use std::thread::Threads;
 
-// The number of bytes that one thread reads at once. They are on the stack, which has 132 KiB on Linux before it grows.
-const READ_ROOM: usize = 49_152;
+// The number of bytes that one thread reads at once, into an array on the stack.
+const READ_ROOM: usize = 65_536;
 
 // The number of bytes that are read at once where threads share them.
 const PAR_READ_ROOM: usize = 1 << 22;
@@ -35,7 +35,7 @@ pub fn read_graph<S: Source, A: Allocator>(alloc: A, source: &mut S) -> Result<G
 /// The graph of a source of at most `limit` bytes.
 ///
 /// The source is read to its end, up to the first fault, or until it gave more than `limit` bytes. The
-/// fault of a line that ended before a read failed comes first, then `Source`. It is read 48 KiB at a
+/// fault of a line that ended before a read failed comes first, then `Source`. It is read 64 KiB at a
 /// time into an array on the stack; the memory is that of the links, and the time linear in the bytes.
 pub fn read_graph_upto<S: Source, A: Allocator>(
     alloc: A,

@@ -234,7 +234,7 @@ fn files_in_pieces(rt: HostRuntime) {
     let links = links_between(&rt, rt.alloc(), n, arcs.as_slice());
     let text = path_text(&rt, rt.alloc(), n, arcs.as_slice());
     let limit = MAX_BYTES.min(text.len() as u64);
-    for piece in [1, 2, 4095, 4096, 49_151, 49_152, 49_153, 1 << 20] {
+    for piece in [1, 2, 4095, 4096, 65_535, 65_536, 65_537, 1 << 20] {
         let bytes = text.clone().expect(&rt, "memory");
         let mut source = FusedSource::new(bytes, usize::MAX, piece);
         let read = read_graph_upto(rt.alloc(), &mut source, limit).expect(&rt, "a graph");
