@@ -21,7 +21,7 @@ _boruvka() {
         *)
             [[ $word == -* ]] || return
             # none of them may be given twice
-            for option in --workers --shards --plain --threads --report -h --help -V --version; do
+            for option in --workers --shards --plain --threads --report --progress -h --help -V --version; do
                 [[ " ${COMP_WORDS[*]:1:COMP_CWORD - 1} " == *" $option "* ]] || COMPREPLY+=($(compgen -W "$option" -- "$word"))
             done
             return

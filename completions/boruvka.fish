@@ -6,5 +6,6 @@ complete -c boruvka -l shards -x -a "1 2 4 8 16 32 64 128 256 512 1024 2048 4096
 complete -c boruvka -l plain -d "Solve without workers"
 complete -c boruvka -l threads -x -a "1 2 4 8 16 32 64" -d "With --plain, up to how many threads solve, 1 to 64"
 complete -c boruvka -l report -d "Print what the run did to standard error"
+complete -c boruvka -l progress -d "Tell standard error how much was read"
 complete -c boruvka -s h -l help -d "Print the help"
 complete -c boruvka -s V -l version -d "Print the version"

@@ -24,7 +24,7 @@ use Rattle.program_words.specs.Messages.{IsWritten, fault_line, unopened_line}
 use Rattle.program_words.specs.Statuses.{status_for}
 use Rattle.program_words.specs.declared.chosen.Options.{Options}
 use Rattle.boruvka.specs.Streams.{Standard, of_run}
-use Rattle.boruvka.specs.Status.{Asked, asked_of, asked_by, EndsAs, EndsOn, Obeys, EndsWith, EndsOver, EndsOverWorkers, HasNoGraph, IsDone, IsReported, LeavesOutput, IsUntouched, report_of, status_of_run, uncounted}
+use Rattle.boruvka.specs.Status.{Asked, asked_of, asked_by, EndsAs, EndsOnSource, EndsOn, from_file, with_source, Obeys, EndsWith, EndsOver, EndsOverWorkers, HasNoGraph, IsDone, IsReported, LeavesOutput, IsUntouched, report_of, status_of_run, uncounted}
 
 -- ---- how a run ends
 
@@ -81,10 +81,15 @@ wants_memory_as : (plain : Bool) (asked : Asked) (s : SourceState) (a e f : Sink
 wants_memory_as true asked s a e f text = wants_memory asked.report s a e f text
 wants_memory_as false asked s a e f text = wants_memory_over asked.workers asked.shards asked.report s a e f text
 
+wants_memory_in : (tells : Bool) (asked : Asked) (s : SourceState) (a e f : SinkState) → IsWritten no_memory e f
+    → EndsOnSource tells asked 4 (record { source = s; sink = a; errors = e }) (record { source = s; sink = a; errors = f })
+wants_memory_in true asked s a e f text = (s, wants_memory_as asked.plain asked s a e f text)
+wants_memory_in false asked s a e f text = wants_memory_as asked.plain asked s a e f text
+
 wants_memory_on : (file : Option (List ℕ)) (asked : Asked) (s : SourceState) (a e f : SinkState) → IsWritten no_memory e f
     → EndsOn file asked 4 (record { source = s; sink = a; errors = e }) (record { source = s; sink = a; errors = f })
-wants_memory_on None asked s a e f text = wants_memory_as asked.plain asked s a e f text
-wants_memory_on (Some name) asked s a e f text = inr (wants_memory_as asked.plain asked uncounted a e f text)
+wants_memory_on None asked s a e f text = wants_memory_in asked.progress asked s a e f text
+wants_memory_on (Some name) asked s a e f text = inr (wants_memory_in asked.progress asked uncounted a e f text)
 
 pub wants_memory_obeys : (asked : Asked) (s : SourceState) (a e f : SinkState) → IsWritten no_memory e f
     → Obeys asked 4 (record { source = s; sink = a; errors = e }) (record { source = s; sink = a; errors = f })
@@ -95,6 +100,27 @@ pub unopened_obeys : (chosen : Options) (name : _) (s : SourceState) (a e f : Si
     → Obeys (asked_of chosen) 3 (record { source = s; sink = a; errors = e }) (record { source = s; sink = a; errors = f })
 unopened_obeys chosen name s a e f is written =
     subst (λ o. EndsOn (option_map string_bytes o) (asked_of chosen) 3 (record { source = s; sink = a; errors = e }) (record { source = s; sink = a; errors = f })) (sym is) (inl (refl, took_nothing a, written))
+
+-- a run on a source, with or without a word of how much was read
+pub untold : (tells : Bool) (asked : Asked) (status : ℕ) (before after : Standard) → tells ≡ false → EndsAs asked.plain asked status before after
+    → EndsOnSource tells asked status before after
+untold true asked status before after is ends = absurd cc
+untold false asked status before after is ends = ends
+
+pub told : (tells : Bool) (asked : Asked) (status : ℕ) (before after : Standard) (s : SourceState) → tells ≡ true
+    → EndsAs asked.plain asked status before (with_source s after) → EndsOnSource tells asked status before after
+told true asked status before after s is ends = (s, ends)
+told false asked status before after s is ends = absurd cc
+
+-- a run that is asked for, on the input or on a FILE
+pub obeys_input : (chosen : Options) (status : ℕ) (before after : Standard) → chosen.file ≡ None
+    → EndsOnSource chosen.progress (asked_of chosen) status before after → Obeys (asked_of chosen) status before after
+obeys_input chosen status before after is ends = subst (λ o. EndsOn (option_map string_bytes o) (asked_of chosen) status before after) (sym is) ends
+
+pub obeys_file : (chosen : Options) (name : _) (status : ℕ) (before after : Standard) → chosen.file ≡ Some name
+    → EndsOnSource chosen.progress (asked_of chosen) status (from_file before) (from_file after) → Obeys (asked_of chosen) status before after
+obeys_file chosen name status before after is ends =
+    subst (λ o. EndsOn (option_map string_bytes o) (asked_of chosen) status before after) (sym is) (inr ends)
 
 -- ---- lines
 
@@ -284,13 +310,14 @@ refused_lines over lines shards wants status before after ends (bytes, has, noth
 -- what was chosen is what the words ask for
 asked_is : (chosen : Options) (words : List (List ℕ)) → chosen.workers ≡ number_of (given words (codes "workers")) 2
     → chosen.shards ≡ number_of (given words (codes "shards")) 64 → chosen.plain ≡ is_set words (codes "plain")
-    → chosen.report ≡ is_set words (codes "report") → option_map string_bytes chosen.file ≡ file_named words → asked_of chosen ≡ asked_by words
-asked_is chosen words workers shards plain report file = rw (workers, shards, plain, report, file) refl
+    → chosen.report ≡ is_set words (codes "report") → chosen.progress ≡ is_set words (codes "progress")
+    → option_map string_bytes chosen.file ≡ file_named words → asked_of chosen ≡ asked_by words
+asked_is chosen words workers shards plain report progress file = rw (workers, shards, plain, report, progress, file) refl
 
 -- so where that was obeyed the words were
 pub obeys_words : (chosen : Options) (words : List (List ℕ)) (status : ℕ) (before after : Standard)
     → chosen.workers ≡ number_of (given words (codes "workers")) 2 → chosen.shards ≡ number_of (given words (codes "shards")) 64
-    → chosen.plain ≡ is_set words (codes "plain") → chosen.report ≡ is_set words (codes "report")
+    → chosen.plain ≡ is_set words (codes "plain") → chosen.report ≡ is_set words (codes "report") → chosen.progress ≡ is_set words (codes "progress")
     → option_map string_bytes chosen.file ≡ file_named words → Obeys (asked_of chosen) status before after → Obeys (asked_by words) status before after
-obeys_words chosen words status before after workers shards plain report file obeyed =
-    subst (λ (asked : Asked). Obeys asked status before after) (asked_is chosen words workers shards plain report file) obeyed
+obeys_words chosen words status before after workers shards plain report progress file obeyed =
+    subst (λ (asked : Asked). Obeys asked status before after) (asked_is chosen words workers shards plain report progress file) obeyed

@@ -104,6 +104,7 @@ pub record Asked : Type 0 where
   pub shards : ℕ
   pub plain : Bool
   pub report : Bool
+  pub progress : Bool
   pub file : Option (List ℕ)
 
 abbrev pub asked_of : Options → Asked
@@ -112,6 +113,7 @@ asked_of chosen = record {
   shards = chosen.shards;
   plain = chosen.plain;
   report = chosen.report;
+  progress = chosen.progress;
   file = option_map string_bytes chosen.file;
 }
 
@@ -119,22 +121,31 @@ asked_of chosen = record {
 abbrev pub uncounted : SourceState
 uncounted = only_left None
 
+-- the streams with another source
+abbrev pub with_source : SourceState → Standard → Standard
+with_source s all = record { source = s; sink = all.sink; errors = all.errors }
+
 -- the streams with such a source
 abbrev pub from_file : Standard → Standard
-from_file all = record { source = uncounted; sink = all.sink; errors = all.errors }
+from_file = with_source uncounted
 
 -- a run without workers, or over them
 abbrev pub EndsAs : Bool → Asked → ℕ → Standard → Standard → Type 0
 EndsAs true asked = EndsWith asked.report
 EndsAs false asked = EndsOverWorkers asked.workers asked.shards asked.report
 
+-- a run on a source. Where it is told how much was read, nobody is told in which state that leaves the source
+abbrev pub EndsOnSource : Bool → Asked → ℕ → Standard → Standard → Type 0
+EndsOnSource true asked status before after = (s : SourceState) × EndsAs asked.plain asked status before (with_source s after)
+EndsOnSource false asked status before after = EndsAs asked.plain asked status before after
+
 -- what is done with a FILE: it can't be opened, whose line is written and nothing else, or it is run on, and nothing is known of
 -- itself; without a FILE the input is run on
 abbrev pub EndsOn : Option (List ℕ) → Asked → ℕ → Standard → Standard → Type 0
-EndsOn None asked status before after = EndsAs asked.plain asked status before after
+EndsOn None asked status before after = EndsOnSource asked.progress asked status before after
 EndsOn (Some name) asked status before after =
     ((status ≡ 3) × IsUntouched before.sink after.sink × IsWritten (unopened_line name) before.errors after.errors)
-    ⊎ EndsAs asked.plain asked status (from_file before) (from_file after)
+    ⊎ EndsOnSource asked.progress asked status (from_file before) (from_file after)
 
 -- what is asked for was done
 abbrev pub Obeys : Asked → ℕ → Standard → Standard → Type 0
@@ -149,6 +160,7 @@ asked_by words = record {
   shards = number_of (given words (codes "shards")) 64;
   plain = is_set words (codes "plain");
   report = is_set words (codes "report");
+  progress = is_set words (codes "progress");
   file = file_named words;
 }
 

@@ -15,9 +15,10 @@ ghost use Rattle.tcp_lines.specs.Lines.{tcp_line, unused};
 ghost use Rattle.program_words.specs.Arguments.{IsMistake, file_named, is_set, refusals};
 ghost use Rattle.program_words.specs.Messages.{IsWritten, message_line, no_text_line};
 ghost use Rattle.boruvka.specs.Streams.{OnThree, OnStreams, OnInput, OnOutput, OutputIsFlushed, SameInput, SameErrors};
-ghost use Rattle.boruvka.specs.Status.{asked_of, status_of_run, report_of, IsReported, EndsOver, EndsAs, Obeys, ObeysWords};
+ghost use Rattle.boruvka.specs.Status.{asked_of, status_of_run, report_of, IsReported, EndsOver, EndsAs, EndsOnSource, Obeys, ObeysWords};
 ghost use Rattle.boruvka.specs.Status.{HasNoGraph, IsDone, LeavesOutput, IsUntouched, AskForHelp, AskForVersion, AreWrong, HelpEnds, RefusesWords, EndsRefused};
 
+use crate::progress::Watched;
 use crate::standard::{StandardStreams, workers_beside};
 use byte_streams::{Sink, Source, Uncounted, put};
 use forest_run::{Cutting, Report, RunFault, run_lines, run_plain, run_threads};
@@ -214,13 +215,13 @@ where
     run_started(rt, chosen, started, io)
 }
 
-/// Does what lawful words ask for, and answers the status.
-///
-/// FILE is opened before the run begins; without FILE it reads the input. The forest goes to the output,
-/// and what went wrong to the errors, as does the report where it is asked for. With `--plain` it runs by up to as many
-/// threads as are asked for. Without it it starts the workers that are asked for, in threads of this process at the far
-/// ends of sockets, and ends them.
-pub fn obey<R, I, O, E>(rt: &R, chosen: &Options, io: StandardStreams<I, O, E>) -> u8
+// Runs as the words ask for, on the input, and tells how much of it was read, where they ask for that.
+fn run_told<R, I, O, E, P>(
+    rt: &R,
+    chosen: &Options,
+    io: StandardStreams<I, O, E>,
+    progress: &mut P,
+) -> u8
 where
     R: Files<File = File>
         + Alloc<A = Global>
@@ -234,10 +235,73 @@ where
     I: Source,
     O: Sink,
     E: Sink,
+    P: Sink,
     requires workers { chosen.now.workers ≤ MAX_WORKERS }
     requires input { I.can_read io.input.now }
     requires output { O.can_write io.output.now }
     requires errors { E.can_write io.errors.now }
+    requires progress { P.can_write progress.old }
+    ensures ends { OnStreams I.state O.state E.state (EndsOnSource chosen.now.progress (asked_of chosen.now) result)
+        io.entry io.exit }
+    ensures status { result ≤ 5 }
+    ensures plain_status { chosen.now.plain ≡ true → result ≤ 4 }
+    ensures silent { LeavesOutput result → OnOutput O.state IsUntouched io.entry io.exit }
+    ensures flushed { result ≡ 0 → OutputIsFlushed O.unflushed io.exit }
+    ensures quiet { chosen.now.report ≡ false → result ≡ 0 → SameErrors io.entry io.exit }
+    ensures untold { chosen.now.progress ≡ false → progress.new ≡ progress.old }
+{
+    if !chosen.progress {
+        return run_on(rt, chosen, io);
+    }
+    let StandardStreams {
+        input,
+        output,
+        errors,
+    } = io;
+    let input = &mut Watched::new(input, progress);
+    run_on(
+        rt,
+        chosen,
+        StandardStreams {
+            input,
+            output,
+            errors,
+        },
+    )
+}
+
+/// Does what lawful words ask for, and answers the status.
+///
+/// FILE is opened before the run begins; without FILE it reads the input. The forest goes to the output,
+/// and what went wrong to the errors, as does the report where it is asked for. `progress` is told how much was read,
+/// where that is asked for. With `--plain` it runs by up to as many
+/// threads as are asked for. Without it it starts the workers that are asked for, in threads of this process at the far
+/// ends of sockets, and ends them.
+pub fn obey<R, I, O, E, P>(
+    rt: &R,
+    chosen: &Options,
+    io: StandardStreams<I, O, E>,
+    progress: &mut P,
+) -> u8
+where
+    R: Files<File = File>
+        + Alloc<A = Global>
+        + Net<Listener = TcpListener, Stream = TcpStream>
+        + Threads
+        + Wait
+        + Sync
+        + Copy
+        + Send
+        + 'static,
+    I: Source,
+    O: Sink,
+    E: Sink,
+    P: Sink,
+    requires workers { chosen.now.workers ≤ MAX_WORKERS }
+    requires input { I.can_read io.input.now }
+    requires output { O.can_write io.output.now }
+    requires errors { E.can_write io.errors.now }
+    requires progress { P.can_write progress.old }
 
     // What is asked for is done, on the input or on FILE, and then the input isn't read.
     ensures obeys { OnStreams I.state O.state E.state (Obeys (asked_of chosen.now) result) io.entry io.exit }
@@ -251,9 +315,10 @@ where
     ensures silent { LeavesOutput result → OnOutput O.state IsUntouched io.entry io.exit }
     ensures flushed { result ≡ 0 → OutputIsFlushed O.unflushed io.exit }
     ensures quiet { chosen.now.report ≡ false → result ≡ 0 → SameErrors io.entry io.exit }
+    ensures untold { chosen.now.progress ≡ false → progress.new ≡ progress.old }
 {
     let Some(name) = &chosen.file else {
-        return run_on(rt, chosen, io);
+        return run_told(rt, chosen, io, progress);
     };
     let Ok(file) = File::open(rt, name) else {
         write_unopened(io.errors, name.as_str());
@@ -265,7 +330,7 @@ where
         errors,
     } = io;
     let input = &mut Uncounted(file);
-    run_on(
+    run_told(
         rt,
         chosen,
         StandardStreams {
@@ -273,6 +338,7 @@ where
             output,
             errors,
         },
+        progress,
     )
 }
 
@@ -320,18 +386,20 @@ fn print_usage<O: Sink, E: Sink>(
 ///
 /// `words` has the program's name first. The words are judged first, by [`options`]; then they are
 /// obeyed, by [`obey`], or the user reads what is wrong with them. A text for the user goes to the errors, the
-/// help and the version alone to the output. A failed write to the errors is ignored.
+/// help and the version alone to the output. A failed write to the errors is ignored. `progress` is told how much was read,
+/// if the words ask for that; it may be another handle of the errors' stream.
 ///
 /// Status 0: done. 1: the file was refused, or can't be cut so. 2: the words were. 3: FILE can't be opened, a
 /// read failed, or a write did. 4: memory was refused. 5: what the workers answered makes no forest.
 ///
 /// It waits for the workers, and each of them has ended when it answers.
-pub fn command<R, S, I, O, E>(
+pub fn command<R, S, I, O, E, P>(
     rt: &R,
     words: &[S],
     input: &mut I,
     output: &mut O,
     errors: &mut E,
+    progress: &mut P,
 ) -> u8
 where
     R: Files<File = File>
@@ -347,9 +415,11 @@ where
     I: Source,
     O: Sink,
     E: Sink,
+    P: Sink,
     requires input { I.can_read input.old }
     requires output { O.can_write output.old }
     requires errors { E.can_write errors.old }
+    requires progress { P.can_write progress.old }
 
     // What lawful words ask for is done: the input is run on, or FILE is, and then the input isn't touched.
     ensures obeys { OnThree I.state O.state E.state (ObeysWords (map S.text words.now) result)
@@ -363,6 +433,7 @@ where
     ensures silent { LeavesOutput result → IsUntouched (O.state output.old) (O.state output.new) }
     ensures flushed { refusals (map S.text words.now) ≡ [] → result ≡ 0 → IsFlushed (O.unflushed output.new) }
     ensures quiet { is_set (map S.text words.now) (codes "report") ≡ false → result ≡ 0 → errors.new ≡ errors.old }
+    ensures untold { is_set (map S.text words.now) (codes "progress") ≡ false → progress.new ≡ progress.old }
 
     // The help and the version go to the output, and wrong words touch nothing. Words that are refused and ask for the help
     // too end as one or the other.
@@ -382,7 +453,7 @@ where
                 output,
                 errors,
             };
-            obey(rt, &chosen, io)
+            obey(rt, &chosen, io, progress)
         }
         Err(OptionsFault::Usage(error)) => print_usage(rt.alloc(), &error, output, errors),
         Err(OptionsFault::Memory) => {

@@ -11,30 +11,38 @@
 //! What it promises:
 //! - The output gets a prefix of the forest's text, the whole where the status is 0, or the help; the status is one of
 //!   six, and writes what failed ([`command::obey`]).
-//! - Standard error gets the report that was asked for, or the line that says why; the usage there is only tested.
+//! - Standard error gets the report that was asked for, or the line that says why; the usage there is only tested, and how
+//!   much was read, which `--progress` asks for.
 //! - The forest is the minimum one without workers, and where workers answer as the engine does, which no contract sees
 //!   of sockets; whatever they answer it spans ([`command::run_over`]).
 //!
 //! Where to start a change: what the program does, in order, `command` with `specs/Status`; how the standard streams are
-//! kept apart from sockets, `standard`. The words, the messages and the statuses stand in `program_words`.
+//! kept apart from sockets, `standard`; what is told while it reads, `progress`. The words, the messages and the statuses stand in `program_words`.
 #![tactic(auto)]
 
 mod command;
+mod progress;
 mod standard;
 #[cfg(test)]
 mod tests;
 
+use std::env;
 use std::process::ExitCode;
 
 fn main(rt: HostRuntime) -> ExitCode {
     let mut errors = rt.stderr();
-    let status = match program_words::all_words(&rt) {
+    let words = match env::args(&rt) {
+        Ok(words) => program_words::all_words(rt.alloc(), words),
+        Err(error) => Err(error),
+    };
+    let status = match words {
         Ok(words) => command::command(
             &rt,
             words.as_slice(),
             &mut rt.stdin(),
             &mut rt.stdout(),
             &mut errors,
+            &mut rt.stderr(),
         ),
         Err(error) => command::without_words(&error, &mut errors),
     };

@@ -4,8 +4,9 @@ ghost use Rattle.wires.specs.Lines.{HasRoom};
 ghost use Rattle.wires.specs.Testing.{line_of_script};
 
 use crate::command::{command, run_over, without_words};
+use crate::progress::Watched;
 use crate::standard::{StandardStreams, workers_beside};
-use byte_streams::{FusedSink, FusedSource, Uncounted};
+use byte_streams::{FusedSink, FusedSource, Source, Uncounted};
 use forest_run::{Report, RunFault};
 use gr_text::{GrFault, GrKind, ReadFault};
 use links::{CutFault, Link};
@@ -13,6 +14,7 @@ use program_words::{
     OptionsFault, all_words, options, status_of, write_fault, write_report, write_text,
 };
 use std::alloc::{Alloc, AllocError, Global};
+use std::env;
 use std::fmt::Debug;
 use std::fs::{self, File, Files};
 use std::io::{self, ErrorKind, Write};
@@ -40,6 +42,7 @@ Options:
       --plain        Solve without workers
       --threads <N>  With --plain, up to how many threads solve: 1 to 64 [default: 1]
       --report       Print what the run did to standard error
+      --progress     Tell standard error how much was read, each 16 MB
   -h, --help         Print help
   -V, --version      Print version
 
@@ -56,7 +59,7 @@ shards of a graph of 67108864 vertices. --plain sends nothing. It is the fastest
 and the one for files from strangers.
 
 Examples:
-  boruvka net.gr > forest.gr
+  boruvka --plain net.gr > forest.gr
   gzip -dc net.gr.gz | boruvka --plain > forest.gr
 ";
 
@@ -88,7 +91,9 @@ fn expect(
     let mut source = input;
     let mut out = Vec::new(rt.alloc());
     let mut err = Vec::new(rt.alloc());
-    let ended = command(rt, words, &mut source, &mut out, &mut err);
+    let mut told = Vec::new(rt.alloc());
+    let ended = command(rt, words, &mut source, &mut out, &mut err, &mut told);
+    expect_same(rt, told.is_empty(), true);
     expect_same(rt, ended, status);
     expect_same(rt, out.as_slice(), output);
     expect_same(rt, err.as_slice(), errors);
@@ -215,6 +220,7 @@ fn prints_how_much_was_written(rt: HostRuntime) {
         &mut input,
         &mut output,
         &mut errors,
+        &mut Vec::new(rt.alloc()),
     );
     expect_same(&rt, status, 3);
     expect_same(&rt, output.held(), b"p sp 6 5\na".as_slice());
@@ -304,6 +310,7 @@ fn prints_the_help(rt: HostRuntime) {
         &mut input,
         &mut output,
         &mut errors,
+        &mut Vec::new(rt.alloc()),
     );
     expect_same(&rt, status, 0);
     expect_same(&rt, output.as_slice(), HELP.as_bytes());
@@ -320,7 +327,9 @@ fn names_each_option_in_the_help(rt: HostRuntime) {
         "--workers",
         "--shards",
         "--plain",
+        "--threads",
         "--report",
+        "--progress",
         "--help",
         "FILE",
     ] {
@@ -342,7 +351,8 @@ fn ignores_errors_that_fail(rt: HostRuntime) {
         let mut input = file;
         let mut output = Vec::new(rt.alloc());
         let mut errors = FusedSink::new(rt.alloc(), 0, 1).expect(&rt, "memory");
-        let ended = command(&rt, &words, &mut input, &mut output, &mut errors);
+        let mut told = Vec::new(rt.alloc());
+        let ended = command(&rt, &words, &mut input, &mut output, &mut errors, &mut told);
         expect_same(&rt, ended, status);
         expect_same(&rt, output.as_slice(), text);
         expect_same(&rt, errors.held().is_empty(), true);
@@ -364,7 +374,8 @@ fn reports_only_what_ended_well(rt: HostRuntime) {
     let mut errors = Vec::new(rt.alloc());
     let mut input = SMALL_NET.as_slice();
     let mut output = FusedSink::new(rt.alloc(), 10, 7).expect(&rt, "memory");
-    let status = command(&rt, &words, &mut input, &mut output, &mut errors);
+    let mut told = Vec::new(rt.alloc());
+    let status = command(&rt, &words, &mut input, &mut output, &mut errors, &mut told);
     expect_same(&rt, status, 3);
     expect_same(
         &rt,
@@ -386,6 +397,7 @@ fn prints_the_line_of_a_failed_read(rt: HostRuntime) {
         &mut input,
         &mut output,
         &mut errors,
+        &mut Vec::new(rt.alloc()),
     );
     expect_same(&rt, status, 3);
     expect_same(&rt, output.is_empty(), true);
@@ -436,7 +448,8 @@ fn expect_one_write(
         taken: Vec::new(rt.alloc()),
     });
     let words = ["boruvka", "--plain", name];
-    let ended = command(rt, &words, &mut input, &mut output, &mut errors);
+    let mut told = Vec::new(rt.alloc());
+    let ended = command(rt, &words, &mut input, &mut output, &mut errors, &mut told);
     expect_same(rt, ended, 3);
     expect_same(rt, output.is_empty(), true);
     expect_same(rt, errors.0.taken.as_slice(), line.as_bytes());
@@ -512,7 +525,7 @@ fn opens_the_name_that_it_is_given(rt: HostRuntime) {
 
 #[test]
 fn prints_the_version(rt: HostRuntime) {
-    let version = b"boruvka 1.0.0\n";
+    let version = b"boruvka 1.1.0\n";
     for word in ["--version", "-V"] {
         expect(&rt, &["boruvka", word], SMALL_NET, 0, version, b"");
     }
@@ -529,6 +542,7 @@ fn prints_a_help_that_cannot_be_written(rt: HostRuntime) {
         &mut input,
         &mut output,
         &mut errors,
+        &mut Vec::new(rt.alloc()),
     );
     expect_same(&rt, status, 3);
     expect_same(&rt, output.held(), b"Computes t".as_slice());
@@ -537,6 +551,47 @@ fn prints_a_help_that_cannot_be_written(rt: HostRuntime) {
         errors.as_slice(),
         b"boruvka: write failed after 10 bytes\n".as_slice(),
     );
+}
+
+// A source of 33 million bytes is read by 5 million at a time, and found to end: at 20 and at 33 million the step of 16
+// million was passed.
+#[test]
+fn tells_how_much_was_read(rt: HostRuntime) {
+    let bytes = vec![in rt.alloc(); 10_u8; 33_000_000].expect(&rt, "memory");
+    let mut buffer = vec![in rt.alloc(); 0_u8; 5_000_000].expect(&rt, "memory");
+    let mut source = bytes.as_slice();
+    let mut told = Vec::new(rt.alloc());
+    let mut watched = Watched::new(&mut source, &mut told);
+    for wanted in [5_000_000, 5_000_000, 5_000_000, 5_000_000, 5_000_000, 5_000_000, 3_000_000, 0] {
+        let found = watched.read(buffer.as_mut_slice()).expect(&rt, "bytes");
+        expect_same(&rt, found, wanted);
+    }
+    drop(watched);
+    let lines = b"read 20 MB\rread 33 MB\rread 33 MB\n".as_slice();
+    expect_same(&rt, told.as_slice(), lines);
+}
+
+// The sink takes nine bytes, and then fails: the run goes on, and tells it nothing more.
+#[test]
+fn tells_nothing_after_a_setback(rt: HostRuntime) {
+    let bytes = vec![in rt.alloc(); 10_u8; 48_000_000].expect(&rt, "memory");
+    let mut buffer = vec![in rt.alloc(); 0_u8; 16_000_000].expect(&rt, "memory");
+    let mut source = bytes.as_slice();
+    let mut told = FusedSink::new(rt.alloc(), 9, 9).expect(&rt, "memory");
+    let mut watched = Watched::new(&mut source, &mut told);
+    for wanted in [16_000_000, 16_000_000, 16_000_000, 0] {
+        let found = watched.read(buffer.as_mut_slice()).expect(&rt, "bytes");
+        expect_same(&rt, found, wanted);
+    }
+    drop(watched);
+    expect_same(&rt, told.held(), b"read 16 M".as_slice());
+}
+
+// A short file has no such line.
+#[test]
+fn tells_nothing_of_a_short_file(rt: HostRuntime) {
+    let words = ["boruvka", "--plain", "--progress"];
+    expect(&rt, &words, SMALL_NET, 0, SMALL_FOREST, b"");
 }
 
 // The words are lawful, and ask for so many workers and shards, and for this file.
@@ -615,7 +670,8 @@ fn expect_refused(
     let mut errors = Vec::new(rt.alloc());
     let mut input = SMALL_NET.as_slice();
     let mut output = Vec::new(rt.alloc());
-    let status = command(rt, words, &mut input, &mut output, &mut errors);
+    let mut told = Vec::new(rt.alloc());
+    let status = command(rt, words, &mut input, &mut output, &mut errors, &mut told);
     expect_same(rt, status, 2);
     expect_same(rt, (output.is_empty(), errors.is_empty()), (true, false));
 }
@@ -651,7 +707,8 @@ fn prints_why_there_are_no_words(rt: HostRuntime) {
         errors.as_slice(),
         b"boruvka: a word is not UTF-8\n".as_slice(),
     );
-    let words = all_words(&rt).expect(&rt, "words");
+    let given = env::args(&rt).expect(&rt, "words");
+    let words = all_words(rt.alloc(), given).expect(&rt, "words");
     expect_same(&rt, words.is_empty(), false);
 }
 

@@ -45,10 +45,11 @@ word_rule name = record (new_rule name) { value_names = 1 }
 abbrev pub with_version : App → App
 with_version a = record a { top = record a.top { has_version = true } }
 
--- the program: its version, three numbers, two flags, and a file
+-- the program: its version, three numbers, three flags, and a file
 abbrev pub program : App
 program =
     with_rule
+    (with_rule
     (with_rule
     (with_rule
     (with_rule
@@ -58,6 +59,7 @@ program =
     (flag_rule (codes "plain")))
     (number_rule (codes "threads") 1 MAX_THREADS))
     (flag_rule (codes "report")))
+    (flag_rule (codes "progress")))
     (word_rule (codes "file"))
 
 -- ---- what words say to it, the program's name first

@@ -1,5 +1,5 @@
 -- The lines that say what a run did, or what went wrong, and what it is to write them.
-use Rattle.std.specs.Prelude.{◌≡◌, ℕ, ◌/◌, ◌%◌, ◌⊎◌, if◌then◌else◌, List, [], ◌∷◌, ◌++◌, codes}
+use Rattle.std.specs.Prelude.{◌≡◌, ℕ, ◌/◌, ◌%◌, ◌⊎◌, if◌then◌else◌, List, [], ◌∷◌, ◌++◌, codes, decimal}
 use Rattle.std.specs.Char.{digit_char, encode_utf8, is_control}
 use Rattle.std.specs.List.{flat_map}
 use Rattle.std.specs.Str.{chars}
@@ -20,6 +20,10 @@ IsPartWritten text left before after = (gone : List ℕ) × Took 0 gone before a
 -- a report as a line
 abbrev pub report_line : Report → List ℕ
 report_line report = report_text report ++ 10 ∷ []
+
+-- how many million bytes were read, and how the line ends: at CR the next line is written over it
+abbrev pub progress_line : ℕ → List ℕ → List ℕ
+progress_line read end = codes "read " ++ decimal (read / 1000000) ++ codes " MB" ++ end
 
 -- a message as a line, behind the program's name
 abbrev pub message_line : List ℕ → List ℕ

@@ -1,6 +1,7 @@
 //! The words of the command line.
 ghost use Rattle.std.specs.Prelude.{◌≡◌, ◌≢◌, ◌<◌, ◌≤◌, ℕ, ◌^◌, [], not, ◌&&◌, is_some, map, option_map, Some, IfOk, OnOk, codes};
 ghost use Rattle.std.specs.String.{string_bytes};
+ghost use Rattle.std.specs.Vec.Iter.{into_iter_items};
 ghost use Rattle.clap.specs.Words.{IsAmong, app_of, fault_of, first_value, found_of, kind_of, one_text, rule_of, with_rule};
 ghost use Rattle.clap.specs.declared.error.kind.ErrorKind.TheVariants.{MissingRequiredArgument, OutOfMemory};
 ghost use Rattle.program_words.specs.Arguments.{program, number_rule, default_rule, flag_rule, word_rule, refusals, given, file_named, number_of, is_true, is_set, OnUsage};
@@ -12,9 +13,9 @@ use crate::version::RELEASE;
 use clap::error::ErrorKind;
 use clap::{Arg, ArgAction, ArgMatches, Command};
 use limits::{MAX_SHARDS, MAX_WORKERS};
-use std::alloc::{Alloc, AllocError, Global};
+use std::alloc::{AllocError, Global};
 use std::convert::AsStr;
-use std::env::{self, Env};
+use std::env::Args;
 use std::io;
 
 const ABOUT: &str = "Computes the minimum spanning forest of a graph in the .gr format.";
@@ -34,7 +35,7 @@ shards of a graph of 67108864 vertices. --plain sends nothing. It is the fastest
 and the one for files from strangers.
 
 Examples:
-  boruvka net.gr > forest.gr
+  boruvka --plain net.gr > forest.gr
   gzip -dc net.gr.gz | boruvka --plain > forest.gr";
 
 fn workers_arg<'a>(alloc: Global) -> Arg<'a>
@@ -118,6 +119,14 @@ fn the_command<'a>(alloc: Global) -> Result<Command<'a>, AllocError>
         command,
         flag(alloc, "report", "Print what the run did to standard error"),
     )?;
+    command = with(
+        command,
+        flag(
+            alloc,
+            "progress",
+            "Tell standard error how much was read, each 16 MB",
+        ),
+    )?;
     with(command, file_arg(alloc))
 }
 
@@ -173,12 +182,14 @@ fn file_of(alloc: Global, name: &str) -> Result<Option<String>, AllocError>
     Ok(Some(name))
 }
 
-/// All words of the command line, the program's name first.
+/// The words that std got of the command line, all of them and in their order.
 ///
-/// The error's kind is `OutOfMemory` where memory was refused; else a word isn't UTF-8.
-pub fn all_words<R: Env + Alloc<A = Global>>(rt: &R) -> io::Result<Vec<String>> {
-    let words = env::args(rt)?.collect(rt.alloc())?;
-    Ok(words)
+/// Memory may be refused. It takes time and memory linear in the words.
+pub fn all_words(alloc: Global, words: Args) -> io::Result<Vec<String>>
+    ensures { IfOk result (λ all. all.items ≡ into_iter_items words) }
+{
+    let all = words.collect(alloc)?;
+    Ok(all)
 }
 
 // What the words ask for, each for itself, and whether they ask for threads alone.
@@ -195,6 +206,8 @@ fn options_of<'a, S: AsStr>(alloc: Global, words: &'a [S]) -> Result<(Options, b
         o.0.threads ≡ number_of (given (map S.text words.entry.now) (codes "threads")) 1) }
     ensures report { IfOk result (λ o.
         o.0.report ≡ is_set (map S.text words.entry.now) (codes "report")) }
+    ensures progress { IfOk result (λ o.
+        o.0.progress ≡ is_set (map S.text words.entry.now) (codes "progress")) }
     ensures file { IfOk result (λ o.
         option_map string_bytes o.0.file ≡ file_named (map S.text words.entry.now)) }
     ensures few_workers { IfOk result (λ o. o.0.workers ≤ MAX_WORKERS) }
@@ -221,6 +234,7 @@ fn options_of<'a, S: AsStr>(alloc: Global, words: &'a [S]) -> Result<(Options, b
         plain: is_set(&matches, "plain"),
         threads,
         report: is_set(&matches, "report"),
+        progress: is_set(&matches, "progress"),
         file,
     };
     Ok((chosen, is_alone(&matches)))
@@ -244,6 +258,8 @@ pub fn options<'a, S: AsStr>(alloc: Global, words: &'a [S]) -> Result<Options, O
         o.threads ≡ number_of (given (map S.text words.entry.now) (codes "threads")) 1) }
     ensures report { IfOk result (λ o.
         o.report ≡ is_set (map S.text words.entry.now) (codes "report")) }
+    ensures progress { IfOk result (λ o.
+        o.progress ≡ is_set (map S.text words.entry.now) (codes "progress")) }
     ensures file { IfOk result (λ o.
         option_map string_bytes o.file ≡ file_named (map S.text words.entry.now)) }
 

@@ -20,6 +20,8 @@ pub struct Options {
     pub threads: u32,
     /// Whether the report goes to standard error.
     pub report: bool,
+    /// Whether standard error is told how much was read.
+    pub progress: bool,
     /// The file that is read; standard input where there is none.
     pub file: Option<String>,
 }

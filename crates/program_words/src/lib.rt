@@ -25,6 +25,8 @@ mod version;
 
 pub use arguments::{all_words, options};
 pub use chosen::{MAX_THREADS, Options, OptionsFault};
-pub use messages::{write_fault, write_no_text, write_report, write_text, write_unopened};
+pub use messages::{
+    write_fault, write_no_text, write_progress, write_report, write_text, write_unopened,
+};
 pub use statuses::{ANSWERS, DEVICE, MEMORY, USAGE, status_of};
 pub use version::RELEASE;

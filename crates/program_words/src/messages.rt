@@ -1,13 +1,14 @@
 //! Lines for the user on standard error, written without taking memory. A failed write is ignored.
-ghost use Rattle.std.specs.Prelude.{◌<◌, ◌++◌, OnOk, IfErr};
+ghost use Rattle.std.specs.Prelude.{◌≡◌, ◌<◌, ◌≤◌, ◌++◌, length, OnOk, IfErr};
 ghost use Rattle.arrayvec.specs.ArrayString.{array_string_len};
-ghost use Rattle.byte_streams.specs.Streams.{WentOut};
+ghost use Rattle.byte_streams.specs.Streams.{Took, WentOut};
 ghost use Rattle.program_words.specs.Messages.{IsWritten, IsPartWritten, escaped_char};
-ghost use Rattle.program_words.specs.Messages.{report_line, fault_line, no_text_line, unopened_line};
+ghost use Rattle.program_words.specs.Messages.{report_line, fault_line, progress_line, no_text_line, unopened_line};
 
 use crate::escapes::{ESCAPED_ROOM, NAMED_LINE_ROOM, push_escaped};
 use arrayvec::ArrayString;
 use byte_streams::{PutFault, Sink, put};
+use itoa::Buffer;
 use plain_run::{LINE_ROOM, Report, RunFault};
 
 /// Writes a text, up to the sink's first setback.
@@ -32,6 +33,27 @@ pub fn write_report<S: Sink>(sink: &mut S, report: &Report)
     line.push_str(report.text().as_str());
     line.push_str("\n");
     write_text(sink, line.as_str().as_bytes());
+}
+
+// The room for a line that tells how much was read: a number has at most 40 digits.
+const PROGRESS_ROOM: usize = 64;
+
+/// Writes how many million bytes of so many were read, with this end, in one write where the sink takes it whole.
+pub fn write_progress<S: Sink>(sink: &mut S, read: u64, end: &str) -> Result<(), PutFault>
+    requires sink { S.can_write sink.old }
+    requires end { length end.now ≤ 2 }
+    ensures whole { OnOk result (Took 0 (progress_line read end.now) (S.state sink.old) (S.state sink.new)) }
+    ensures part { IfErr result (λ fault. WentOut fault.written (progress_line read end.now)
+        (S.state sink.old) (S.state sink.new)) }
+    ensures again { OnOk result (S.can_write sink.new) }
+{
+    let mut digits = Buffer::new();
+    let mut line = ArrayString::<PROGRESS_ROOM>::new();
+    line.push_str("read ");
+    line.push_str(digits.format(read / 1_000_000));
+    line.push_str(" MB");
+    line.push_str(end);
+    put(sink, line.as_str().as_bytes())
 }
 
 /// Writes why a run ended ill as a line, behind the program's name, in one write where the sink takes it whole.

@@ -11,7 +11,7 @@ returns-in-Err-Usage-clause-wrong g c = λ wrong.
 pub returns-in-Ok-clause-obeys : goal.returns-in-Ok-clause-obeys
 returns-in-Ok-clause-obeys g c = λ lawful.
     let taken = c.in-Ok.ensures in
-    obeys_words c.in-Ok.chosen (map g.S.AsStr.text c.args.words.now) _ _ _ taken.workers taken.shards taken.plain taken.report taken.file c.obey.ensures.obeys
+    obeys_words c.in-Ok.chosen (map g.S.AsStr.text c.args.words.now) _ _ _ taken.workers taken.shards taken.plain taken.report taken.progress taken.file c.obey.ensures.obeys
 
 pub returns-in-Err-Memory-clause-obeys : goal.returns-in-Err-Memory-clause-obeys
 returns-in-Err-Memory-clause-obeys g c = λ lawful. wants_memory_obeys _ _ _ _ _ c.write_fault.ensures

@@ -37,6 +37,10 @@ pub returns-clause-report : goal.returns-clause-report
 returns-clause-report g c =
     c.is_set-2.ensures ∙ ap is_true (said_is _ _ _ _ c.in_ok-command.ensures.app c.in_ok-matches.ensures.matches)
 
+pub returns-clause-progress : goal.returns-clause-progress
+returns-clause-progress g c =
+    c.is_set-3.ensures ∙ ap is_true (said_is _ _ _ _ c.in_ok-command.ensures.app c.in_ok-matches.ensures.matches)
+
 pub returns-clause-file : goal.returns-clause-file
 returns-clause-file g c =
     let read = c.get_str.ensures ∙ said_is _ _ _ _ c.in_ok-command.ensures.app c.in_ok-matches.ensures.matches in

@@ -14,4 +14,5 @@ returns-clause-app c =
     let three = c.in_ok-command-3.ensures.app ∙ ap₂ with_rule two c.flag.ensures.rule in
     let four = c.in_ok-command-4.ensures.app ∙ ap₂ with_rule three c.threads_arg.ensures.rule in
     let five = c.in_ok-command-5.ensures.app ∙ ap₂ with_rule four c.flag-2.ensures.rule in
-    IfOk-weaker c.with-6.result _ _ (λ r is. is ∙ ap₂ with_rule five c.file_arg.ensures.rule) c.with-6.ensures.app
+    let six = c.in_ok-command-6.ensures.app ∙ ap₂ with_rule five c.flag-3.ensures.rule in
+    IfOk-weaker c.with-7.result _ _ (λ r is. is ∙ ap₂ with_rule six c.file_arg.ensures.rule) c.with-7.ensures.app

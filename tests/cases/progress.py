@@ -1,0 +1,70 @@
+"""What `--progress` tells standard error: how much was read, each 16 million bytes."""
+import os
+import re
+import subprocess
+
+from cases.running import SMALL_FOREST, SMALL_NET, SMALL_REPORT, Program, case, expect, ran, run, written
+
+# a comment of a thousand bytes
+COMMENT = b"c" + 998 * b"." + b"\n"
+# 40 million bytes, and a little more
+LONG_NET = 40_000 * COMMENT + SMALL_NET
+TOLD = b"read 16 MB\rread 32 MB\rread 40 MB\n"
+MODES = [["--plain"], ["--workers", "0"], ["--workers", "2", "--shards", "2"]]
+
+
+@case
+def how_much_was_read_of_a_pipe(_room):
+    for words in MODES:
+        expect(ran([*words, "--progress"], LONG_NET), 0, SMALL_FOREST, TOLD)
+    expect(ran(["--progress", "--plain", "--report"], LONG_NET), 0, SMALL_FOREST, TOLD + SMALL_REPORT)
+
+
+@case
+def how_much_was_read_of_a_file(room):
+    name = written(f"{room}/long.gr", LONG_NET)
+    for words in MODES:
+        expect(ran([*words, "--progress", name]), 0, SMALL_FOREST, TOLD)
+    # threads read more at a time
+    status, output, errors = ran(["--plain", "--threads", "4", "--progress", name])
+    if not re.fullmatch(rb"read 1\d MB\rread 3\d MB\rread 40 MB\n", errors):
+        raise AssertionError(f"by four threads: {errors!r}")
+    expect((status, output, b""), 0, SMALL_FOREST, b"")
+
+
+@case
+def nothing_is_told_unasked_or_of_a_short_file(_room):
+    for words in MODES:
+        expect(ran(words, LONG_NET), 0, SMALL_FOREST, b"")
+        expect(ran([*words, "--progress"], SMALL_NET), 0, SMALL_FOREST, b"")
+    # one byte less than the first step, and just that
+    expect(ran(["--plain", "--progress"], (15_999_999 - len(SMALL_NET)) * b"\n" + SMALL_NET), 0, SMALL_FOREST, b"")
+    told = b"read 16 MB\rread 16 MB\n"
+    expect(ran(["--plain", "--progress"], (16_000_000 - len(SMALL_NET)) * b"\n" + SMALL_NET), 0, SMALL_FOREST, told)
+
+
+@case
+def a_fault_is_told_over_what_was_read(_room):
+    malformed = 20_000 * COMMENT + b"x\n" + SMALL_NET
+    for words in MODES:
+        told = b"read 16 MB\rboruvka: line 20001: UnknownLine\n"
+        expect(ran([*words, "--progress"], malformed), 1, b"", told)
+
+
+@case
+def a_standard_error_that_is_closed_or_full(room):
+    words = [Program.path, "--plain", "--progress"]
+    expect(run(["sh", "-c", 'exec "$@" 2>&-', "sh", *words], LONG_NET), 0, SMALL_FOREST, b"")
+    name = written(f"{room}/long.gr", LONG_NET)
+    with open("/dev/full", "wb") as full, open(name, "rb") as source:
+        ended = subprocess.run(words, stdin=source, stdout=subprocess.PIPE, stderr=full, timeout=60)
+    expect((ended.returncode, ended.stdout, b""), 0, SMALL_FOREST, b"")
+    # whoever read it went away
+    reader, writer = os.pipe()
+    os.close(reader)
+    try:
+        with open(name, "rb") as source:
+            ended = subprocess.run(words, stdin=source, stdout=subprocess.PIPE, stderr=writer, timeout=60)
+    finally:
+        os.close(writer)
+    expect((ended.returncode, ended.stdout, b""), 0, SMALL_FOREST, b"")
