@@ -20,3 +20,4 @@ pub mod Kept
 pub mod LightFirst
 pub mod Together
 pub mod Sharing
+pub mod Covers

@@ -10,3 +10,5 @@ pub mod Cut
 pub mod AnswerValue
 pub mod WideKey
 pub mod Parted
+pub mod Thresholds
+pub mod Covers
