@@ -21,3 +21,4 @@ pub mod LightFirst
 pub mod Together
 pub mod Sharing
 pub mod Covers
+pub mod Components

@@ -12,3 +12,4 @@ pub mod WideKey
 pub mod Parted
 pub mod Thresholds
 pub mod Covers
+pub mod Components

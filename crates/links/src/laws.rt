@@ -1,4 +1,5 @@
 // What the definitions themselves promise, each as the contract of a function that does nothing.
+ghost use Rattle.links.specs.Components.{EachHasComponents, LinksAndComponents};
 ghost use Rattle.links.specs.Covers.{CoverHasForest, ForestCoversList, SameLinksCover, CoverOfCover, CoversTogether, ForestOfForests, ForestOfSameLinks};
 ghost use Rattle.links.specs.Cut.{RefusedForALargeShard};
 ghost use Rattle.links.specs.Forest.{EachHasOneForest};
@@ -46,6 +47,12 @@ pub fn forest_of_forests()
 /// Lists with the same links have the same forest, in whatever order and however often they have them.
 pub fn forest_of_same_links()
     ensures { ForestOfSameLinks }
+{}
+
+/// If the vertices 1 to n have c components and the forest has k links, k + c is n. Each list has such a number c.
+pub fn links_and_components()
+    ensures exist { EachHasComponents }
+    ensures sum { LinksAndComponents }
 {}
 
 /// Where the number of shards is allowed, an even cut is refused exactly where one of its shards has more than
