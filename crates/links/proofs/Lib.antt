@@ -22,3 +22,4 @@ pub mod Together
 pub mod Sharing
 pub mod Covers
 pub mod Components
+pub mod Reweighted

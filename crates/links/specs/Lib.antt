@@ -13,3 +13,4 @@ pub mod Parted
 pub mod Thresholds
 pub mod Covers
 pub mod Components
+pub mod Reweighted

@@ -4,6 +4,7 @@ ghost use Rattle.links.specs.Covers.{CoverHasForest, ForestCoversList, SameLinks
 ghost use Rattle.links.specs.Cut.{RefusedForALargeShard};
 ghost use Rattle.links.specs.Forest.{EachHasOneForest};
 ghost use Rattle.links.specs.Least.{ForestIsLightest, NoCycleIsItsForest};
+ghost use Rattle.links.specs.Reweighted.{ForestOfReweighted, PlacesOfReweighted};
 ghost use Rattle.links.specs.Thresholds.{ForestJoinsUpTo, ForestJoinsBelow};
 
 /// Each list of links has exactly one minimum spanning forest, as an ascending list.
@@ -53,6 +54,13 @@ pub fn forest_of_same_links()
 pub fn links_and_components()
     ensures exist { EachHasComponents }
     ensures sum { LinksAndComponents }
+{}
+
+/// A function of weights that keeps their order leaves a list's forest at the same places. So it makes no difference which
+/// whole numbers stand for weights of another kind, if they keep their order.
+pub fn forest_of_reweighted()
+    ensures links { ForestOfReweighted }
+    ensures places { PlacesOfReweighted }
 {}
 
 /// Where the number of shards is allowed, an even cut is refused exactly where one of its shards has more than
