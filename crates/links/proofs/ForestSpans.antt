@@ -26,25 +26,36 @@ forest_no_cycle links =
     to m Q each k (inl none) = absurd none
     to m Q each k (inr in_Q) = ((each k in_Q).0.0, (each k in_Q).1)
 
--- The forest joins the ends of each link of the list. Either they are not joined by smaller links, and the link is in
--- the forest; or they are, and each of those has its ends joined by the forest, since it is smaller. (The list
--- `lower` has all links of the list that are below l; it gets shorter.)
-ends_joined : (links : List Link) (fuel : ℕ) (lower : List Link) → length lower ≤ fuel → (l : Link) → Contains links l → ((m : Link) → LinksBelow links l m → Contains lower m) → Joins (IsForestLink links) l.low l.high
+-- the forest's links that aren't above l
+abbrev pub ForestNotAbove : List Link → Link → LinkSet
+ForestNotAbove links l m = IsForestLink links m × ¬ (IsBelow l m)
+
+-- those that aren't above a link aren't above any that it is below
+not_above_higher : (links : List Link) (l m : Link) → IsBelow m l → (u v : ℕ) → Joins (ForestNotAbove links m) u v → Joins (ForestNotAbove links l) u v
+not_above_higher links l m below = joins_more (ForestNotAbove links m) (ForestNotAbove links l) (λ k k_is. (k_is.0, λ above. k_is.1 (below_trans m l k below above)))
+
+-- The forest joins the ends of each link of the list, by links that aren't above it. Either they are not joined by smaller
+-- links, and the link is in the forest; or they are, and each of those has its ends joined so, since it is smaller. (The
+-- list `lower` has all links of the list that are below l; it gets shorter.)
+ends_joined : (links : List Link) (fuel : ℕ) (lower : List Link) → length lower ≤ fuel → (l : Link) → Contains links l → ((m : Link) → LinksBelow links l m → Contains lower m) → Joins (ForestNotAbove links l) l.low l.high
 ends_joined links zero lower small l is_in has = elim (joins_dec (λ m. IsBelow m l) (λ m. below_dec m l) links l.low l.high) [
-  | inr apart ↦ joins_link (IsForestLink links) l (is_in, apart)
-  | inl joined ↦ joins_replace (LinksBelow links l) (IsForestLink links) (λ m below. let fewer = without_one lower m (has m below) in absurd (omega (arith, fewer.shorter))) l.low l.high joined
+  | inr apart ↦ joins_link (ForestNotAbove links l) l ((is_in, apart), below_irrefl l)
+  | inl joined ↦ joins_replace (LinksBelow links l) (ForestNotAbove links l) (λ m below. let fewer = without_one lower m (has m below) in absurd (omega (arith, fewer.shorter))) l.low l.high joined
 ]
 ends_joined links (suc fuel) lower small l is_in has = elim (joins_dec (λ m. IsBelow m l) (λ m. below_dec m l) links l.low l.high) [
-  | inr apart ↦ joins_link (IsForestLink links) l (is_in, apart)
-  | inl joined ↦ joins_replace (LinksBelow links l) (IsForestLink links) (λ m below.
+  | inr apart ↦ joins_link (ForestNotAbove links l) l ((is_in, apart), below_irrefl l)
+  | inl joined ↦ joins_replace (LinksBelow links l) (ForestNotAbove links l) (λ m below.
       let fewer = without_one lower m (has m below) in
       let shorter : length fewer.rest ≤ fuel = omega (arith, fewer.shorter) in
-      ends_joined links fuel fewer.rest shorter m below.0 (λ k k_below.
-      fewer.keeps k (has k (k_below.0, below_trans k m l k_below.1 below.1)) (λ same. below_irrefl m (subst (λ x. IsBelow x m) same k_below.1)))) l.low l.high joined
+      not_above_higher links l m below.1 m.low m.high (ends_joined links fuel fewer.rest shorter m below.0 (λ k k_below.
+      fewer.keeps k (has k (k_below.0, below_trans k m l k_below.1 below.1)) (λ same. below_irrefl m (subst (λ x. IsBelow x m) same k_below.1))))) l.low l.high joined
 ]
 
+pub forest_joins_ends : (links : List Link) (l : Link) → Contains links l → Joins (ForestNotAbove links l) l.low l.high
+forest_joins_ends links l is_in = ends_joined links (length links) links (omega arith) l is_in (λ m below. below.0)
+
 pub forest_spans : (links : List Link) → Spans (IsForestLink links) links
-forest_spans links = joins_replace (Contains links) (IsForestLink links) (λ l is_in. ends_joined links (length links) links (omega arith) l is_in (λ m below. below.0))
+forest_spans links = joins_replace (Contains links) (IsForestLink links) (λ l is_in. joins_more (ForestNotAbove links l) (IsForestLink links) (λ m m_is. m_is.0) l.low l.high (forest_joins_ends links l is_in))
 
 -- a part of the forest that spans the list is the forest
 pub spanning_part_is_forest : (links : List Link) (P : LinkSet) → IsPartOf P (IsForestLink links) → Spans P links → SameLinks P (IsForestLink links)

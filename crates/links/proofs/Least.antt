@@ -62,10 +62,10 @@ sum_within (l ∷ links) =
 
 -- ---- lists without one of their links
 
-distinct_head : (l : Link) (ls : List Link) → AreDistinct (l ∷ ls) → (m : Link) → Contains ls m → l ≢ m
+pub distinct_head : (l : Link) (ls : List Link) → AreDistinct (l ∷ ls) → (m : Link) → Contains ls m → l ≢ m
 distinct_head l ls apart m (k, lt, at) = subst (λ x. l ≢ x) at (apart 0 (suc k) m (omega arith) (omega arith))
 
-distinct_tail : (l : Link) (ls : List Link) → AreDistinct (l ∷ ls) → AreDistinct ls
+pub distinct_tail : (l : Link) (ls : List Link) → AreDistinct (l ∷ ls) → AreDistinct ls
 distinct_tail l ls apart i j d lt in_range = apart (suc i) (suc j) d (omega arith) (omega arith)
 
 -- a list of distinct links without one of them
@@ -404,7 +404,7 @@ no_heavier links taken (l ∷ left) others taking holding =
     let heavier = step.heavier in
     omega (arith, ints, rest, whole, its, heavier)
 
-ascending_distinct : (links : List Link) → IsAscending links → AreDistinct links
+pub ascending_distinct : (links : List Link) → IsAscending links → AreDistinct links
 ascending_distinct links up i j d lt in_range same = below_irrefl (get_or links i d) (subst (λ x. IsBelow (get_or links i d) x) (sym same) (up i j d lt in_range))
 
 -- so what an ascending list weighs is the sum over the list

@@ -20,3 +20,6 @@ pub mod Kept
 pub mod LightFirst
 pub mod Together
 pub mod Sharing
+pub mod Covers
+pub mod Components
+pub mod Reweighted

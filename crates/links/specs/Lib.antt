@@ -10,3 +10,7 @@ pub mod Cut
 pub mod AnswerValue
 pub mod WideKey
 pub mod Parted
+pub mod Thresholds
+pub mod Covers
+pub mod Components
+pub mod Reweighted

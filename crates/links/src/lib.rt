@@ -10,15 +10,16 @@
 //! ```
 //!
 //! What it promises:
-//! - Each list has one forest, the links whose ends aren't joined by smaller ones, and no spanning forest weighs less
-//!   ([`laws`]).
+//! - Each list has one forest, the links whose ends aren't joined by smaller ones, and no spanning forest weighs less. Its
+//!   links up to a weight join what the list's do, and they and the components make the vertices. It can be found in parts,
+//!   and only the set of links and the order of their weights decide which links it has ([`laws`]).
 //! - `Forest`, `Labels` and `Offers` are made of a list exactly where it is such a one.
 //! - The shards of a [`Cut`], one after the other, are the list that was cut; a cut that isn't allowed has its cause.
 //!
-//! Where to start a change: what is meant stands in `specs/` (`Link`, `Walk`, `Forest`, `Least`, `Labels`, `Offers`, `Cut`).
-//! `labellings` and `offered` say which lists are labels and offers, `cuts` where a list is cut; `sorting` puts links in
-//! the order of their keys, `by_threads` does so by several threads, for shares of the list that `shares` says, and
-//! `of_distinct` orders links that are a forest's already.
+//! Where to start a change: what is meant stands in `specs/` (`Link`, `Walk`, `Forest`, `Least`, `Thresholds`, `Covers`,
+//! `Components`, `Reweighted`, `Labels`, `Offers`, `Cut`). `labellings` and `offered` say which lists are labels and
+//! offers, `cuts` where a list is cut; `sorting` puts links in the order of their keys, `by_threads` does so by several
+//! threads, for shares of the list that `shares` says, and `of_distinct` orders links that are a forest's already.
 #![tactic(auto)]
 
 mod answers;
