@@ -9,6 +9,7 @@ BASHDIR ?= $(PREFIX)/share/bash-completion/completions
 ZSHDIR ?= $(PREFIX)/share/zsh/site-functions
 FISHDIR ?= $(PREFIX)/share/fish/vendor_completions.d
 MINUTES ?= 5
+RT ?= rt
 PROGRAM := crates/boruvka/out/boruvka
 BENCH := crates/bench/out/bench
 LIBRARY := crates/boruvka_c/out/libboruvka
@@ -28,12 +29,13 @@ BASH_COMPLETIONS = $(call quoted,$(DESTDIR)$(BASHDIR))
 ZSH_COMPLETIONS = $(call quoted,$(DESTDIR)$(ZSHDIR))
 FISH_COMPLETIONS = $(call quoted,$(DESTDIR)$(FISHDIR))
 
-.PHONY: help run lib wasm page test web-test wrong soak built install uninstall dist bench clean
+.PHONY: help try run lib wasm page test web-test wrong soak built install uninstall dist bench clean
 
 # Each of them goes side by side by itself, as far as the machine holds.
 .NOTPARALLEL:
 
 help:
+	@echo 'make try        runs the program on examples/small.gr before any proof, with checks of memory, in about two minutes'
 	@echo 'make run        proves and builds the program, and runs it on examples/small.gr'
 	@echo 'make lib        proves and builds libboruvka.a, libboruvka.so and libboruvka_within.a, beside it; needs a C compiler and its ar'
 	@echo 'make wasm       proves and builds the WebAssembly module boruvka.wasm, beside libboruvka_within.a'
@@ -48,6 +50,12 @@ help:
 	@echo 'make dist       proves, builds and packs version $(VERSION) into dist/: a .tar.gz, a wheel for Python, and a .deb where dpkg-deb is'
 	@echo 'make bench      times it beside a C++ program; needs Python 3, a C++17 compiler and GNU time'
 	@echo 'make clean      removes what was built and what checks kept (out/ of each crate), and dist/: the next run proves all anew'
+
+# (`rt try` keeps no file, and gives the program no other than those it is told of)
+try:
+	@python3 tools/toolchain.py
+	@echo 'Nothing is proved yet: this run only has checks of memory, of indices and of overflow. It takes about two minutes.' >&2
+	@cd crates/boruvka && $(RT) try --data small.gr=../../examples/small.gr -- --plain small.gr
 
 run: $(PROGRAM)
 	@$(PROGRAM) examples/small.gr
@@ -130,6 +138,7 @@ $(WASM): $(SOURCES)
 # With the crate's own library the toolchain's few lines over malloc and free.
 # (`rt` writes through no symbolic link, so the three names of the shared library are one file here)
 $(LIBRARY).a: $(SOURCES)
+	@python3 tools/toolchain.py
 	@rm -f $(LIBRARY).so $(LIBRARY).so.*
 	@python3 tools/prove.py boruvka_c
 	@cd $(@D) && ar x "$$(dirname "$$(rt doc)")/c/liblibc_c.a" heap.pic.o && cp libboruvka_c.a made.a && ar qsD made.a heap.pic.o

@@ -19,6 +19,7 @@ LAST = re.compile(r"(\d+) passed, (\d+) failed\n?")
 sys.dont_write_bytecode = True
 sys.path.insert(0, f"{ROOT}/tools")
 
+import toolchain
 from record import Gate
 
 
@@ -36,8 +37,12 @@ def shown(words):
 
 
 def main():
+    if not toolchain.is_there():
+        print(toolchain.MISSING, file=sys.stderr)
+        print("0 passed, 1 failed")
+        return 1
     record, begun = Gate(), time.monotonic()
-    status, told = shown(["rt", "ci"])
+    status, told = shown([*toolchain.RT, "ci"])
     used = resource.getrusage(resource.RUSAGE_CHILDREN)
     minutes = (time.monotonic() - begun) / 60
     print(f"rt ci took {(used.ru_utime + used.ru_stime) / 60:.0f} processor minutes, {minutes:.0f} minutes", flush=True)

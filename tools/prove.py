@@ -23,7 +23,6 @@ import contextlib
 import fcntl
 import os
 import re
-import shlex
 import shutil
 import signal
 import subprocess
@@ -32,9 +31,10 @@ import time
 
 sys.dont_write_bytecode = True
 
+import toolchain
 from crates import ROOT, below, crate_lines
+from toolchain import RT
 
-RT = shlex.split(os.environ.get("RT", "rt"))
 EACH = 2_500_000_000  # bytes of free memory for each check
 PROCESS = 1_250_000_000  # and for each of its processes
 LARGE = 300  # lines of code and of proofs from which on more than one process serves
@@ -325,8 +325,8 @@ def main(words):
     if is_dry:
         show_order(plan)
         return 0
-    if not shutil.which(RT[0]):
-        print(f"To prove and build {top}, the Rattle toolchain's command `{RT[0]}` has to be on the PATH: see the README.", file=sys.stderr)
+    if not toolchain.is_there():
+        print(toolchain.MISSING, file=sys.stderr)
         return 1
     signal.signal(signal.SIGTERM, lambda *_: sys.exit(143))
     print(f"proves {len(plan.names)} crates, then builds; {ELSEWHERE}", file=sys.stderr, flush=True)

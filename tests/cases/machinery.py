@@ -9,7 +9,7 @@ import stat
 import subprocess
 import sys
 
-from cases.running import ROOT, SECONDS, TESTS, Skipped, case
+from cases.running import ROOT, SECONDS, SMALL_FOREST, TESTS, Skipped, case
 
 
 def expect(found, wanted):
@@ -54,7 +54,7 @@ class Gated(Folder):
     """One with the gate alone, and a program that was built."""
 
     def __init__(self, room):
-        super().__init__(room, ["tests/gate.py", "tools/record.py", "tools/stamp.py", "tools/crates.py"])
+        super().__init__(room, ["tests/gate.py", "tools/record.py", "tools/stamp.py", "tools/crates.py", "tools/toolchain.py"])
         self.put_program("crates/boruvka/out/boruvka", "exit 1")
 
     def run(self, of_ci, of_program):
@@ -62,7 +62,7 @@ class Gated(Folder):
         shown = " ".join(f"'{it}'" for it in of_ci[1:])
         self.put_program("bin/rt", f"[ \"$*\" = ci ] || exit 9\nprintf '%s\\n' {shown}\nexit {of_ci[0]}")
         self.put("tests/program.py", f"print({chr(10).join(of_program[1:])!r})\nraise SystemExit({of_program[0]})\n")
-        env = {**os.environ, "PATH": f"{self.room}/bin:{os.environ['PATH']}"}
+        env = {**os.environ, "PATH": f"{self.room}/bin:{os.environ['PATH']}", "RT": "rt"}
         words = [sys.executable, f"{self.room}/tests/gate.py"]
         ended = subprocess.run(words, env=env, stdin=subprocess.DEVNULL, capture_output=True, text=True, timeout=SECONDS, check=False)
         return ended.returncode, ended.stdout.splitlines()
@@ -110,6 +110,60 @@ def the_gate_keeps_what_a_commit_passed(room):
     expect(os.path.exists(f"{room}/{record}"), False)
 
 
+# ---- what needs the toolchain, and what runs before any proof
+
+
+class Made(Folder):
+    """One with the Makefile and its tools, and libraries that were built."""
+
+    def __init__(self, room):
+        tools = [f"tools/{it}" for it in os.listdir(f"{ROOT}/tools") if it.endswith(".py")]
+        super().__init__(room, ["Makefile", "crates.txt", "tests/gate.py", "crates/program_words/src/version.rt", *tools])
+        self.put("crates/boruvka/src/main.rt", "")
+        for name in ("libboruvka.a", "libboruvka.so"):
+            self.put(f"crates/boruvka_c/out/{name}", "")
+            os.utime(f"{room}/crates/boruvka_c/out/{name}", (0, 0))
+
+    def make(self, target, rt):
+        """Status, standard output and standard error, with this command for `rt`."""
+        env = {it: word for it, word in os.environ.items() if it not in ("MAKEFLAGS", "MAKELEVEL", "MFLAGS")}
+        ended = subprocess.run(["make", "-C", self.room, "--no-print-directory", target], env={**env, "RT": rt}, capture_output=True, text=True, timeout=SECONDS, check=False)
+        return ended.returncode, ended.stdout, ended.stderr
+
+
+@case
+def what_needs_the_toolchain_says_so(room):
+    it = Made(room)
+    said = "To prove and build, the Rattle toolchain's command `no-such-command` has to be on the PATH: see the README."
+    for target in ("try", "run", "lib", "wasm", "test"):
+        status, output, errors = it.make(target, "no-such-command")
+        told = [line for line in errors.splitlines() if not line.startswith("make: ")]
+        expect((target, status != 0, told, output), (target, True, [said], "0 passed, 1 failed\n" if target == "test" else ""))
+    # nothing that was built is lost by it
+    expect(sorted(os.listdir(f"{room}/crates/boruvka_c/out")), ["libboruvka.a", "libboruvka.so"])
+
+
+@case
+def a_try_proves_nothing_and_says_so(room):
+    it = Made(room)
+    it.put_program("bin/rt", 'echo "$(basename "$PWD"): $*"')
+    status, output, errors = it.make("try", f"{room}/bin/rt")
+    expect((status, output), (0, "boruvka: try --data small.gr=../../examples/small.gr -- --plain small.gr\n"))
+    expect(errors, "Nothing is proved yet: this run only has checks of memory, of indices and of overflow. It takes about two minutes.\n")
+
+
+@case
+def a_try_has_the_forest_of_the_example(_room):
+    if not shutil.which("rt"):
+        raise Skipped("there is no rt")
+    env = {it: word for it, word in os.environ.items() if it not in ("MAKEFLAGS", "MAKELEVEL", "MFLAGS")}
+    words = ["make", "-s", "-C", ROOT, "try"]
+    ended = subprocess.run(words, env=env, stdin=subprocess.DEVNULL, capture_output=True, timeout=20 * SECONDS, check=False)
+    lines = ended.stdout.splitlines(keepends=True)
+    shown = (ended.returncode, b"".join(lines[: SMALL_FOREST.count(b"\n")]), b" proved=no\n" in (lines or [b""])[-1])
+    expect(shown, (0, SMALL_FOREST, True))
+
+
 # ---- what is proved before what
 
 # It notes each call in CALLS: its words and its crate. A crate is proved where what stands below it was built beside it, and
@@ -150,7 +204,7 @@ class Chain(Folder):
     """One with a program and a static library over three libraries, and one more."""
 
     def __init__(self, room):
-        super().__init__(room, ["tools/prove.py", "tools/crates.py"])
+        super().__init__(room, ["tools/prove.py", "tools/crates.py", "tools/toolchain.py"])
         self.put("rt.py", RT)
         self.put("crates.txt", CRATES)
         for crate in ("low", "left", "right", "archive", "other"):
