@@ -37,7 +37,7 @@ FISH_COMPLETIONS = $(call quoted,$(DESTDIR)$(FISHDIR))
 help:
 	@echo 'make try        runs the program on examples/small.gr before any proof, with checks of memory, in about two minutes'
 	@echo 'make run        proves and builds the program, and runs it on examples/small.gr'
-	@echo 'make lib        proves and builds libboruvka.a, libboruvka.so and libboruvka_within.a, beside it; needs a C compiler and its ar'
+	@echo 'make lib        proves and builds libboruvka.a, libboruvka.so and libboruvka_within.a, beside it; needs a C compiler and binutils'
 	@echo 'make wasm       proves and builds the WebAssembly module boruvka.wasm, beside libboruvka_within.a'
 	@echo 'make page       packs the page of web/ with the module into dist/boruvka.html, which a browser opens'
 	@echo 'make test       the gate: all proofs, the wrong bodies of must-fail/, the tests, the program whole'
@@ -135,20 +135,23 @@ $(WASM): $(SOURCES)
 	@python3 tools/wasm.py
 	@touch $(WASM)
 
-# With the crate's own library the toolchain's few lines over malloc and free.
+# With the crate's own library the toolchain's few lines over malloc and free, as one object that shows the calls alone: another
+# library of that toolchain has the same lines.
 # (`rt` writes through no symbolic link, so the three names of the shared library are one file here)
 $(LIBRARY).a: $(SOURCES)
 	@python3 tools/toolchain.py
 	@rm -f $(LIBRARY).so $(LIBRARY).so.*
 	@python3 tools/prove.py boruvka_c
-	@cd $(@D) && ar x "$$(dirname "$$(rt doc)")/c/liblibc_c.a" heap.pic.o && cp libboruvka_c.a made.a && ar qsD made.a heap.pic.o
-	@cd $(@D) && mv made.a $(@F) && rm -f heap.pic.o
+	@cd $(@D) && ar x "$$(dirname "$$($(RT) doc)")/c/liblibc_c.a" heap.pic.o
+	@cd $(@D) && $(CC) -r -nostdlib -o boruvka.o -Wl,--whole-archive libboruvka_c.a -Wl,--no-whole-archive heap.pic.o
+	@cd $(@D) && objcopy --wildcard --keep-global-symbol='boruvka_*' --strip-unneeded boruvka.o && ar qcsD made.a boruvka.o
+	@cd $(@D) && mv made.a $(@F) && rm -f heap.pic.o boruvka.o
 
 # The loader looks for the name with the first number alone, the linker for the name without one.
 $(LIBRARY).so: $(LIBRARY).a
 	@echo '{ global: boruvka_*; local: *; };' > $(@D)/names
 	@rm -f $@ $@.*
-	@$(CC) -shared -o $(@D)/$(SHARED) -Wl,--whole-archive $< -Wl,--no-whole-archive -Wl,--version-script=$(@D)/names -Wl,-soname,$(@F).$(MAJOR) -Wl,-z,defs
+	@$(CC) -shared -o $(@D)/$(SHARED) -Wl,--whole-archive $< -Wl,--no-whole-archive -Wl,--version-script=$(@D)/names -Wl,-soname,$(@F).$(MAJOR) -Wl,-z,defs,-z,relro,-z,now
 	@ln $(@D)/$(SHARED) $@.$(MAJOR)
 	@ln $(@D)/$(SHARED) $@
 	@rm -f $(@D)/names
