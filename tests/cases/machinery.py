@@ -159,9 +159,8 @@ def a_try_has_the_forest_of_the_example(_room):
     env = {it: word for it, word in os.environ.items() if it not in ("MAKEFLAGS", "MAKELEVEL", "MFLAGS")}
     words = ["make", "-s", "-C", ROOT, "try"]
     ended = subprocess.run(words, env=env, stdin=subprocess.DEVNULL, capture_output=True, timeout=20 * SECONDS, check=False)
-    lines = ended.stdout.splitlines(keepends=True)
-    shown = (ended.returncode, b"".join(lines[: SMALL_FOREST.count(b"\n")]), b" proved=no\n" in (lines or [b""])[-1])
-    expect(shown, (0, SMALL_FOREST, True))
+    is_told = b" proved=no\n" in ended.stdout + ended.stderr
+    expect((ended.returncode, ended.stdout[: len(SMALL_FOREST)], is_told), (0, SMALL_FOREST, True))
 
 
 # ---- what is proved before what
