@@ -187,7 +187,7 @@ $(LIBRARY).a: $(SOURCES)
 $(LIBRARY).so: $(LIBRARY).a
 	@echo '{ global: boruvka_*; local: *; };' > $(@D)/names
 	@rm -f $@ $@.*
-	@$(CC) -shared -o $(@D)/$(SHARED) -Wl,--whole-archive $< -Wl,--no-whole-archive -Wl,--version-script=$(@D)/names -Wl,-soname,$(@F).$(MAJOR) -Wl,-z,defs,-z,relro,-z,now
+	@$(CC) -shared -o $(@D)/$(SHARED) -Wl,--whole-archive $< -Wl,--no-whole-archive -Wl,--version-script=$(@D)/names -Wl,-soname,$(@F).$(MAJOR) -Wl,-z,defs,-z,relro,-z,now,-s
 	@ln $(@D)/$(SHARED) $@.$(MAJOR)
 	@ln $(@D)/$(SHARED) $@
 	@rm -f $(@D)/names

@@ -161,9 +161,9 @@ def refusal():
     return None
 
 
-def strip(*files):
-    """Takes away the symbols that only a debugger reads."""
-    ended = subprocess.run(["strip", "--strip-unneeded", *files], capture_output=True, text=True, check=False)
+def strip(program):
+    """Takes away the symbols that only a debugger reads; the shared library is made without them."""
+    ended = subprocess.run(["strip", "--strip-unneeded", program], capture_output=True, text=True, check=False)
     if ended.returncode:
         raise NotPacked(ended.stderr.strip())
 
@@ -187,7 +187,7 @@ class Release:
         ended = subprocess.run(["make", "-s", "-C", ROOT, *words, "install"], env=env, capture_output=True, text=True, check=False)
         if ended.returncode or ended.stderr:
             raise NotPacked(ended.stderr.strip())
-        strip(f"{root}{prefix}/bin/boruvka", f"{root}{folders.get('LIBDIR', f'{prefix}/lib')}/libboruvka.so.{self.version}")
+        strip(f"{root}{prefix}/bin/boruvka")
 
     def proved(self):
         """What was proved, for PROVED.txt."""
@@ -283,11 +283,9 @@ def depends(files):
     return ", ".join(f"libc6 (>= {least})" if it == "libc6" else it for it in sorted(packages))
 
 
-def wheel(release, room):
+def wheel(release, _room):
     """The package for Python, as PEP 427 lays it out, with the shared library in it."""
-    copy = shutil.copy(f"{release.libraries}/libboruvka.so.{release.version}", room)
-    strip(copy)
-    library = read(copy)
+    library = read(f"{release.libraries}/libboruvka.so.{release.version}")
     if least_glibc(library) > MOST_GLIBC or not libraries_of(library) <= OF_MANYLINUX:
         raise NotPacked(f"the shared library needs more than {TAG} says: {least_glibc(library)}, {sorted(libraries_of(library))}")
     package, about = "boruvka", f"boruvka-{release.version}.dist-info"
