@@ -40,7 +40,12 @@ PROCESS = 1_250_000_000  # and for each of its processes
 LARGE = 300  # lines of code and of proofs from which on more than one process serves
 LATER = ["nice", "-n", "5"]  # before a check that others stand on less, so that it fills what they leave
 SECONDS = 60  # from one line on how far it is to the next, where it isn't written over
+# How long it took elsewhere, from nothing.
 ELSEWHERE = "10 to 30 minutes on four processors, once"
+OF_LIBRARIES = {
+    "boruvka_c": "5 to 15 minutes on four processors, once; 3 of them after `make run`",
+    "boruvka_within": "2 minutes after the other libraries, once",
+}
 PARTS = ("src", "specs", "proofs")
 
 
@@ -329,7 +334,7 @@ def main(words):
         print(toolchain.MISSING, file=sys.stderr)
         return 1
     signal.signal(signal.SIGTERM, lambda *_: sys.exit(143))
-    print(f"proves {len(plan.names)} crates, then builds; {ELSEWHERE}", file=sys.stderr, flush=True)
+    print(f"proves {len(plan.names)} crates, then builds; {OF_LIBRARIES.get(top, ELSEWHERE)}", file=sys.stderr, flush=True)
     progress = Progress(len(plan.names))
     try:
         prove_libraries(plan, progress)

@@ -260,7 +260,7 @@ if sys.argv[1] == "run":
         it.write(" ".join(sys.argv[2:]) + "\n" + sys.stdin.read())
 open(f"out/rlib/{crate}", "w").close()
 """
-CRATES = "# a comment\nlow:\nleft: low\nright: low\nprogram: left right\narchive staticlib: left\nother: low\n"
+CRATES = "# a comment\nlow:\nleft: low\nright: low\nprogram: left right\narchive staticlib: left\nboruvka_c staticlib: left\nother: low\n"
 
 
 class Chain(Folder):
@@ -270,7 +270,7 @@ class Chain(Folder):
         super().__init__(room, ["tools/prove.py", "tools/crates.py", "tools/toolchain.py"])
         self.put("rt.py", RT)
         self.put("crates.txt", CRATES)
-        for crate in ("low", "left", "right", "archive", "other"):
+        for crate in ("low", "left", "right", "archive", "boruvka_c", "other"):
             self.put(f"crates/{crate}/src/lib.rt", f"// {crate}\n")
         self.put("crates/program/src/main.rt", "// program\n")
         self.put("crates/program/args", "--one\ntwo words\n")
@@ -305,6 +305,9 @@ def a_program_and_a_static_library_come_after_what_they_stand_on(room):
     expect(said[:2], ["proves 4 crates, then builds; 10 to 30 minutes on four processors, once", "0 of 4 crates proved, 0 min; at work on low"])
     status, _, calls = it.run(["archive"])
     expect((status, calls[-1:], "archive" in it.built()), (0, ["lib archive"], True))
+    # the library for C tells a time of its own
+    _, told, _ = it.run(["boruvka_c"])
+    expect(told.splitlines()[0], "proves 3 crates, then builds; 5 to 15 minutes on four processors, once; 3 of them after `make run`")
 
 
 @case
