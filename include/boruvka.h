@@ -10,7 +10,9 @@
  *   divides its size.
  * - No call is made from a signal handler, or from the forked child of a process with threads.
  * - A call has 128 KiB of stack.
- * Threads may call at once, each over memory of its own: nothing is kept between calls. */
+ * Threads may call at once, each over memory of its own: nothing is kept between calls.
+ *
+ * pkg-config names the libraries boruvka and boruvka_within, CMake boruvka::boruvka, boruvka::static and boruvka::within. */
 #ifndef BORUVKA_H
 #define BORUVKA_H
 
