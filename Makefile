@@ -5,10 +5,13 @@ BINDIR ?= $(PREFIX)/bin
 LIBDIR ?= $(PREFIX)/lib
 INCLUDEDIR ?= $(PREFIX)/include
 MANDIR ?= $(PREFIX)/share/man
+DOCDIR ?= $(PREFIX)/share/doc/boruvka
+PAGEDIR ?= $(PREFIX)/share/boruvka
 BASHDIR ?= $(PREFIX)/share/bash-completion/completions
 ZSHDIR ?= $(PREFIX)/share/zsh/site-functions
 FISHDIR ?= $(PREFIX)/share/fish/vendor_completions.d
 MINUTES ?= 5
+RT ?= rt
 PROGRAM := crates/boruvka/out/boruvka
 BENCH := crates/bench/out/bench
 LIBRARY := crates/boruvka_c/out/libboruvka
@@ -18,36 +21,52 @@ SOURCES := $(shell find crates -path '*/out' -prune -o -type f \( -name '*.rt' -
 VERSION := $(shell sed -n 's/^pub const RELEASE: &str = "\(.*\)";$$/\1/p' crates/program_words/src/version.rt)
 MAJOR := $(firstword $(subst ., ,$(VERSION)))
 SHARED := libboruvka.so.$(VERSION)
+# What is installed below LIBDIR for those who look for the libraries.
+STAMPED := pkgconfig/boruvka.pc pkgconfig/boruvka_within.pc cmake/boruvka/boruvka-config.cmake cmake/boruvka/boruvka-config-version.cmake
+# What the README sends its reader to, as far as it isn't code.
+DOCUMENTS := LICENSE README.md SECURITY.md CHANGELOG.md CONTRIBUTING.md docs/roads.svg
+DOCUMENTS += $(patsubst %,docs/%.md,ARCHITECTURE DECISIONS GR_FORMAT HEADLINE PERFORMANCE PROMISES PROTOCOL RECIPES)
+DOCUMENTS += examples/small.gr examples/roads.gr $(addprefix examples/embed/,forest.c forest.cpp forest.py forest.rs within.c)
 # (a path may have a space, so it stands in single quotes for the shell)
 quoted = '$(subst ','\'',$(1))'
 BIN = $(call quoted,$(DESTDIR)$(BINDIR))
 LIB = $(call quoted,$(DESTDIR)$(LIBDIR))
 INCLUDE = $(call quoted,$(DESTDIR)$(INCLUDEDIR))
 MAN = $(call quoted,$(DESTDIR)$(MANDIR))/man1
+DOC = $(call quoted,$(DESTDIR)$(DOCDIR))
+PAGE = $(call quoted,$(DESTDIR)$(PAGEDIR))
 BASH_COMPLETIONS = $(call quoted,$(DESTDIR)$(BASHDIR))
 ZSH_COMPLETIONS = $(call quoted,$(DESTDIR)$(ZSHDIR))
 FISH_COMPLETIONS = $(call quoted,$(DESTDIR)$(FISHDIR))
 
-.PHONY: help run lib wasm page test web-test wrong soak built install uninstall dist bench clean
+.PHONY: help try run lib wasm page test web-test wrong soak built install install-program install-libraries install-page install-documents uninstall dist may-pack portable bench clean
 
 # Each of them goes side by side by itself, as far as the machine holds.
 .NOTPARALLEL:
 
 help:
+	@echo 'make try        runs the program on examples/small.gr before any proof, with checks of memory, in about two minutes'
 	@echo 'make run        proves and builds the program, and runs it on examples/small.gr'
-	@echo 'make lib        proves and builds libboruvka.a, libboruvka.so and libboruvka_within.a, beside it; needs a C compiler and its ar'
+	@echo 'make lib        proves and builds libboruvka.a, libboruvka.so and libboruvka_within.a, beside it; needs a C compiler and binutils'
 	@echo 'make wasm       proves and builds the WebAssembly module boruvka.wasm, beside libboruvka_within.a'
 	@echo 'make page       packs the page of web/ with the module into dist/boruvka.html, which a browser opens'
 	@echo 'make test       the gate: all proofs, the wrong bodies of must-fail/, the tests, the program whole'
 	@echo 'make web-test   tries the page; needs Chromium, its driver, Node and the module'
 	@echo 'make wrong      tries the wrong bodies of wrong-bodies/, many at a time; SINCE=origin/main those of crates changed since'
 	@echo 'make soak       tries the program on drawn cases, MINUTES=$(MINUTES) long; needs Python 3 and a C compiler'
-	@echo 'make install    copies the built program, libraries, header, manual page and completions below PREFIX=$(PREFIX);'
-	@echo '                BINDIR, LIBDIR, INCLUDEDIR and MANDIR name other folders, DESTDIR a root that stands before all'
+	@echo 'make install    copies what is built, with header, manual page, completions, licence and documents, below PREFIX=$(PREFIX);'
+	@echo '                BINDIR, LIBDIR, INCLUDEDIR, MANDIR and DOCDIR name other folders, DESTDIR a root that stands before all'
 	@echo 'make uninstall  takes them away; it wants the same words'
-	@echo 'make dist       proves, builds and packs version $(VERSION) into dist/: a .tar.gz, a wheel for Python, and a .deb where dpkg-deb is'
+	@echo 'make dist       proves, builds and packs version $(VERSION) into dist/: a .tar.gz, a wheel for Python, and a .deb where dpkg-deb is;'
+	@echo '                refused before `make test` has passed on the commit, unless UNPROVED=1 stands behind it'
 	@echo 'make bench      times it beside a C++ program; needs Python 3, a C++17 compiler and GNU time'
 	@echo 'make clean      removes what was built and what checks kept (out/ of each crate), and dist/: the next run proves all anew'
+
+# (`rt try` keeps no file, and gives the program no other than those it is told of)
+try:
+	@python3 tools/toolchain.py
+	@echo 'Nothing is proved yet: this run only has checks of memory, of indices and of overflow. It takes about two minutes.' >&2
+	@cd crates/boruvka && $(RT) try --data small.gr=../../examples/small.gr -- --plain small.gr
 
 run: $(PROGRAM)
 	@$(PROGRAM) examples/small.gr
@@ -71,37 +90,66 @@ wrong:
 soak: $(PROGRAM)
 	@python3 tests/soak.py --minutes $(MINUTES) $(PROGRAM)
 
-# `install` proves and builds nothing: it often runs as another user.
-built:
-	@missing=; \
-	test -x $(call quoted,$(PROGRAM)) || { missing=1; echo 'The program is not built yet: `make run` proves and builds it.' >&2; }; \
-	test -f $(call quoted,$(LIBRARY).a) -a -f $(call quoted,$(dir $(LIBRARY))$(SHARED)) -a -f $(call quoted,$(WITHIN)) || \
-	{ missing=1; echo 'The libraries are not built yet: `make lib` proves and builds them.' >&2; }; \
-	test -z "$$missing"
+# `install` proves and builds nothing: it often runs as another user. It copies what was built, and says what wasn't.
+PARTS := $(if $(wildcard $(PROGRAM)),install-program)
+PARTS += $(if $(and $(wildcard $(LIBRARY).a),$(wildcard $(dir $(LIBRARY))$(SHARED)),$(wildcard $(WITHIN))),install-libraries)
+PARTS += $(if $(wildcard $(WASM)),install-page)
 
-install: built
-	install -d $(BIN) $(LIB)/pkgconfig $(INCLUDE) $(MAN) $(BASH_COMPLETIONS) $(ZSH_COMPLETIONS) $(FISH_COMPLETIONS)
+install: built $(PARTS) install-documents
+
+built:
+	@$(if $(filter install-program,$(PARTS)),,echo 'The program is not built yet: `make run` proves and builds it.' >&2)
+	@$(if $(filter install-libraries,$(PARTS)),,echo 'The libraries are not built yet: `make lib` proves and builds them.' >&2)
+	@$(if $(filter install-page,$(PARTS)),,echo 'The page has no module yet: `make wasm` proves and builds it.' >&2)
+	@$(if $(strip $(PARTS)),,echo 'So nothing was installed.' >&2; exit 1)
+
+install-program:
+	install -d $(BIN) $(MAN) $(BASH_COMPLETIONS) $(ZSH_COMPLETIONS) $(FISH_COMPLETIONS)
 	install -m 755 $(call quoted,$(PROGRAM)) $(BIN)/boruvka
+	python3 tools/stamp.py page > $(MAN)/boruvka.1
+	chmod 644 $(MAN)/boruvka.1
+	install -m 644 completions/boruvka.bash $(BASH_COMPLETIONS)/boruvka
+	install -m 644 completions/_boruvka $(ZSH_COMPLETIONS)/_boruvka
+	install -m 644 completions/boruvka.fish $(FISH_COMPLETIONS)/boruvka.fish
+
+install-libraries:
+	install -d $(LIB)/pkgconfig $(LIB)/cmake/boruvka $(INCLUDE)
 	install -m 644 $(call quoted,$(LIBRARY).a) $(LIB)/libboruvka.a
 	install -m 644 $(call quoted,$(WITHIN)) $(LIB)/libboruvka_within.a
 	install -m 755 $(call quoted,$(dir $(LIBRARY))$(SHARED)) $(LIB)/$(SHARED)
 	ln -sf $(SHARED) $(LIB)/libboruvka.so.$(MAJOR)
 	ln -sf libboruvka.so.$(MAJOR) $(LIB)/libboruvka.so
-	python3 tools/stamp.py pc $(call quoted,$(PREFIX)) $(call quoted,$(LIBDIR)) $(call quoted,$(INCLUDEDIR)) > $(LIB)/pkgconfig/boruvka.pc
 	install -m 644 include/boruvka.h include/boruvka.hpp $(INCLUDE)
-	python3 tools/stamp.py page > $(MAN)/boruvka.1
-	chmod 644 $(LIB)/pkgconfig/boruvka.pc $(MAN)/boruvka.1
-	install -m 644 completions/boruvka.bash $(BASH_COMPLETIONS)/boruvka
-	install -m 644 completions/_boruvka $(ZSH_COMPLETIONS)/_boruvka
-	install -m 644 completions/boruvka.fish $(FISH_COMPLETIONS)/boruvka.fish
+	for it in $(STAMPED); do \
+	python3 tools/stamp.py "$${it##*/}" $(call quoted,$(PREFIX)) $(call quoted,$(LIBDIR)) $(call quoted,$(INCLUDEDIR)) > $(LIB)/"$$it" && \
+	chmod 644 $(LIB)/"$$it" || exit 1; done
+
+install-page:
+	install -d $(PAGE)
+	install -m 644 $(call quoted,$(WASM)) $(PAGE)/boruvka.wasm
+	python3 tools/page.py $(call quoted,$(WASM)) $(PAGE)/boruvka.html
+	chmod 644 $(PAGE)/boruvka.html
+
+install-documents:
+	python3 tools/documents.py $(call quoted,$(DESTDIR)) $(call quoted,$(DOCDIR)) $(call quoted,$(INCLUDEDIR)) $(DOCUMENTS)
 
 uninstall:
 	rm -f $(BIN)/boruvka $(INCLUDE)/boruvka.h $(INCLUDE)/boruvka.hpp $(MAN)/boruvka.1
-	rm -f $(LIB)/libboruvka.a $(LIB)/libboruvka_within.a $(LIB)/libboruvka.so $(LIB)/libboruvka.so.$(MAJOR) $(LIB)/$(SHARED) $(LIB)/pkgconfig/boruvka.pc
+	rm -f $(LIB)/libboruvka.a $(LIB)/libboruvka_within.a $(LIB)/libboruvka.so $(LIB)/libboruvka.so.$(MAJOR) $(LIB)/$(SHARED) $(addprefix $(LIB)/,$(STAMPED))
 	rm -f $(BASH_COMPLETIONS)/boruvka $(ZSH_COMPLETIONS)/_boruvka $(FISH_COMPLETIONS)/boruvka.fish
+	rm -f $(PAGE)/boruvka.wasm $(PAGE)/boruvka.html $(addprefix $(DOC)/,$(DOCUMENTS))
+	rmdir $(DOC)/examples/embed $(DOC)/examples $(DOC)/docs $(DOC) $(PAGE) $(LIB)/cmake/boruvka 2> /dev/null || true
 
-dist: $(PROGRAM) lib $(WASM)
+# (first what refuses in a second, then what proves; the program that `rt ci` leaves is for processors of the level x86-64-v2)
+dist: may-pack portable lib $(WASM)
 	@python3 tools/dist.py
+
+portable:
+	@python3 tools/prove.py boruvka
+	@touch $(PROGRAM)
+
+may-pack:
+	@python3 tools/dist.py --may
 
 bench: $(PROGRAM) $(BENCH)
 	python3 benches/run.py $(PROGRAM) $(BENCH)
@@ -127,19 +175,23 @@ $(WASM): $(SOURCES)
 	@python3 tools/wasm.py
 	@touch $(WASM)
 
-# With the crate's own library the toolchain's few lines over malloc and free.
+# With the crate's own library the toolchain's few lines over malloc and free, as one object that shows the calls alone: another
+# library of that toolchain has the same lines.
 # (`rt` writes through no symbolic link, so the three names of the shared library are one file here)
 $(LIBRARY).a: $(SOURCES)
+	@python3 tools/toolchain.py
 	@rm -f $(LIBRARY).so $(LIBRARY).so.*
 	@python3 tools/prove.py boruvka_c
-	@cd $(@D) && ar x "$$(dirname "$$(rt doc)")/c/liblibc_c.a" heap.pic.o && cp libboruvka_c.a made.a && ar qsD made.a heap.pic.o
-	@cd $(@D) && mv made.a $(@F) && rm -f heap.pic.o
+	@cd $(@D) && ar x "$$(dirname "$$($(RT) doc)")/c/liblibc_c.a" heap.pic.o
+	@cd $(@D) && $(CC) -r -nostdlib -o boruvka.o -Wl,--whole-archive libboruvka_c.a -Wl,--no-whole-archive heap.pic.o
+	@cd $(@D) && objcopy --wildcard --keep-global-symbol='boruvka_*' --strip-unneeded boruvka.o && ar qcsD made.a boruvka.o
+	@cd $(@D) && mv made.a $(@F) && rm -f heap.pic.o boruvka.o
 
 # The loader looks for the name with the first number alone, the linker for the name without one.
 $(LIBRARY).so: $(LIBRARY).a
 	@echo '{ global: boruvka_*; local: *; };' > $(@D)/names
 	@rm -f $@ $@.*
-	@$(CC) -shared -o $(@D)/$(SHARED) -Wl,--whole-archive $< -Wl,--no-whole-archive -Wl,--version-script=$(@D)/names -Wl,-soname,$(@F).$(MAJOR) -Wl,-z,defs
+	@$(CC) -shared -o $(@D)/$(SHARED) -Wl,--whole-archive $< -Wl,--no-whole-archive -Wl,--version-script=$(@D)/names -Wl,-soname,$(@F).$(MAJOR) -Wl,-z,defs,-z,relro,-z,now,-s
 	@ln $(@D)/$(SHARED) $@.$(MAJOR)
 	@ln $(@D)/$(SHARED) $@
 	@rm -f $(@D)/names

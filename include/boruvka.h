@@ -9,8 +9,10 @@
  * - malloc, realloc and free are of one allocator, and a block of theirs is aligned to each power of two up to 16 that
  *   divides its size.
  * - No call is made from a signal handler, or from the forked child of a process with threads.
- * - A call has 128 KiB of stack, and an x86-64 processor of the level v2.
- * Threads may call at once, each over memory of its own: nothing is kept between calls. */
+ * - A call has 128 KiB of stack.
+ * Threads may call at once, each over memory of its own: nothing is kept between calls.
+ *
+ * pkg-config names the libraries boruvka and boruvka_within, CMake boruvka::boruvka, boruvka::static and boruvka::within. */
 #ifndef BORUVKA_H
 #define BORUVKA_H
 
@@ -119,8 +121,9 @@ uint32_t boruvka_version(void);
  * no other parameter points into them. What stood there is lost. After the call they are the caller's again.
  *
  * Whole pages of 4096 bytes are used. If they are too few, the answer is BORUVKA_NO_MEMORY, and what the other parameters
- * point to is as it was, but for `fault`: so the same call may be made again with more. Each list that was tried had enough
- * in 26 bytes a link, 10 a vertex and 16384 more, each text in 4 times its length, 10 bytes a vertex and 16384 more. */
+ * point to is as it was, but for `fault`: so the same call may be made again with more. Enough are, for a list, 29 bytes a
+ * link, 12 a vertex and 16384 more; for a text, 6 times its length, 12 bytes a vertex and 16384 more. No clause says so: it
+ * is counted where it is tightest. */
 struct boruvka_memory {
     void *start;
     size_t size;

@@ -1,27 +1,35 @@
 /* SPDX-License-Identifier: MIT OR Apache-2.0 */
 /* boruvka.hpp: calls of boruvka.h over spans, for C++20.
  *
- * A refusal is thrown as boruvka::refused; with BORUVKA_EXPECTED defined, and C++23, it is answered in a std::expected.
+ * A refusal is thrown as boruvka::refused; with BORUVKA_EXPECTED defined, and C++23, it is answered in a std::expected. Files
+ * of both kinds can be linked into one program.
  * What boruvka.h asks of pointers and lengths is seen to here; that no other thread touches a span meanwhile isn't. */
 #ifndef BORUVKA_HPP
 #define BORUVKA_HPP
 
+#if __cplusplus > 201703L && __has_include(<span>)
+#include <span>
+#endif
+#if defined BORUVKA_EXPECTED && defined __cpp_lib_span && __has_include(<expected>)
+#include <expected>
+#endif
+
+#ifndef __cpp_lib_span
+#error "boruvka.hpp needs C++20 and its <span>: -std=c++20"
+#elif defined BORUVKA_EXPECTED && !defined __cpp_lib_expected
+#error "BORUVKA_EXPECTED needs std::expected: -std=c++23, and a library that has it"
+#else
+
 #include <algorithm>
 #include <cstdint>
-#include <span>
 #include <stdexcept>
 #include <string>
 #include <type_traits>
 #include <vector>
-#ifdef BORUVKA_EXPECTED
-#include <expected>
-#endif
 
 #include "boruvka.h"
 
 namespace boruvka {
-
-using link = boruvka_link;
 
 /* Why there is no answer: an enum boruvka_refusal, and its text. */
 struct refused : std::runtime_error {
@@ -35,24 +43,34 @@ struct refused : std::runtime_error {
     }
 };
 
-#ifdef BORUVKA_EXPECTED
-template <class T> using answer = std::expected<T, refused>;
-template <class T> answer<T> refuse(std::int64_t code) { return std::unexpected(refused(code)); }
-#else
-template <class T> using answer = T;
-template <class T> T refuse(std::int64_t code) { throw refused(code); }
-#endif
-
 /* An empty span may have a null pointer, which no call takes. */
 template <class T> T *first_of(std::span<T> all) {
     static std::remove_const_t<T> none{};
     return all.empty() ? &none : all.data();
 }
 
+/* The sum of the links' weights. */
+inline boruvka_sum total(std::span<const boruvka_link> links) {
+    boruvka_sum sum;
+    boruvka_total(first_of(links), links.size(), &sum);
+    return sum;
+}
+
+/* What answers in two ways has a namespace for each, so that a linker doesn't take one for the other. */
+#ifdef BORUVKA_EXPECTED
+inline namespace with_expected {
+template <class T> using answer = std::expected<T, refused>;
+template <class T> answer<T> refuse(std::int64_t code) { return std::unexpected(refused(code)); }
+#else
+inline namespace with_exceptions {
+template <class T> using answer = T;
+template <class T> T refuse(std::int64_t code) { throw refused(code); }
+#endif
+
 /* The minimum spanning forest of links between the vertices 1 to n, which stands first among them then. */
-inline answer<std::span<link>> forest(std::uint32_t n, std::span<link> links) {
+inline answer<std::span<boruvka_link>> forest(std::uint32_t n, std::span<boruvka_link> links) {
     const std::int64_t count = boruvka_forest(n, first_of(links), links.size());
-    if (count < 0) return refuse<std::span<link>>(count);
+    if (count < 0) return refuse<std::span<boruvka_link>>(count);
     return links.first(static_cast<std::size_t>(count));
 }
 
@@ -68,7 +86,7 @@ inline answer<std::vector<std::uint32_t>> places(std::uint32_t n, std::uint32_t 
 }
 
 /* The least vertex of each vertex's component under links that close no cycle, that of vertex v at v - 1. */
-inline answer<std::vector<std::uint32_t>> labels(std::uint32_t n, std::span<const link> links) {
+inline answer<std::vector<std::uint32_t>> labels(std::uint32_t n, std::span<const boruvka_link> links) {
     if (n > BORUVKA_MAX_VERTICES) return refuse<std::vector<std::uint32_t>>(BORUVKA_TOO_MANY_VERTICES);
     std::vector<std::uint32_t> found(n);
     const std::int64_t count = boruvka_labels(n, first_of(links), links.size(), first_of(std::span(found)));
@@ -76,13 +94,8 @@ inline answer<std::vector<std::uint32_t>> labels(std::uint32_t n, std::span<cons
     return found;
 }
 
-/* The sum of the links' weights. */
-inline boruvka_sum total(std::span<const link> links) {
-    boruvka_sum sum;
-    boruvka_total(first_of(links), links.size(), &sum);
-    return sum;
-}
-
+} // inline namespace
 } // namespace boruvka
 
+#endif
 #endif

@@ -1,9 +1,9 @@
 #!/usr/bin/env python3
-"""The gate: `rt ci`, then the built program whole (tests/program.py), and one last line for both.
+"""The gate: `rt ci`, then the built program whole (tests/program.py) and the page (tests/web.py), and one last line for all.
 
-It shows what `rt ci` prints but its last line, how long that took, and what tests/program.py prints. The last line is
-`N passed, M failed` over both, and no other such line stands after `rt ci`'s. The status is 0 only if nothing failed;
-then what was passed is kept for a release (tools/record.py).
+It shows what they print but their last lines, how long it took, and then each case that was skipped, with its reason.
+The last line is `N passed, M failed` over all, and no other such line stands after `rt ci`'s. The status is 0 only if
+nothing failed; then what was passed is kept for a release (tools/record.py).
 """
 import os
 import re
@@ -16,14 +16,17 @@ HERE = os.path.dirname(os.path.realpath(__file__))
 ROOT = os.path.dirname(HERE)
 PROGRAM = "crates/boruvka/out/boruvka"
 LAST = re.compile(r"(\d+) passed, (\d+) failed\n?")
+SKIPPED = re.compile(r"(\w+: .*): skipped: (.*)\n?")
 sys.dont_write_bytecode = True
 sys.path.insert(0, f"{ROOT}/tools")
 
+import toolchain
 from record import Gate
 
 
-def shown(words):
-    """Runs a command, shows what it prints but its last line of results, and answers the status and those results."""
+def shown(words, skipped):
+    """Runs a command, shows what it prints but its last line of results, and answers the status and those results. Lines of
+    cases that were skipped are kept, too."""
     told = None
     with subprocess.Popen(words, cwd=ROOT, stdout=subprocess.PIPE, stderr=subprocess.STDOUT, errors="replace") as started:
         for line in started.stdout:
@@ -32,33 +35,51 @@ def shown(words):
                 told = int(found[1]), int(found[2])
             else:
                 print(line, end="", flush=True)
+                skipped += SKIPPED.findall(line)
     return started.returncode, told
 
 
-def main():
-    record, begun = Gate(), time.monotonic()
-    status, told = shown(["rt", "ci"])
+def minutes_since(begun):
     used = resource.getrusage(resource.RUSAGE_CHILDREN)
-    minutes = (time.monotonic() - begun) / 60
-    print(f"rt ci took {(used.ru_utime + used.ru_stime) / 60:.0f} processor minutes, {minutes:.0f} minutes", flush=True)
+    return f"{(used.ru_utime + used.ru_stime) / 60:.0f} processor minutes, {(time.monotonic() - begun) / 60:.0f} minutes"
+
+
+def results(name, status, told):
+    """How many passed and failed. What ended ill, and told of no failure, has one; so has what told nothing."""
     passed, failed = told or (0, 0)
-    # a run that ended badly and told of no failure has one
-    if status and not failed or not told:
-        failed += 1
+    if told is None:
+        print(f"{name} ended without its results")
+    return passed, failed + (told is None or status != 0 and not failed)
+
+
+def by_reason(skipped):
+    """A line for each reason why cases were skipped."""
+    reasons = {why: [name for name, other in skipped if other == why] for _, why in skipped}
+    return [f"skipped, as {why}: {', '.join(names)}" for why, names in reasons.items()] or ["no case was skipped"]
+
+
+def main():
+    if not toolchain.is_there():
+        print(toolchain.MISSING, file=sys.stderr)
+        print("0 passed, 1 failed")
+        return 1
+    record, begun, skipped = Gate(), time.monotonic(), []
+    status, told = shown([*toolchain.RT, "ci"], skipped)
+    found = {"rt ci": results("rt ci", status, told)}
+    print(f"rt ci took {minutes_since(begun)}", flush=True)
     if not status and not os.access(f"{ROOT}/{PROGRAM}", os.X_OK):
         subprocess.run(["make", PROGRAM], cwd=ROOT, check=False)
-    status_of_program, told = shown([sys.executable, f"{HERE}/program.py"])
-    if told is None or status_of_program and not told[1]:
-        print("tests/program.py ended without its results")
-        told = (told or (0, 0))[0], 1
-    used = resource.getrusage(resource.RUSAGE_CHILDREN)
-    minutes = (time.monotonic() - begun) / 60
-    print(f"the gate took {(used.ru_utime + used.ru_stime) / 60:.0f} processor minutes, {minutes:.0f} minutes", flush=True)
-    lines = [f"rt ci: {passed} passed, {failed} failed", f"tests/program.py: {told[0]} passed, {told[1]} failed"]
-    passed, failed = passed + told[0], failed + told[1]
+    for name in ("program.py", "web.py"):
+        found[f"tests/{name}"] = results(f"tests/{name}", *shown([sys.executable, f"{HERE}/{name}"], skipped))
+    print(f"the gate took {minutes_since(begun)}", flush=True)
+    left_out = by_reason(skipped)
+    print(*left_out, sep="\n")
+    counts = [f"{name}: {passed} passed, {failed} failed" for name, (passed, failed) in found.items()]
+    passed, failed = (sum(it) for it in zip(*found.values()))
+    last = f"{passed} passed, {failed} failed"
     if not failed:
-        record.keep([*lines, f"{passed} passed, {failed} failed"])
-    print(f"{passed} passed, {failed} failed", flush=True)
+        record.keep([*counts, *left_out, last])
+    print(last, flush=True)
     return 1 if failed else 0
 
 

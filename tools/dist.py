@@ -2,12 +2,16 @@
 """Packs what was built into a release: a .tar.gz, a wheel for Python, and a .deb if dpkg-deb is there.
 
 usage: tools/dist.py [--program FILE] [--libraries FOLDER] [INTO]
+       tools/dist.py --may
 
 It proves and builds nothing: `make dist` does that before it. FILE is the program, FOLDER has the libraries, and INTO
-gets the packages: dist/, if none is named. What goes into them is what `make install` copies, with documents, the
-licence, the examples, the page of web/ as `make page` packs it, its module, the sums of all files, and PROVED.txt: the
-commit, the kit, and the last lines of the gate if it has passed on this commit. The wheel has the package of
-python/boruvka and the shared library; no compiler made it.
+gets the packages: dist/, if none is named. What goes into them is what `make install` copies, without the symbols that
+only a debugger reads, with the sums of all files, and with PROVED.txt: the commit, the kit, and the last lines of the
+gate. The wheel has the package of python/boruvka and the shared library; no compiler made it.
+
+If the gate isn't known to have passed on this commit, or CHANGELOG.md begins with another version, as Next, nothing is
+packed. UNPROVED=1 in the environment packs all the same, and PROVED.txt tells it. `--may` only says whether it may
+be packed.
 
 The same files give the same bytes: names are sorted, owners are root, and each time is that of the commit, or
 SOURCE_DATE_EPOCH if that is set. Each package's sum goes to standard output.
@@ -29,27 +33,22 @@ import zipfile
 
 sys.dont_write_bytecode = True
 
-import page
 import record
 from crates import ROOT
-from stamp import git, seconds, text_of, version
+from documents import Places
+from stamp import VERSION, git, seconds, text_of, version
 
 PROGRAM = f"{ROOT}/crates/boruvka/out/boruvka"
 LIBRARIES = f"{ROOT}/crates/boruvka_c/out"
-MODULE = f"{ROOT}/crates/boruvka_within/out/boruvka.wasm"
-EXAMPLES = ["examples/small.gr", "examples/roads.gr", *(f"examples/embed/forest.{it}" for it in ("c", "cpp", "py", "rs")), "examples/embed/within.c"]
-# What the README and these send their reader to, as far as it isn't code.
-DOCUMENTS = ["README.md", "SECURITY.md", "CHANGELOG.md", "CONTRIBUTING.md", "docs/roads.svg"]
-DOCUMENTS += [f"docs/{it}.md" for it in ("ARCHITECTURE", "DECISIONS", "GR_FORMAT", "HEADLINE", "PERFORMANCE", "PROMISES", "PROTOCOL", "RECIPES")]
 # Where an install puts what, if the environment says so; for a package it doesn't count.
-FOLDERS = ("BINDIR", "LIBDIR", "INCLUDEDIR", "MANDIR", "BASHDIR", "ZSHDIR", "FISHDIR")
+FOLDERS = ("BINDIR", "LIBDIR", "INCLUDEDIR", "MANDIR", "DOCDIR", "PAGEDIR", "BASHDIR", "ZSHDIR", "FISHDIR")
 # The package of Debian that has a shared library.
 PACKAGES = {"libc.so.6": "libc6", "libm.so.6": "libc6", "libpthread.so.0": "libc6", "libdl.so.2": "libc6", "ld-linux-x86-64.so.2": "libc6", "libgcc_s.so.1": "libgcc-s1"}
 CONTROL = """\
 Package: boruvka
 Version: {version}
 Architecture: amd64
-Maintainer: the authors of Borůvka
+Maintainer: {maintainer}
 Installed-Size: {size}
 Depends: {depends}
 Section: math
@@ -59,6 +58,50 @@ Description: minimum spanning forests of weighted graphs
  minimum spanning forest. A shared and a static library compute the forest of
  links that lie in the memory of a program in C, Rust or Python. A page draws
  forests in a browser.
+"""
+# (a host that no one can have: no address is known)
+MAINTAINER = "the authors of Borůvka <no-address@boruvka.invalid>"
+COPYRIGHT = """\
+Format: https://www.debian.org/doc/packaging-manuals/copyright-format/1.0/
+Upstream-Name: boruvka
+
+Files: *
+Copyright: 2026 the authors of Borůvka
+License: MIT or Apache-2.0
+
+License: MIT
+ Permission is hereby granted, free of charge, to any person obtaining a copy
+ of this software and associated documentation files (the "Software"), to deal
+ in the Software without restriction, including without limitation the rights
+ to use, copy, modify, merge, publish, distribute, sublicense, and/or sell
+ copies of the Software, and to permit persons to whom the Software is
+ furnished to do so, subject to the following conditions:
+ .
+ The above copyright notice and this permission notice shall be included in all
+ copies or substantial portions of the Software.
+ .
+ THE SOFTWARE IS PROVIDED "AS IS", WITHOUT WARRANTY OF ANY KIND, EXPRESS OR
+ IMPLIED, INCLUDING BUT NOT LIMITED TO THE WARRANTIES OF MERCHANTABILITY,
+ FITNESS FOR A PARTICULAR PURPOSE AND NONINFRINGEMENT. IN NO EVENT SHALL THE
+ AUTHORS OR COPYRIGHT HOLDERS BE LIABLE FOR ANY CLAIM, DAMAGES OR OTHER
+ LIABILITY, WHETHER IN AN ACTION OF CONTRACT, TORT OR OTHERWISE, ARISING FROM,
+ OUT OF OR IN CONNECTION WITH THE SOFTWARE OR THE USE OR OTHER DEALINGS IN THE
+ SOFTWARE.
+
+License: Apache-2.0
+ On Debian systems /usr/share/common-licenses/Apache-2.0 has the text.
+"""
+CHANGELOG = """\
+boruvka ({version}) unstable; urgency=medium
+
+  * CHANGELOG.md has the changes of this version.
+
+ -- {maintainer}  {date}
+"""
+OVERRIDES = """\
+# One small package has program, libraries and headers: they are of one version, and are proved and tested together.
+boruvka: package-name-doesnt-match-sonames libboruvka{major}
+boruvka: link-to-shared-library-in-wrong-package *
 """
 # What any Linux of the wheel's tag has: the policy manylinux2014 (PEP 599).
 TAG = "py3-none-manylinux2014_x86_64"
@@ -71,10 +114,18 @@ Version: {version}
 Summary: Minimum spanning forests of numpy arrays, by a library whose calls are proved
 Author: the authors of Borůvka
 License: MIT OR Apache-2.0
+Classifier: License :: OSI Approved :: Apache Software License
+Classifier: License :: OSI Approved :: MIT License
 Classifier: Operating System :: POSIX :: Linux
 Classifier: Programming Language :: Python :: 3
+Classifier: Programming Language :: Python :: 3.9
+Classifier: Programming Language :: Python :: 3.10
+Classifier: Programming Language :: Python :: 3.11
+Classifier: Programming Language :: Python :: 3.12
+Classifier: Programming Language :: Python :: 3.13
 Classifier: Topic :: Scientific/Engineering :: Mathematics
 Classifier: Typing :: Typed
+License-File: LICENSE
 Requires-Python: >=3.9
 Requires-Dist: numpy>=1.21
 Provides-Extra: scipy
@@ -98,6 +149,25 @@ class NotPacked(Exception):
     pass
 
 
+def refusal():
+    """Why a release may not be packed, or None."""
+    if os.environ.get("UNPROVED") == "1":
+        return None
+    latest = re.search(r"^## (\S+)", text_of("CHANGELOG.md"), re.M)[1]
+    if latest != version():
+        return f"CHANGELOG.md begins with {latest}, and {VERSION} has {version()}: bring them together, or say UNPROVED=1"
+    if not record.kept():
+        return "the gate (make test) isn't known to have passed on this commit: run it, or say UNPROVED=1"
+    return None
+
+
+def strip(program):
+    """Takes away the symbols that only a debugger reads; the shared library is made without them."""
+    ended = subprocess.run(["strip", "--strip-unneeded", program], capture_output=True, text=True, check=False)
+    if ended.returncode:
+        raise NotPacked(ended.stderr.strip())
+
+
 class Release:
     """What goes into each package, and the time that all of it has."""
 
@@ -108,15 +178,16 @@ class Release:
             raise NotPacked("the time of the commit isn't known: set SOURCE_DATE_EPOCH")
 
     def install(self, root, prefix, **folders):
-        """What `make install` copies, below a root."""
+        """What `make install` copies, below a root; all of it has to be there."""
         env = {it: word for it, word in os.environ.items() if it not in ("MAKEFLAGS", "MAKELEVEL", "MFLAGS", *FOLDERS)}
         # (as make names its targets, which can't have a space: the path of a checkout may)
         program, library = os.path.relpath(self.program, ROOT), os.path.relpath(f"{self.libraries}/libboruvka", ROOT)
         words = [f"PROGRAM={program}", f"LIBRARY={library}", f"DESTDIR={root}", f"PREFIX={prefix}"]
         words += [f"{name}={folder}" for name, folder in folders.items()]
         ended = subprocess.run(["make", "-s", "-C", ROOT, *words, "install"], env=env, capture_output=True, text=True, check=False)
-        if ended.returncode:
+        if ended.returncode or ended.stderr:
             raise NotPacked(ended.stderr.strip())
+        strip(f"{root}{prefix}/bin/boruvka")
 
     def proved(self):
         """What was proved, for PROVED.txt."""
@@ -129,15 +200,7 @@ class Release:
             yield f"gate (make test): passed on this commit, with {gate['kit'] or 'a kit that is not known'}"
             yield from [f"    {it}" for it in gate["lines"]]
         else:
-            yield "gate (make test): not known to have passed on this commit"
-
-    def put_page(self, share):
-        """The page of web/, and the module that is in it."""
-        if not os.path.exists(MODULE):
-            raise NotPacked(f"there is no {os.path.relpath(MODULE, ROOT)}: `make wasm` builds it")
-        module = read(MODULE)
-        put(f"{share}/boruvka.wasm", module)
-        put(f"{share}/boruvka.html", page.packed(module))
+            yield "gate (make test): not known to have passed on this commit; packed all the same, by UNPROVED=1"
 
     def settle(self, root):
         """Gives all below a folder the modes and the time that they have in a package."""
@@ -182,10 +245,7 @@ def gzipped(content):
 def tarball(release, room):
     name = f"boruvka-{release.version}-x86_64-linux"
     root = f"{room}/{name}"
-    release.install(root, "")
-    for path in ["LICENSE", *DOCUMENTS, *EXAMPLES]:
-        put(f"{root}/{path}", text_of(path))
-    release.put_page(f"{root}/share/boruvka")
+    release.install(root, "", DOCDIR="")
     put(f"{root}/PROVED.txt", "\n".join(release.proved()) + "\n")
     put(f"{root}/SHA256SUMS", sums(root, "sha256"))
     release.settle(root)
@@ -234,7 +294,7 @@ def wheel(release, _room):
     # (without the last number Python would take it for a module)
     files[f"{package}/libboruvka.so.{release.version.split('.')[0]}"] = library
     texts = {
-        "METADATA": METADATA.format(version=release.version, readme=text_of("python/README.md")),
+        "METADATA": METADATA.format(version=release.version, readme=Places("", None, ["python/README.md"]).linked("python/README.md", text_of("python/README.md"))),
         "WHEEL": WHEEL,
         "entry_points.txt": ENTRY_POINTS,
         "LICENSE": text_of("LICENSE"),
@@ -265,23 +325,26 @@ def zipped(files, seconds):
 def debian(release, room):
     root = f"{room}/root"
     lib = "/usr/lib/x86_64-linux-gnu"
+    share = f"{root}/usr/share"
     release.install(root, "/usr", LIBDIR=lib, ZSHDIR="/usr/share/zsh/vendor-completions")
-    manual = f"{root}/usr/share/man/man1/boruvka.1"
+    manual = f"{share}/man/man1/boruvka.1"
     put(f"{manual}.gz", gzipped(read(manual)))
     os.remove(manual)
     # a shared library isn't run
-    os.chmod(f"{root}{lib}/libboruvka.so.{release.version}", 0o644)
-    release.put_page(f"{root}/usr/share/boruvka")
-    share = f"{root}/usr/share/doc/boruvka"
-    put(f"{share}/copyright", text_of("LICENSE"))
-    put(f"{share}/PROVED.txt", "\n".join(release.proved()) + "\n")
-    for path in [*DOCUMENTS, *EXAMPLES]:
-        put(f"{share}/{path}", text_of(path))
+    library = f"{root}{lib}/libboruvka.so.{release.version}"
+    os.chmod(library, 0o644)
+    date = time.strftime("%a, %d %b %Y %H:%M:%S +0000", time.gmtime(release.seconds))
+    values = {"version": release.version, "major": release.version.split(".")[0], "date": date, "maintainer": MAINTAINER}
+    put(f"{share}/doc/boruvka/copyright", COPYRIGHT)
+    put(f"{share}/doc/boruvka/changelog.gz", gzipped(CHANGELOG.format(**values).encode()))
+    put(f"{share}/doc/boruvka/PROVED.txt", "\n".join(release.proved()) + "\n")
+    put(f"{share}/lintian/overrides/boruvka", OVERRIDES.format(**values))
     put(f"{root}/DEBIAN/md5sums", sums(root, "md5"))
     put(f"{root}/DEBIAN/triggers", "activate-noawait ldconfig\n")
+    put(f"{root}/DEBIAN/shlibs", "libboruvka {major} boruvka (>= {version})\n".format(**values))
     blocks = sum(-(-os.path.getsize(f"{root}/{it}") // 1024) for it in files_below(root))
-    needs = depends([f"{root}/usr/bin/boruvka", f"{root}{lib}/libboruvka.so.{release.version}"])
-    put(f"{root}/DEBIAN/control", CONTROL.format(version=release.version, size=blocks, depends=needs))
+    needs = depends([f"{root}/usr/bin/boruvka", library])
+    put(f"{root}/DEBIAN/control", CONTROL.format(size=blocks, depends=needs, **values))
     release.settle(root)
     made = f"{room}/made.deb"
     words = ["dpkg-deb", "--root-owner-group", "--uniform-compression", "-Zgzip", "-z9", "--build", root, made]
@@ -292,18 +355,24 @@ def debian(release, room):
 
 
 def main(words):
-    program, libraries, into = PROGRAM, LIBRARIES, []
+    program, libraries, into, may = PROGRAM, LIBRARIES, [], False
     while words:
         word = words.pop(0)
         if word == "--program" and words:
             program = os.path.realpath(words.pop(0))
         elif word == "--libraries" and words:
             libraries = os.path.realpath(words.pop(0))
+        elif word == "--may" and not words:
+            may = True
         elif word.startswith("-") or into:
             print(__doc__, end="", file=sys.stderr)
             return 2
         else:
             into.append(os.path.realpath(word))
+    why = refusal()
+    if may or why:
+        print(f"tools/dist.py: {why}" if why else "", end="\n" if why else "", file=sys.stderr)
+        return 1 if why else 0
     folder = into[0] if into else f"{ROOT}/dist"
     try:
         release = Release(program, libraries)

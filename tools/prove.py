@@ -23,7 +23,6 @@ import contextlib
 import fcntl
 import os
 import re
-import shlex
 import shutil
 import signal
 import subprocess
@@ -32,16 +31,23 @@ import time
 
 sys.dont_write_bytecode = True
 
+import toolchain
 from crates import ROOT, below, crate_lines
+from toolchain import RT
 
-RT = shlex.split(os.environ.get("RT", "rt"))
 EACH = 2_500_000_000  # bytes of free memory for each check
 PROCESS = 1_250_000_000  # and for each of its processes
 LARGE = 300  # lines of code and of proofs from which on more than one process serves
 LATER = ["nice", "-n", "5"]  # before a check that others stand on less, so that it fills what they leave
 SECONDS = 60  # from one line on how far it is to the next, where it isn't written over
+# How long it took elsewhere, from nothing.
 ELSEWHERE = "10 to 30 minutes on four processors, once"
+OF_LIBRARIES = {
+    "boruvka_c": "5 to 15 minutes on four processors, once; 3 of them after `make run`",
+    "boruvka_within": "2 minutes after the other libraries, once",
+}
 PARTS = ("src", "specs", "proofs")
+CPU = ["--cpu", "x86-64"]  # what is built runs on each such processor; without it `rt` builds for x86-64-v2
 
 
 class NotProved(Exception):
@@ -264,7 +270,7 @@ def prove_top(plan, progress):
     log = f"{folder}/out/log"
     os.makedirs(f"{folder}/out", exist_ok=True)
     with open(source if os.path.isfile(source) else os.devnull, "rb") as given, open(log, "w+b") as said:
-        words = [*RT, "run" if is_program(plan.top) else "lib", "--jobs", str(plan.processes(plan.top, 0, True)), *words_of(folder)]
+        words = [*RT, "run" if is_program(plan.top) else "lib", "--jobs", str(plan.processes(plan.top, 0, True)), *CPU, *words_of(folder)]
         process = subprocess.Popen(words, cwd=folder, stdin=given, stdout=said, stderr=said, start_new_session=True)
         try:
             while process.poll() is None:
@@ -325,11 +331,11 @@ def main(words):
     if is_dry:
         show_order(plan)
         return 0
-    if not shutil.which(RT[0]):
-        print(f"To prove and build {top}, the Rattle toolchain's command `{RT[0]}` has to be on the PATH: see the README.", file=sys.stderr)
+    if not toolchain.is_there():
+        print(toolchain.MISSING, file=sys.stderr)
         return 1
     signal.signal(signal.SIGTERM, lambda *_: sys.exit(143))
-    print(f"proves {len(plan.names)} crates, then builds; {ELSEWHERE}", file=sys.stderr, flush=True)
+    print(f"proves {len(plan.names)} crates, then builds; {OF_LIBRARIES.get(top, ELSEWHERE)}", file=sys.stderr, flush=True)
     progress = Progress(len(plan.names))
     try:
         prove_libraries(plan, progress)

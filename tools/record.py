@@ -2,11 +2,11 @@
 import contextlib
 import json
 import os
-import shlex
 import subprocess
 
 from crates import ROOT
 from stamp import git
+from toolchain import RT
 
 # (the next gate removes it, as all that was built)
 FILE = f"{ROOT}/crates/boruvka/out/gate.json"
@@ -20,7 +20,7 @@ def commit():
 def kit():
     """The toolchain's name for itself, or None if it isn't there."""
     try:
-        ended = subprocess.run([*shlex.split(os.environ.get("RT", "rt")), "version"], capture_output=True, text=True, check=False)
+        ended = subprocess.run([*RT, "version"], capture_output=True, text=True, check=False)
     except OSError:
         return None
     return None if ended.returncode else ended.stdout.strip()

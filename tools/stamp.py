@@ -2,11 +2,13 @@
 """Prints a file as it is installed: with the version in it, and with what depends on the folders.
 
 usage: tools/stamp.py page
-       tools/stamp.py pc PREFIX LIBDIR INCLUDEDIR
+       tools/stamp.py FILE PREFIX LIBDIR INCLUDEDIR
 
 `page` is the manual page. Its date is that of the commit, or of SOURCE_DATE_EPOCH if that is set, and it is left out
-if neither is known. `pc` is boruvka.pc for these folders. It names its prefix by its own place if LIBDIR lies below
-PREFIX, so that the whole PREFIX can be moved. A folder that lies elsewhere is named by its full path.
+if neither is known. FILE is one by which others find the libraries in these folders: boruvka.pc or boruvka_within.pc
+for pkg-config, or boruvka-config.cmake or boruvka-config-version.cmake for CMake. It names folders from its own place
+on if LIBDIR lies below PREFIX, so that the whole PREFIX can be moved. A folder that lies elsewhere is named by its full
+path.
 """
 import os
 import re
@@ -21,6 +23,9 @@ from crates import ROOT
 VERSION = "crates/program_words/src/version.rt"
 PAGE = "man/boruvka.1"
 PC = "include/boruvka.pc.in"
+# The libraries, and what pkg-config tells of them.
+ABOUT = {"boruvka": "Minimum spanning forests in the caller's memory", "boruvka_within": "Minimum spanning forests within memory that the caller gives up"}
+CMAKE = ("boruvka-config.cmake", "boruvka-config-version.cmake")
 
 
 def text_of(path):
@@ -71,8 +76,14 @@ def place(folder, prefix):
     return full(folder) if below.split("/")[0] == ".." else "${prefix}/" + below.replace(" ", "\\ ")
 
 
-def pc(prefix, libdir, includedir):
-    """The file by which pkg-config finds the libraries."""
+def stamped(template, values):
+    """A template of include/ with these values in it."""
+    version_too = {"VERSION": version(), "MAJOR": version().split(".")[0], **values}
+    return re.sub("@([A-Z]+)@", lambda it: version_too[it[1]], text_of(template))
+
+
+def pc(name, prefix, libdir, includedir):
+    """The file by which pkg-config finds a library."""
     lib = place(libdir, prefix)
     # from LIBDIR/pkgconfig, which has the file
     up = os.path.relpath(prefix or "/", f"{libdir}/pkgconfig")
@@ -80,16 +91,26 @@ def pc(prefix, libdir, includedir):
         "PREFIX": f"${{pcfiledir}}/{up}" if lib.startswith("${prefix}") else full(prefix),
         "LIBDIR": lib,
         "INCLUDEDIR": place(includedir, prefix),
-        "VERSION": version(),
+        "NAME": name,
+        "ABOUT": ABOUT[name],
     }
-    return re.sub("@([A-Z]+)@", lambda it: values[it[1]], text_of(PC))
+    return stamped(PC, values)
+
+
+def cmake(name, prefix, libdir, includedir):
+    """A file by which CMake finds the libraries, from LIBDIR/cmake/boruvka on."""
+    can_move = all(place(it, prefix).startswith("${prefix}") for it in (libdir, includedir))
+    near = f"${{CMAKE_CURRENT_LIST_DIR}}/{os.path.relpath(includedir, f'{libdir}/cmake/boruvka')}"
+    return stamped(f"include/{name}.in", {"INCLUDE": near if can_move else os.path.abspath(includedir)})
 
 
 def main(words):
     if words == ["page"]:
         print(page(), end="")
-    elif len(words) == 4 and words[0] == "pc":
-        print(pc(*words[1:]), end="")
+    elif len(words) == 4 and words[0].removesuffix(".pc") in ABOUT:
+        print(pc(words[0].removesuffix(".pc"), *words[1:]), end="")
+    elif len(words) == 4 and words[0] in CMAKE:
+        print(cmake(*words), end="")
     else:
         print(__doc__, end="", file=sys.stderr)
         return 2

@@ -37,12 +37,12 @@ template <class T> static T value(std::expected<T, boruvka::refused> answer) { r
 int main() {
     const numbers u = {1, 1, 2, 3, 4, 4, 5, 5}, v = {2, 3, 4, 5, 3, 6, 2, 6};
     const std::vector<std::int64_t> w = {17, 10, 2, 0, 0, 3, 0, 20};
-    std::vector<boruvka::link> net;
+    std::vector<boruvka_link> net;
     for (std::size_t i = 0; i < w.size(); i++) {
         net.push_back({w[i], u[i], v[i]});
     }
-    const std::vector<boruvka::link> given = net;
-    const std::span<boruvka::link> forest = value(boruvka::forest(6, net));
+    const std::vector<boruvka_link> given = net;
+    const std::span<boruvka_link> forest = value(boruvka::forest(6, net));
     CHECK(forest.size() == 5 && forest.data() == net.data());
     CHECK(forest[0].low == 2 && forest[0].high == 5 && forest[4].weight == 10);
     CHECK(value(boruvka::places(6, 1, u, v, w)) == (numbers{6, 4, 3, 5, 1}));

@@ -6,7 +6,7 @@ import shutil
 import subprocess
 import sys
 
-from cases.running import ROOT, SMALL_FOREST, SMALL_NET, Skipped, case, drawn_graph, expect, ran, run, told_by
+from cases.running import ROOT, SMALL_FOREST, SMALL_NET, Skipped, case, drawn_graph, expect, ran, run, told_by, written
 
 LIBRARIES = f"{ROOT}/crates/boruvka_c/out"
 INCLUDE = f"-I{ROOT}/include"
@@ -21,6 +21,40 @@ FAULTY = [
     (b"p sp 2 1\na 1 3 1\n", "EndOutOfRange", 2), (b"p sp 2 1\na 1 2 9223372036854775808\n", "WeightOutOfRange", 2),
     (b"p sp 2 0\na 1 2 3\n", "TooManyArcs", 2), (b"", "MissingProblem", 1), (b"p sp 2 1\n", "MissingArcs", 2),
 ]
+
+# Two files of one program, which ask boruvka.hpp for the same in both of its ways.
+KINDS = {
+    "thrown": b"""#include <boruvka.hpp>
+#include <cstdio>
+
+void ask_expected();
+
+int main() {
+    std::vector<boruvka_link> net{{1, 2, 1}}, bad{{1, 1, 9}};
+    std::printf("thrown: %zu", boruvka::forest(2, net).size());
+    const auto labels = boruvka::labels(2, {});
+    std::printf(" %u %u", labels[0], labels[1]);
+    try {
+        boruvka::forest(2, bad);
+    } catch (const boruvka::refused &refused) {
+        std::printf(", %s\\n", refused.what());
+    }
+    ask_expected();
+}
+""",
+    "expected": b"""#define BORUVKA_EXPECTED
+#include <boruvka.hpp>
+#include <cstdio>
+
+void ask_expected() {
+    std::vector<boruvka_link> net{{1, 2, 1}}, bad{{1, 1, 9}};
+    std::printf("expected: %zu", boruvka::forest(2, net).value().size());
+    const auto labels = boruvka::labels(2, {}).value();
+    std::printf(" %u %u", labels[0], labels[1]);
+    std::printf(", %s\\n", boruvka::forest(2, bad).error().what());
+}
+""",
+}
 
 
 def compiler():
@@ -75,7 +109,23 @@ def the_libraries_have_just_their_names(room):
         found = subprocess.run(["nm", "-D", "--defined-only", shared], check=True, capture_output=True, text=True).stdout
         expect((set(re.findall(r" [A-Z] (\S+)", found)), b"", b""), NAMES, b"", b"")
         found = subprocess.run(["nm", "--defined-only", archive], check=True, capture_output=True, text=True).stdout
-        expect((set(re.findall(r" [A-Z] (?!rattle_)(\S+)", found)), b"", b""), NAMES, b"", b"")
+        expect((set(re.findall(r" [A-Z] (\S+)", found)), b"", b""), NAMES, b"", b"")
+    # names that the toolchain gives its own code are free for a program, which may be made by it too
+    source = b"""#include <boruvka.h>
+#include <stdlib.h>
+void *rattle_alloc(void) { abort(); }
+void *rattle_realloc(void) { abort(); }
+void rattle_dealloc(void) { abort(); }
+int main(void) {
+    struct boruvka_link links[] = {{1, 1, 2}};
+    return boruvka_forest(2, links, 1) != 1;
+}
+"""
+    expect(run([compiler(), INCLUDE, "-o", f"{room}/own_names", "-x", "c", "-", "-x", "none", archive], source), 0, b"", b"")
+    expect(run([f"{room}/own_names"]), 0, b"", b"")
+    if shutil.which("readelf"):
+        found = subprocess.run(["readelf", "-dW", shared], check=True, capture_output=True, text=True).stdout
+        expect((re.findall(r"\(FLAGS(?:_1)?\) +(?:Flags: )?(\w+)", found), b"", b""), ["BIND_NOW", "NOW"], b"", b"")
 
 
 @case
@@ -108,11 +158,68 @@ def calls_over_spans(room):
         expect(run([it, "-std=c++20", *words, "-o", f"{room}/of_spans", f"{ROOT}/examples/embed/forest.cpp", archive]), 0, b"", b"")
         expect(run([f"{room}/of_spans"]), 0, SMALL_FOREST, b"")
         modes = [["-std=c++20"]]
-        if run([it, "-std=c++23", "-fsyntax-only", "-x", "c++", "-"], b"#include <expected>\nstd::expected<int, int> one = 1;\n")[0] == 0:
+        if with_expected(it):
             modes.append(["-std=c++23", "-DBORUVKA_EXPECTED"])
         for mode in modes:
             expect(run([it, *mode, *words, "-o", f"{room}/spans", f"{ROOT}/tests/cases/embedding.cpp", archive]), 0, b"", b"")
             expect(run([f"{room}/spans"]), 0, b"", b"")
+
+
+def with_expected(of):
+    """Whether a compiler for C++ has std::expected."""
+    return not run([of, "-std=c++23", "-fsyntax-only", "-x", "c++", "-"], b"#include <expected>\nstd::expected<int, int> one = 1;\n")[0]
+
+
+@case
+def both_kinds_of_answers_in_one_program(room):
+    """One file has exceptions, the other std::expected. Unoptimized each has functions of its own, of which a linker keeps one."""
+    archive, _ = libraries()
+    compilers = [it for it in ("g++", "clang++") if shutil.which(it)]
+    expecting = [it for it in compilers if with_expected(it)]
+    if not expecting:
+        raise Skipped("no g++ or clang++ with std::expected is there")
+    files = {"thrown": [(it, "-std=c++20") for it in compilers], "expected": [(it, "-std=c++23") for it in expecting]}
+    for name, ways in files.items():
+        written(f"{room}/{name}.cpp", KINDS[name])
+        for of, standard in ways:
+            words = [of, standard, "-O0", "-Wall", "-Wextra", "-Werror", INCLUDE, "-c", "-o", f"{room}/{name}.{of}.o", f"{room}/{name}.cpp"]
+            expect(run(words), 0, b"", b"")
+    for of, _ in files["thrown"]:
+        for other in expecting:
+            objects = [f"{room}/thrown.{of}.o", f"{room}/expected.{other}.o"]
+            for number, order in enumerate([objects, objects[::-1]]):
+                made = f"{room}/{of}.{other}.{number}"
+                expect(run([other, "-o", made, *order, archive]), 0, b"", b"")
+                expect(run([made]), 0, b"thrown: 1 1 2, an end is no vertex\nexpected: 1 1 2, an end is no vertex\n", b"")
+
+
+@case
+def the_header_for_spans_says_what_it_needs(_room):
+    """It says so once, and nothing else."""
+    for of in (it for it in ("g++", "clang++") if shutil.which(it)):
+        words = [of, "-Wall", "-Wextra", INCLUDE, "-fsyntax-only", "-x", "c++"]
+        asked = [(standard, [], b"boruvka.hpp needs C++20") for standard in ("c++98", "c++11", "c++17")]
+        asked += [("c++20", ["-DBORUVKA_EXPECTED"], b"BORUVKA_EXPECTED needs std::expected")]
+        for standard, more, wanted in asked:
+            status, output, errors = run([*words, f"-std={standard}", *more, "-"], b"#include <boruvka.hpp>\n")
+            told = [it for it in errors.splitlines() if b"error:" in it]
+            expect((status != 0, output, [wanted in it for it in told]), True, b"", [True])
+
+
+@case
+def its_names_stand_beside_those_of_the_system(_room):
+    source = b"""#include <%s>
+#include <%s>
+using namespace boruvka;
+int main() {
+    std::vector<boruvka_link> net{{1, 1, 2}};
+    const auto found = forest(2, net);
+    return link("a", "b") + unlink("b") + labels(2, net).size() + places(0, 0, {}, {}, {}).size() + total(found).low;
+}
+"""
+    for of in (it for it in ("g++", "clang++") if shutil.which(it)):
+        for order in [(b"unistd.h", b"boruvka.hpp"), (b"boruvka.hpp", b"unistd.h")]:
+            expect(run([of, "-std=c++20", INCLUDE, "-fsyntax-only", "-x", "c++", "-"], source % order), 0, b"", b"")
 
 
 @case

@@ -6,9 +6,20 @@
  * within which the call of libboruvka_within.a has its answer, PEAK how many bytes the call of libboruvka.a had at once
  * from malloc and realloc. Both calls have to find the same, and LEAST is no more than include/boruvka.h calls enough.
  *
- *     least SHAPE N M    of this graph: grid (M counts for nothing), drawn, star or path
+ *     least SHAPE N M    of this graph: grid (M counts for nothing), drawn, star, path, ring, late or pair
  *
- * It is linked with --wrap=malloc, --wrap=realloc and --wrap=free. */
+ * What a call takes, where blocks come one below the other, and only the last of them goes back:
+ * - 16 bytes a link for the list. That of a text grows to twice its size where it lies: so it has up to 32.
+ * - 12 bytes and 1 for each link that a part looks at. No part looks at one twice, so that is 13 a link.
+ * - 4 bytes a vertex for the numbers of the first part, for those of a later part, and for those of its second round.
+ * - 4096 bytes for a while, 64 beside, and less than a page at the end.
+ * - For a text, once the second and third numbers are given back, the text of the forest, up to twice its length.
+ * A line of an arc has 8 bytes at the least, so 45 bytes a link are less than 6 times the length of a text. `late` takes all
+ * of it for a list: the first part has nearly all links, between two vertices, and the second needs two rounds. `pair` takes
+ * it for a text: two short lines in turn, just more of them than a power of two.
+ *
+ * A_LINK, A_VERTEX, A_BYTE and MORE are the figures of include/boruvka.h. It is linked with --wrap=malloc, --wrap=realloc
+ * and --wrap=free. */
 #include <boruvka.h>
 #include <inttypes.h>
 #include <stdio.h>
@@ -114,10 +125,31 @@ static void put_grid(struct graph *graph, uint64_t *seed) {
     }
 }
 
+/* The solver tells the weight up to which links are light by every so many of them. All others here are lighter than these. */
+static void put_late(struct graph *graph) {
+    const size_t step = graph->m / 256 + 1, last = (graph->n / step + 1) * step;
+    uint32_t at = 2;
+    for (size_t i = 0; i < graph->m; i++) {
+        struct boruvka_link link = {(int64_t)i, 1, 2};
+        if (i % step == 0) {
+            link.weight += (int64_t)graph->m;
+        }
+        if (i % step == 0 && i >= last) {
+            at++;
+            link = (struct boruvka_link){link.weight + (int64_t)(at % 2 * graph->m), at, at + 1};
+        }
+        graph->links[i] = link;
+    }
+}
+
 static void put(struct graph *graph, const char *shape) {
     uint64_t seed = 1;
     if (!strcmp(shape, "grid")) {
         put_grid(graph, &seed);
+        return;
+    }
+    if (!strcmp(shape, "late")) {
+        put_late(graph);
         return;
     }
     for (size_t i = 0; i < graph->m; i++) {
@@ -129,6 +161,11 @@ static void put(struct graph *graph, const char *shape) {
             link = (struct boruvka_link){weight, graph->n, at};
         } else if (!strcmp(shape, "path")) {
             link = (struct boruvka_link){weight, at, at + 1};
+        } else if (!strcmp(shape, "ring")) {
+            const uint32_t from = (uint32_t)(2 * i % graph->n);
+            link = (struct boruvka_link){0, from + 1, (from + 1) % graph->n + 1};
+        } else if (!strcmp(shape, "pair")) {
+            link = (struct boruvka_link){0, 1, 2 + (uint32_t)i % 2};
         }
         graph->links[i] = link;
     }
@@ -193,8 +230,8 @@ int main(int count, char **words) {
     CHECK(count == 4);
     struct graph graph = graph_of(words[1], (uint32_t)strtoul(words[2], 0, 10), strtoull(words[3], 0, 10));
     printf("%s %" PRIu32 " %zu", words[1], graph.n, graph.m);
-    tell(&graph, of_links, graph.m * sizeof *graph.links, 26 * graph.m + 10 * (size_t)graph.n + 4 * PAGE);
-    tell(&graph, of_text, graph.length + 64, 4 * graph.length + 10 * (size_t)graph.n + 4 * PAGE);
+    tell(&graph, of_links, graph.m * sizeof *graph.links, A_LINK * graph.m + A_VERTEX * (size_t)graph.n + MORE);
+    tell(&graph, of_text, graph.length + 64, A_BYTE * graph.length + A_VERTEX * (size_t)graph.n + MORE);
     printf("\n");
     give_back(graph.links);
     give_back(graph.text);

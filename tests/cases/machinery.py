@@ -9,7 +9,7 @@ import stat
 import subprocess
 import sys
 
-from cases.running import ROOT, SECONDS, TESTS, Skipped, case
+from cases.running import ROOT, SECONDS, SMALL_FOREST, TESTS, Skipped, case
 
 
 def expect(found, wanted):
@@ -54,22 +54,23 @@ class Gated(Folder):
     """One with the gate alone, and a program that was built."""
 
     def __init__(self, room):
-        super().__init__(room, ["tests/gate.py", "tools/record.py", "tools/stamp.py", "tools/crates.py"])
+        super().__init__(room, ["tests/gate.py", "tools/record.py", "tools/stamp.py", "tools/crates.py", "tools/toolchain.py"])
         self.put_program("crates/boruvka/out/boruvka", "exit 1")
 
-    def run(self, of_ci, of_program):
-        """Status and lines of the gate, when `rt` prints these lines and ends with this status, and then tests/program.py."""
+    def run(self, of_ci, of_program, of_web=("0", "0 passed, 0 failed")):
+        """Status and lines of the gate, when `rt` prints these lines and ends with this status, and then the two of tests/."""
         shown = " ".join(f"'{it}'" for it in of_ci[1:])
         self.put_program("bin/rt", f"[ \"$*\" = ci ] || exit 9\nprintf '%s\\n' {shown}\nexit {of_ci[0]}")
-        self.put("tests/program.py", f"print({chr(10).join(of_program[1:])!r})\nraise SystemExit({of_program[0]})\n")
-        env = {**os.environ, "PATH": f"{self.room}/bin:{os.environ['PATH']}"}
+        for name, (status, *lines) in [("program", of_program), ("web", of_web)]:
+            self.put(f"tests/{name}.py", f"print({chr(10).join(lines)!r})\nraise SystemExit({status})\n")
+        env = {**os.environ, "PATH": f"{self.room}/bin:{os.environ['PATH']}", "RT": "rt"}
         words = [sys.executable, f"{self.room}/tests/gate.py"]
         ended = subprocess.run(words, env=env, stdin=subprocess.DEVNULL, capture_output=True, text=True, timeout=SECONDS, check=False)
         return ended.returncode, ended.stdout.splitlines()
 
-    def expect(self, of_ci, of_program, status, last):
+    def expect(self, of_ci, of_program, status, last, *of_web):
         """The status and the last line, and no line of results before it but tests/program.py's."""
-        found = self.run(of_ci, of_program)
+        found = self.run(of_ci, of_program, *of_web)
         results = [it for it in found[1] if re.fullmatch(r"\d+ passed, \d+ failed", it)]
         before = [it for it in of_program[1:] if re.fullmatch(r"\d+ passed, \d+ failed", it)]
         if found[0] != status or found[1][-1:] != [last] or len(results) > 1 + len(before) or of_ci[-1] in results[:-1]:
@@ -92,6 +93,19 @@ def the_gate_fails_if_a_part_ends_ill_or_tells_nothing(room):
         (passed, ["1", "3 passed, 0 failed"], "15 passed, 1 failed"),
     ]:
         it.expect(of_ci, of_program, 1, last)
+    it.expect(passed, program, 1, "17 passed, 1 failed", ["1", "2 passed, 1 failed"])
+    it.expect(passed, program, 1, "15 passed, 1 failed", ["0", "a word"])
+
+
+@case
+def the_gate_says_last_what_was_skipped(room):
+    it = Gated(room)
+    passed = ["0", "12 passed, 0 failed"]
+    program = ["0", "program: one: ok, 0.1 s", "program: two: skipped: there is no fish", "program: three: skipped: no Python has numpy", "3 passed, 0 failed"]
+    web = ["0", "web: four: skipped: there is no fish", "1 passed, 0 failed"]
+    wanted = ["skipped, as there is no fish: program: two, web: four", "skipped, as no Python has numpy: program: three", "16 passed, 0 failed"]
+    expect(it.expect(passed, program, 0, wanted[-1], web)[-3:], wanted)
+    expect(it.expect(passed, ["0", "3 passed, 0 failed"], 0, "15 passed, 0 failed")[-2:], ["no case was skipped", "15 passed, 0 failed"])
 
 
 @case
@@ -99,15 +113,118 @@ def the_gate_keeps_what_a_commit_passed(room):
     if not shutil.which("git"):
         raise Skipped("there is no git")
     it = Gated(room)
-    it.put(".gitignore", "out/\nbin/\ntests/program.py\n")
+    it.put(".gitignore", "out/\nbin/\ntests/program.py\ntests/web.py\n")
     head, record = it.commit(), "crates/boruvka/out/gate.json"
     passed, program = ["0", "12 passed, 0 failed"], ["0", "3 passed, 0 failed"]
     it.expect(passed, program, 0, "15 passed, 0 failed")
     found = json.loads(it.read(record))
-    lines = ["rt ci: 12 passed, 0 failed", "tests/program.py: 3 passed, 0 failed", "15 passed, 0 failed"]
+    lines = [f"{name} passed, 0 failed" for name in ("rt ci: 12", "tests/program.py: 3", "tests/web.py: 0")]
+    lines += ["no case was skipped", "15 passed, 0 failed"]
     expect((found["commit"], found["lines"]), (head, lines))
     it.expect(passed, ["1", "2 passed, 1 failed"], 1, "14 passed, 1 failed")
     expect(os.path.exists(f"{room}/{record}"), False)
+
+
+class Begun(Folder):
+    """One with .ci/run alone, and stand-ins for what it calls; `calls` has the calls of apt-get."""
+
+    def __init__(self, room):
+        super().__init__(room, [".ci/run"])
+        os.mkdir(f"{room}/bin")
+        for name in ("bash", "sh", "dirname", "id", "timeout"):
+            os.symlink(shutil.which(name), f"{room}/bin/{name}")
+        self.put_program("bin/make", 'echo "made $*"\nexit 7')
+        self.put_program("bin/sudo", '[ "$1" = -n ] && shift && exec "$@"')
+        for name in ("zsh", "fish", "cmake", "lintian", "chromium", "chromedriver", "python"):
+            self.put_program(f"bin/{name}", "")
+
+    def put_apt_get(self, body):
+        self.put_program("bin/apt-get", f'echo "$*" | tr " " "\\n" | tail -n 1 >> "{self.room}/calls"\n{body}')
+        for name in ("tr", "tail"):
+            if not os.path.exists(f"{self.room}/bin/{name}"):
+                os.symlink(shutil.which(name), f"{self.room}/bin/{name}")
+
+    def run(self):
+        """The lines that it prints, the last of them of `make`, and the calls of apt-get."""
+        self.put("calls", "")
+        env = {"PATH": f"{self.room}/bin", "PYTHON": f"{self.room}/bin/python"}
+        ended = subprocess.run([f"{self.room}/.ci/run"], env=env, stdin=subprocess.DEVNULL, capture_output=True, text=True, timeout=SECONDS, check=False)
+        *lines, last = ended.stdout.splitlines()
+        expect((ended.returncode, last, ended.stderr), (7, "made test", ""))
+        return lines, self.read("calls").split()
+
+
+@case
+def what_cases_would_skip_is_installed(room):
+    it = Begun(room)
+    expect(it.run(), ([], []))
+    it.put_apt_get("exit 0")
+    expect(it.run(), ([], []))
+    for name in ("fish", "chromedriver"):
+        os.remove(f"{room}/bin/{name}")
+    it.put_program("bin/python", "exit 1")
+    lacking = ["fish", "chromium-driver", "python3-scipy", "python3-sklearn"]
+    expect(it.run(), ([f"installs {' '.join(lacking)}"], ["update", *lacking]))
+    # no network, a package that isn't known, and no apt-get: the gate runs all the same
+    it.put_apt_get("exit 100")
+    expect(it.run(), ([f"installs {' '.join(lacking)}", *(f"{name} can't be installed here" for name in lacking)], ["update", *lacking]))
+    it.put_apt_get('case "$*" in *fish) exit 100;; esac')
+    expect(it.run()[0][1:], ["fish can't be installed here"])
+    os.remove(f"{room}/bin/apt-get")
+    expect(it.run(), ([], []))
+
+
+# ---- what needs the toolchain, and what runs before any proof
+
+
+class Made(Folder):
+    """One with the Makefile and its tools, and libraries that were built."""
+
+    def __init__(self, room):
+        tools = [f"tools/{it}" for it in os.listdir(f"{ROOT}/tools") if it.endswith(".py")]
+        super().__init__(room, ["Makefile", "crates.txt", "tests/gate.py", "crates/program_words/src/version.rt", *tools])
+        self.put("crates/boruvka/src/main.rt", "")
+        for name in ("libboruvka.a", "libboruvka.so"):
+            self.put(f"crates/boruvka_c/out/{name}", "")
+            os.utime(f"{room}/crates/boruvka_c/out/{name}", (0, 0))
+
+    def make(self, target, rt):
+        """Status, standard output and standard error, with this command for `rt`."""
+        env = {it: word for it, word in os.environ.items() if it not in ("MAKEFLAGS", "MAKELEVEL", "MFLAGS")}
+        ended = subprocess.run(["make", "-C", self.room, "--no-print-directory", target], env={**env, "RT": rt}, capture_output=True, text=True, timeout=SECONDS, check=False)
+        return ended.returncode, ended.stdout, ended.stderr
+
+
+@case
+def what_needs_the_toolchain_says_so(room):
+    it = Made(room)
+    said = "To prove and build, the Rattle toolchain's command `no-such-command` has to be on the PATH: see the README."
+    for target in ("try", "run", "lib", "wasm", "test"):
+        status, output, errors = it.make(target, "no-such-command")
+        told = [line for line in errors.splitlines() if not line.startswith("make: ")]
+        expect((target, status != 0, told, output), (target, True, [said], "0 passed, 1 failed\n" if target == "test" else ""))
+    # nothing that was built is lost by it
+    expect(sorted(os.listdir(f"{room}/crates/boruvka_c/out")), ["libboruvka.a", "libboruvka.so"])
+
+
+@case
+def a_try_proves_nothing_and_says_so(room):
+    it = Made(room)
+    it.put_program("bin/rt", 'echo "$(basename "$PWD"): $*"')
+    status, output, errors = it.make("try", f"{room}/bin/rt")
+    expect((status, output), (0, "boruvka: try --data small.gr=../../examples/small.gr -- --plain small.gr\n"))
+    expect(errors, "Nothing is proved yet: this run only has checks of memory, of indices and of overflow. It takes about two minutes.\n")
+
+
+@case
+def a_try_has_the_forest_of_the_example(_room):
+    if not shutil.which("rt"):
+        raise Skipped("there is no rt")
+    env = {it: word for it, word in os.environ.items() if it not in ("MAKEFLAGS", "MAKELEVEL", "MFLAGS")}
+    words = ["make", "-s", "-C", ROOT, "try"]
+    ended = subprocess.run(words, env=env, stdin=subprocess.DEVNULL, capture_output=True, timeout=20 * SECONDS, check=False)
+    is_told = b" proved=no\n" in ended.stdout + ended.stderr
+    expect((ended.returncode, ended.stdout[: len(SMALL_FOREST)], is_told), (0, SMALL_FOREST, True))
 
 
 # ---- what is proved before what
@@ -143,17 +260,17 @@ if sys.argv[1] == "run":
         it.write(" ".join(sys.argv[2:]) + "\n" + sys.stdin.read())
 open(f"out/rlib/{crate}", "w").close()
 """
-CRATES = "# a comment\nlow:\nleft: low\nright: low\nprogram: left right\narchive staticlib: left\nother: low\n"
+CRATES = "# a comment\nlow:\nleft: low\nright: low\nprogram: left right\narchive staticlib: left\nboruvka_c staticlib: left\nother: low\n"
 
 
 class Chain(Folder):
     """One with a program and a static library over three libraries, and one more."""
 
     def __init__(self, room):
-        super().__init__(room, ["tools/prove.py", "tools/crates.py"])
+        super().__init__(room, ["tools/prove.py", "tools/crates.py", "tools/toolchain.py"])
         self.put("rt.py", RT)
         self.put("crates.txt", CRATES)
-        for crate in ("low", "left", "right", "archive", "other"):
+        for crate in ("low", "left", "right", "archive", "boruvka_c", "other"):
             self.put(f"crates/{crate}/src/lib.rt", f"// {crate}\n")
         self.put("crates/program/src/main.rt", "// program\n")
         self.put("crates/program/args", "--one\ntwo words\n")
@@ -182,12 +299,17 @@ def a_program_and_a_static_library_come_after_what_they_stand_on(room):
     status, told, calls = it.run(["program"], MEET="left right")
     expect((status, calls[:1], sorted(calls[1:3]), calls[3:]), (0, ["lib low"], ["lib left", "lib right"], ["run program"]))
     expect(it.built(), {"low", "left", "right", "program"})
+    # it runs on each processor, and not only on those for which `rt` builds by itself
+    expect([line.split()[3:5] for line in it.read("calls").splitlines() if line.startswith("run ")], [["--cpu", "x86-64"]])
     ran = it.read("crates/program/out/ran").split("\n", 1)
     expect((ran[0].partition(" -- ")[2], ran[1]), ("--one two words", "what it reads\n"))
     said = told.splitlines()
     expect(said[:2], ["proves 4 crates, then builds; 10 to 30 minutes on four processors, once", "0 of 4 crates proved, 0 min; at work on low"])
     status, _, calls = it.run(["archive"])
     expect((status, calls[-1:], "archive" in it.built()), (0, ["lib archive"], True))
+    # the library for C tells a time of its own
+    _, told, _ = it.run(["boruvka_c"])
+    expect(told.splitlines()[0], "proves 3 crates, then builds; 5 to 15 minutes on four processors, once; 3 of them after `make run`")
 
 
 @case

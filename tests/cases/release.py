@@ -14,6 +14,7 @@ import subprocess
 import sys
 import tarfile
 import time
+import zipfile
 
 from cases.embedding import ENVIRONMENT, LIBRARIES, compiler, libraries
 from cases.running import ROOT, SMALL_FOREST, SMALL_NET, Program, Skipped, case, expect, ran, run, written
@@ -24,16 +25,16 @@ sys.path.insert(0, f"{ROOT}/tools")
 from stamp import PAGE, PC, VERSION, text_of, version
 
 EMBED = f"{ROOT}/examples/embed"
-# the documents and examples of a package
+# the documents and examples that are installed
 TEXTS = [
-    "README.md", "SECURITY.md", "CHANGELOG.md", "CONTRIBUTING.md", "docs/roads.svg",
+    "LICENSE", "README.md", "SECURITY.md", "CHANGELOG.md", "CONTRIBUTING.md", "docs/roads.svg",
     *(f"docs/{it}.md" for it in ("ARCHITECTURE", "DECISIONS", "GR_FORMAT", "HEADLINE", "PERFORMANCE", "PROMISES", "PROTOCOL", "RECIPES")),
     "examples/small.gr", "examples/roads.gr", *(f"examples/embed/forest.{it}" for it in ("c", "cpp", "py", "rs")), "examples/embed/within.c",
 ]
 AT = 1_700_000_000  # 2023-11-14, in place of the commit's time
-SET = ("PREFIX", "BINDIR", "LIBDIR", "INCLUDEDIR", "MANDIR", "BASHDIR", "ZSHDIR", "FISHDIR", "PKG_CONFIG_PATH", "LD_LIBRARY_PATH")
+SET = ("PREFIX", "BINDIR", "LIBDIR", "INCLUDEDIR", "MANDIR", "DOCDIR", "PAGEDIR", "BASHDIR", "ZSHDIR", "FISHDIR", "PKG_CONFIG_PATH", "LD_LIBRARY_PATH")
 PLAIN = {it: word for it, word in ENVIRONMENT.items() if it not in SET}
-KIT = {**PLAIN, "SOURCE_DATE_EPOCH": str(AT), "RT": "echo a-kit"}  # what says `a-kit version`
+KIT = {**PLAIN, "SOURCE_DATE_EPOCH": str(AT), "RT": "echo a-kit", "UNPROVED": "1"}  # what says `a-kit version`
 SHELLS = {"bash": "completions/boruvka.bash", "zsh": "completions/_boruvka", "fish": "completions/boruvka.fish"}
 NUMBERS = {"--workers": [str(2**it) for it in range(7)] + ["0"], "--shards": [str(2**it) for it in range(13)], "--threads": [str(2**it) for it in range(7)]}
 
@@ -64,39 +65,68 @@ def files_below(root):
     return found
 
 
-def installed(bin_="bin", lib="lib", include="include", share="share", man="share/man", zsh="share/zsh/site-functions"):
-    """What an install puts below its prefix."""
+PAGE_AND_MODULE = ["boruvka.html", "boruvka.wasm"]
+
+
+def installed_program(bin_="bin", share="share", man="share/man", zsh="share/zsh/site-functions"):
+    """What an install puts below its prefix of a program."""
+    return dict.fromkeys([
+        f"{bin_}/boruvka",
+        f"{man}/man1/boruvka.1",
+        f"{share}/bash-completion/completions/boruvka",
+        f"{zsh}/_boruvka",
+        f"{share}/fish/vendor_completions.d/boruvka.fish",
+    ])
+
+
+def installed_libraries(lib="lib", include="include"):
+    """The same of the libraries."""
+    files = ["libboruvka.a", "libboruvka_within.a", f"libboruvka.so.{version()}"]
+    files += [f"pkgconfig/{it}.pc" for it in ("boruvka", "boruvka_within")]
+    files += [f"cmake/boruvka/{it}.cmake" for it in ("boruvka-config", "boruvka-config-version")]
     return {
-        f"{bin_}/boruvka": None,
-        f"{lib}/libboruvka.a": None,
-        f"{lib}/libboruvka_within.a": None,
+        **{f"{lib}/{it}": None for it in files},
         f"{lib}/libboruvka.so": f"libboruvka.so.{major()}",
         f"{lib}/libboruvka.so.{major()}": f"libboruvka.so.{version()}",
-        f"{lib}/libboruvka.so.{version()}": None,
-        f"{lib}/pkgconfig/boruvka.pc": None,
         f"{include}/boruvka.h": None,
         f"{include}/boruvka.hpp": None,
-        f"{man}/man1/boruvka.1": None,
-        f"{share}/bash-completion/completions/boruvka": None,
-        f"{zsh}/_boruvka": None,
-        f"{share}/fish/vendor_completions.d/boruvka.fish": None,
     }
 
 
-def make(*words, program=None, library=f"{LIBRARIES}/libboruvka"):
+def installed(bin_="bin", lib="lib", include="include", share="share", man="share/man", zsh="share/zsh/site-functions", doc="share/doc/boruvka/"):
+    """The same of all that is built."""
+    more = [f"{share}/boruvka/{it}" for it in PAGE_AND_MODULE] + [f"{doc}{it}" for it in TEXTS]
+    return {**installed_program(bin_, share, man, zsh), **installed_libraries(lib, include), **dict.fromkeys(more)}
+
+
+def expect_no_dead_links(root, doc, include):
+    """Each link of a document leads to a file, and those to the header and to other documents are there."""
+    found = set()
+    for path in (it for it in TEXTS if it.endswith(".md")):
+        with open(f"{root}/{doc}{path}", encoding="utf-8") as it:
+            links = re.findall(r"\]\(([^()\s#]+)(?:#[^()\s]*)?\)", it.read())
+        dead = [it for it in links if not os.path.exists(f"{root}/{doc}{os.path.dirname(path)}/{it}")]
+        is_so((path, dead), (path, []))
+        found |= {os.path.relpath(f"{root}/{doc}{os.path.dirname(path)}/{it}", root) for it in links}
+    wanted = {f"{include}/boruvka.h", f"{doc}docs/PROMISES.md", f"{doc}examples/embed", f"{doc}LICENSE", f"{doc}docs/roads.svg"}
+    is_so(wanted - found, set())
+
+
+def make(*words, program=None, library=f"{LIBRARIES}/libboruvka", wasm=None):
     """Status, standard output and standard error of make, which has to prove and build nothing."""
-    names = [f"PROGRAM={os.path.relpath(program or Program.path, ROOT)}", f"LIBRARY={os.path.relpath(library, ROOT)}"]
+    files = {"PROGRAM": program or Program.path, "LIBRARY": library, "WASM": wasm or module()}
+    names = [f"{name}={os.path.relpath(path, ROOT)}" for name, path in files.items()]
     told = run(["make", "-s", "-C", ROOT, *names, *words], env={**PLAIN, "RT": "false"})
     if b"proving" in told[2]:
         raise AssertionError(f"it proves: {told[2]!r:.300}")
     return told
 
 
-def flags(folder, env=PLAIN):
-    """What pkg-config tells of the boruvka.pc of a folder, its paths in their plain form; and its version."""
+def flags(folder, env=PLAIN, name="boruvka"):
+    """What pkg-config tells of the .pc file of a folder, its paths in their plain form; and its version."""
     env = {**env, "PKG_CONFIG_PATH": folder}
-    told = subprocess.run(["pkg-config", "--cflags", "--libs", "boruvka"], env=env, check=True, capture_output=True, text=True).stdout
-    number = subprocess.run(["pkg-config", "--modversion", "boruvka"], env=env, check=True, capture_output=True, text=True).stdout
+    told = subprocess.run(["pkg-config", "--cflags", "--libs", name], env=env, check=True, capture_output=True, text=True).stdout
+    number = subprocess.run(["pkg-config", "--modversion", name], env=env, check=True, capture_output=True, text=True).stdout
     is_so(number, f"{version()}\n")
     return [it[:2] + os.path.normpath(it[2:]) if it[:2] in ("-I", "-L") else it for it in shlex.split(told)]
 
@@ -152,22 +182,28 @@ def the_installed_page_has_the_version_and_the_date(room):
 
 
 @case
-def an_install_of_what_is_not_built(room):
+def an_install_of_what_is_built(room):
     libraries()
     none = f"{room}/none"
-    program, libs = b"The program is not built yet: `make run` ", b"The libraries are not built yet: `make lib` "
-    for words, wanted in [
-        ({"program": none}, [True, False]),
-        ({"library": none}, [False, True]),
-        ({"program": none, "library": none}, [True, True]),
-    ]:
-        status, output, errors = make(f"PREFIX={room}/prefix", "install", **words)
-        is_so((status != 0, output, [it in errors for it in (program, libs)]), (True, b"", wanted))
-    is_so(os.listdir(room), [])
+    said = [b"The program is not built yet: `make run` ", b"The libraries are not built yet: `make lib` ", b"The page has no module yet: `make wasm` "]
+    texts = {f"share/doc/boruvka/{it}": None for it in TEXTS}
+    pages = {f"share/boruvka/{it}": None for it in PAGE_AND_MODULE}
+    for number, (words, files, missing) in enumerate([
+        ({"program": none}, {**installed_libraries(), **pages}, [0]),
+        ({"library": none}, {**installed_program(), **pages}, [1]),
+        ({"wasm": none}, {**installed_program(), **installed_libraries()}, [2]),
+        ({"library": none, "wasm": none}, installed_program(), [1, 2]),
+    ]):
+        status, output, errors = make(f"PREFIX={room}/{number}", "install", **words)
+        is_so((status, output, [it in errors for it in said]), (0, b"", [it in missing for it in range(3)]))
+        is_so(files_below(f"{room}/{number}"), {**texts, **files})
+    before = os.listdir(room)
+    status, output, errors = make(f"PREFIX={room}/prefix", "install", program=none, library=none, wasm=none)
+    is_so((status != 0, output, [it in errors for it in said], b"nothing was installed" in errors), (True, b"", [True] * 3, True))
     # the static library alone
     shutil.copy(f"{LIBRARIES}/libboruvka.a", f"{room}/half.a")
-    status, _, errors = make(f"PREFIX={room}/prefix", "install", library=f"{room}/half")
-    is_so((status != 0, libs in errors, os.listdir(room)), (True, True, ["half.a"]))
+    status, _, errors = make(f"PREFIX={room}/prefix", "install", program=none, library=f"{room}/half", wasm=none)
+    is_so((status != 0, said[1] in errors, sorted(os.listdir(room))), (True, True, sorted([*before, "half.a"])))
 
 
 @case
@@ -185,11 +221,13 @@ def an_install_copies_and_is_taken_away(room):
             is_so(it.read(), text_of(of))
     with open(f"{prefix}/share/man/man1/boruvka.1", encoding="utf-8") as it:
         is_so(f'" "boruvka {version()}" "User' in it.readline(), True)
+    expect_no_dead_links(prefix, "share/doc/boruvka/", "include")
     # once more over it, and a file of somebody else's
     written(f"{prefix}/lib/libboruvka_other.so", b"")
     expect(make(f"PREFIX={prefix}", "install", program=program), 0, b"", b"")
     expect(make(f"PREFIX={prefix}", "uninstall"), 0, b"", b"")
     is_so(files_below(prefix), {"lib/libboruvka_other.so": None})
+    is_so([it for it in ("share/doc/boruvka", "share/boruvka", "lib/cmake/boruvka") if os.path.exists(f"{prefix}/{it}")], [])
 
 
 @case
@@ -197,18 +235,24 @@ def an_install_into_folders_of_ones_own(room):
     libraries()
     words = ["PREFIX=/opt/b", "LIBDIR=/opt/b/lib/x86", "INCLUDEDIR=/srv/include", "MANDIR=/srv/man", "BINDIR=/b", f"DESTDIR={room}/root"]
     expect(make(*words, "install"), 0, b"", b"")
-    wanted = installed("b", "opt/b/lib/x86", "srv/include", "opt/b/share", "srv/man", "opt/b/share/zsh/site-functions")
+    wanted = installed("b", "opt/b/lib/x86", "srv/include", "opt/b/share", "srv/man", "opt/b/share/zsh/site-functions", "opt/b/share/doc/boruvka/")
     is_so(files_below(f"{room}/root"), wanted)
     with open(f"{room}/root/opt/b/lib/x86/pkgconfig/boruvka.pc", encoding="utf-8") as it:
         is_so(it.read().splitlines()[:3], ["prefix=${pcfiledir}/../../..", "libdir=${prefix}/lib/x86", "includedir=/srv/include"])
     expect(make(*words, "uninstall"), 0, b"", b"")
     is_so(files_below(f"{room}/root"), {})
     # a LIBDIR that lies elsewhere says nothing of where PREFIX is
-    told = run([sys.executable, f"{ROOT}/tools/stamp.py", "pc", "/opt/b", "/usr/lib", "/opt/b/include"], env=PLAIN)
+    told = run([sys.executable, f"{ROOT}/tools/stamp.py", "boruvka.pc", "/opt/b", "/usr/lib", "/opt/b/include"], env=PLAIN)
     is_so(told[1].decode().splitlines()[:3], ["prefix=/opt/b", "libdir=/usr/lib", "includedir=${prefix}/include"])
-    told_too = run([sys.executable, f"{ROOT}/tools/stamp.py", "pc", "/a user/b", "/usr/lib", "/a user/b/include"], env=PLAIN)
+    told_too = run([sys.executable, f"{ROOT}/tools/stamp.py", "boruvka.pc", "/a user/b", "/usr/lib", "/a user/b/include"], env=PLAIN)
     is_so(told_too[1].decode().splitlines()[:3], ["prefix=/a\\ user/b", "libdir=/usr/lib", "includedir=${prefix}/include"])
-    is_so(text_of(PC).splitlines()[3:], [it.replace(version(), "@VERSION@") for it in told[1].decode().splitlines()[3:]])
+    for name in ("boruvka", "boruvka_within"):
+        told = run([sys.executable, f"{ROOT}/tools/stamp.py", f"{name}.pc", "/opt/b", "/usr/lib", "/opt/b/include"], env=PLAIN)[1].decode()
+        wanted = [f"Name: {name}", f"Version: {version()}", "Cflags: -I${includedir}", f"Libs: -L${{libdir}} -l{name}"]
+        is_so([it for it in told.splitlines()[4:] if not it.startswith("Description: ")], wanted)
+    for include, wanted in [("/opt/b/include", "${CMAKE_CURRENT_LIST_DIR}/../../../include"), ("/srv/include", "/srv/include")]:
+        told = run([sys.executable, f"{ROOT}/tools/stamp.py", "boruvka-config.cmake", "/opt/b", "/opt/b/lib", include], env=PLAIN)[1].decode()
+        is_so(f'get_filename_component(boruvka_INCLUDE_DIR "{wanted}" ABSOLUTE)' in told, True)
 
 
 @case
@@ -222,6 +266,60 @@ def an_installed_prefix_can_be_moved(room):
         os.rename(f"{room}/{old}", f"{room}/{new}")
         is_so(flags(f"{room}/{new}/lib/pkgconfig"), [f"-I{room}/{new}/include", f"-L{room}/{new}/lib", "-lboruvka"])
         expect_example(f"{room}/of {new}", f"{room}/{new}/include", f"{room}/{new}/lib")
+        within = flags(f"{room}/{new}/lib/pkgconfig", name="boruvka_within")
+        is_so(within, [f"-I{room}/{new}/include", f"-L{room}/{new}/lib", "-lboruvka_within"])
+        expect(run([compiler(), "-o", f"{room}/within of {new}", f"{EMBED}/within.c", *within]), 0, b"", b"")
+        expect(run([f"{room}/within of {new}"]), 0, SMALL_FOREST, b"")
+
+
+CMAKE = """cmake_minimum_required(VERSION 3.13)
+project(uses C CXX)
+set(CMAKE_CXX_STANDARD 20)
+find_package(boruvka %s REQUIRED)
+find_package(boruvka)
+foreach(it IN ITEMS shared.c.boruvka static.c.static shared.cpp.boruvka static.cpp.static within.c.within)
+  string(REPLACE "." ";" parts ${it})
+  list(GET parts 0 name)
+  list(GET parts 1 ending)
+  list(GET parts 2 library)
+  set(source forest.${ending})
+  if(name STREQUAL within)
+    set(source within.c)
+  endif()
+  add_executable(${name}_${ending} ${source})
+  target_link_libraries(${name}_${ending} boruvka::${library})
+endforeach()
+"""
+
+
+@case
+def cmake_finds_the_libraries(room):
+    """In a prefix with a space in its path, which is moved before; and no version that isn't there."""
+    libraries()
+    needs("cmake")
+    needs("c++")
+    prefix, top = f"{room}/a user's prefix", f"{room}/top"
+    expect(make(f"PREFIX={room}/first", "install"), 0, b"", b"")
+    os.rename(f"{room}/first", prefix)
+    os.mkdir(top)
+    for name in ("forest.c", "forest.cpp", "within.c"):
+        shutil.copy(f"{EMBED}/{name}", top)
+
+    def configured(asked):
+        written(f"{top}/CMakeLists.txt", (CMAKE % asked).encode())
+        shutil.rmtree(f"{room}/made", ignore_errors=True)
+        return run(["cmake", f"-DCMAKE_PREFIX_PATH={prefix}", "-S", top, "-B", f"{room}/made"], env=PLAIN)
+
+    later = f"{int(major()) + 1}.0"
+    for asked in (later, "0.9", f"{major()}.999"):
+        status, _, errors = configured(asked)
+        is_so((asked, status != 0, b"boruvka" in errors), (asked, True, True))
+    for asked in ("", major(), version(), f"{version()} EXACT"):
+        status, _, errors = configured(asked)
+        is_so((asked, status, errors), (asked, 0, b""))
+    is_so(run(["cmake", "--build", f"{room}/made"], env=PLAIN, seconds=120)[0], 0)
+    for name in ("shared_c", "static_c", "shared_cpp", "static_cpp", "within_c"):
+        expect(run([f"{room}/made/{name}"], env=PLAIN), 0, SMALL_FOREST, b"")
 
 
 @case
@@ -356,9 +454,6 @@ def completions_of_fish(room):
 # make dist
 
 
-PAGE_AND_MODULE = ["boruvka.html", "boruvka.wasm"]
-
-
 def expect_page(room, share):
     """A folder of a package has the module, and the page as `make page` packs it, with that module in it."""
     built = module()
@@ -422,13 +517,15 @@ def the_packed_folder_is_whole_and_runs(room):
         tar.extractall(f"{room}/empty")
     is_so([it.name for it in members], sorted((it.name for it in members), key=lambda it: it.split("/")))
     is_so({(it.uid, it.gid, it.uname, it.gname, it.mtime) for it in members}, {(0, 0, "root", "root", AT)})
+    for path in ("bin/boruvka", f"lib/libboruvka.so.{version()}"):
+        with open(f"{room}/empty/{name}/{path}", "rb") as it:
+            is_so((path, b".symtab" in it.read()), (path, False))
     run_by = {f"{name}/bin/boruvka", f"{name}/lib/libboruvka.so.{version()}"}
     is_so({it.name for it in members if it.isfile() and it.mode == 0o755}, run_by)
     is_so({it.mode for it in members if it.isfile() and it.name not in run_by} | {it.mode + 1 for it in members if it.isdir()}, {0o644, 0o756})
     root = f"{room}/empty/{name}"
-    more = ["LICENSE", "PROVED.txt", "SHA256SUMS", *TEXTS]
-    more += [f"share/boruvka/{it}" for it in PAGE_AND_MODULE]
-    is_so(files_below(root), {**installed(), **dict.fromkeys(more)})
+    is_so(files_below(root), {**installed(doc=""), **dict.fromkeys(["PROVED.txt", "SHA256SUMS"])})
+    expect_no_dead_links(root, "", "include")
     expect_page(room, f"{root}/share/boruvka")
     with open(f"{root}/SHA256SUMS", encoding="utf-8") as it:
         told = dict(reversed(line.split()) for line in it)
@@ -455,11 +552,11 @@ def the_package_of_debian_is_whole_and_runs(room):
     os.mkdir(root)
     expect(run(["dpkg-deb", "-x", path, root]), 0, b"", b"")
     expect(run(["dpkg-deb", "-e", path, f"{room}/control"]), 0, b"", b"")
-    wanted = installed("usr/bin", lib, "usr/include", "usr/share", "usr/share/man", "usr/share/zsh/vendor-completions")
+    wanted = installed("usr/bin", lib, "usr/include", "usr/share", "usr/share/man", "usr/share/zsh/vendor-completions", "usr/share/doc/boruvka/")
     wanted["usr/share/man/man1/boruvka.1.gz"] = wanted.pop("usr/share/man/man1/boruvka.1")
-    doc = ["copyright", "PROVED.txt", *TEXTS]
-    wanted.update({f"usr/share/boruvka/{it}": None for it in PAGE_AND_MODULE})
-    is_so(files_below(root), {**wanted, **{f"usr/share/doc/boruvka/{it}": None for it in doc}})
+    more = [f"usr/share/doc/boruvka/{it}" for it in ("copyright", "changelog.gz", "PROVED.txt")] + ["usr/share/lintian/overrides/boruvka"]
+    is_so(files_below(root), {**wanted, **dict.fromkeys(more)})
+    expect_no_dead_links(root, "usr/share/doc/boruvka/", "usr/include")
     expect_page(room, f"{root}/usr/share/boruvka")
     listed = run(["dpkg-deb", "-c", path], env={**PLAIN, "TZ": "UTC"})[1].decode().splitlines()
     is_so({tuple(it.split()[1:2] + it.split()[3:5]) for it in listed}, {("root/root", "2023-11-14", "22:13")})
@@ -471,11 +568,45 @@ def the_package_of_debian_is_whole_and_runs(room):
     expect((run(["md5sum", "--quiet", "-c", f"{room}/control/md5sums"], cwd=root)), 0, b"", b"")
     with gzip.open(f"{root}/usr/share/man/man1/boruvka.1.gz", "rt", encoding="utf-8") as it:
         is_so(it.readline(), f'.TH BORUVKA 1 "2023-11-14" "boruvka {version()}" "User Commands"\n')
+    with open(f"{room}/control/shlibs", encoding="utf-8") as it:
+        is_so(it.read(), f"libboruvka {major()} boruvka (>= {version()})\n")
+    with gzip.open(f"{root}/usr/share/doc/boruvka/changelog.gz", "rt", encoding="utf-8") as it:
+        is_so(it.readline(), f"boruvka ({version()}) unstable; urgency=medium\n")
+    with open(f"{root}/usr/share/doc/boruvka/copyright", encoding="utf-8") as it:
+        told = it.read()
+        is_so(("License: MIT or Apache-2.0\n" in told, "/usr/share/common-licenses/Apache-2.0" in told), (True, True))
     expect_proved(f"{root}/usr/share/doc/boruvka/PROVED.txt")
     expect(run([f"{root}/usr/bin/boruvka", "--plain", f"{root}/usr/share/doc/boruvka/examples/small.gr"], env=PLAIN), 0, SMALL_FOREST, b"")
     expect_example(f"{room}/of_c", f"{root}/usr/include", f"{root}/{lib}")
     if shutil.which("pkg-config"):
         is_so(flags(f"{root}/{lib}/pkgconfig"), [f"-I{root}/usr/include", f"-L{root}/{lib}", "-lboruvka"])
+
+
+@case
+def lintian_finds_no_error_in_the_package(room):
+    needs("dpkg-deb")
+    packed(f"{room}/packed")
+    words = [needs("lintian"), "--allow-root", "--no-cfg", "--fail-on", "error", f"{room}/packed/boruvka_{version()}_amd64.deb"]
+    status, output, errors = run(words, env={**PLAIN, "LC_ALL": "C.UTF-8"}, seconds=300)
+    is_so((status, re.findall(rb"^[EW]: .*", output + errors, re.M)), (0, []))
+
+
+@case
+def the_package_of_python_says_what_it_needs(room):
+    packed(f"{room}/packed")
+    about, number = f"boruvka-{version()}.dist-info", version()
+    (name,) = [it for it in os.listdir(f"{room}/packed") if it.endswith(".whl")]
+    with zipfile.ZipFile(f"{room}/packed/{name}") as it:
+        fields, _, text = it.read(f"{about}/METADATA").decode().partition("\n\n")
+        is_so(it.read(f"{about}/LICENSE").decode(), text_of("LICENSE"))
+        library = it.read(f"boruvka/libboruvka.so.{major()}")
+    fields = [tuple(it.split(": ", 1)) for it in fields.splitlines()]
+    is_so([it for it in fields if it[0] in ("Version", "License", "License-File", "Requires-Python")],
+          [("Version", number), ("License", "MIT OR Apache-2.0"), ("License-File", "LICENSE"), ("Requires-Python", ">=3.9")])
+    is_so(("Classifier", "Programming Language :: Python :: 3.11") in fields, True)
+    # what its text sends to is in no wheel
+    is_so((re.findall(r"\]\([^()]+\)", text), text.startswith("# boruvka for Python\n")), ([], True))
+    is_so(b".symtab" in library, False)
 
 
 @case
@@ -508,11 +639,25 @@ def a_package_tells_what_the_gate_passed(room):
         expect((status, b"", errors), 0, b"", b"")
         return output.decode().splitlines()
 
+    def refused(why):
+        """Without UNPROVED=1 nothing is packed; and `make dist` says so before it proves."""
+        shutil.rmtree(f"{top}/dist", ignore_errors=True)
+        told = f"tools/dist.py: {why}\n".encode()
+        for arguments in ([], ["--may"]):
+            expect(run([*words, *arguments], env=env), 1, b"", told)
+        status, output, errors = run(["make", "-s", "-C", top, "dist"], env={**env, "RT": "no-such-command"})
+        is_so((status != 0, output, errors.startswith(told), b"no-such-command" in errors, os.path.exists(f"{top}/dist")), (True, b"", True, False, False))
+        expect(run([*words, "--may"], env={**env, "UNPROVED": "1"}), 0, b"", b"")
+
+    words, env = [sys.executable, "-B", f"{top}/tools/dist.py"], {it: word for it, word in KIT.items() if it not in ("SOURCE_DATE_EPOCH", "UNPROVED")}
+    changes = re.sub(r"^## \S+", f"## {version()}", text_of("CHANGELOG.md"), count=1, flags=re.M)
+    written(f"{top}/CHANGELOG.md", changes.encode())
     committed(b"one\n")
+    refused("the gate (make test) isn't known to have passed on this commit: run it, or say UNPROVED=1")
     first = run([*git, "rev-parse", "HEAD"])[1].decode().strip()
     head = [f"boruvka {version()}", f"commit: {first}", "kit: a-kit version"]
     passed = ["gate (make test): passed on this commit, with a-kit version", "    1 passed, 0 failed"]
-    unknown = ["gate (make test): not known to have passed on this commit"]
+    unknown = ["gate (make test): not known to have passed on this commit; packed all the same, by UNPROVED=1"]
     is_so(told(), head + unknown)
     gate()
     is_so(told(), head + passed)
@@ -523,9 +668,7 @@ def a_package_tells_what_the_gate_passed(room):
         shutil.copy(f"{LIBRARIES}/{name}", f"{top}/crates/boruvka_c/out/{name}")
     os.makedirs(f"{top}/crates/boruvka_within/out")
     shutil.copy(f"{ROOT}/crates/boruvka_within/out/libboruvka_within.a", f"{top}/crates/boruvka_within/out")
-    words, env = [sys.executable, "-B", f"{top}/tools/dist.py"], {it: word for it, word in KIT.items() if it != "SOURCE_DATE_EPOCH"}
-    missing = b"tools/dist.py: there is no crates/boruvka_within/out/boruvka.wasm: `make wasm` builds it\n"
-    expect(run(words, env=env), 1, b"", missing)
+    expect(run(words, env=env), 1, b"", b"tools/dist.py: The page has no module yet: `make wasm` proves and builds it.\n")
     shutil.copy(built, f"{top}/crates/boruvka_within/out")
     status, output, _ = run(words, env=env)
     is_so((status, output.count(b"\n")), (0, 3 if shutil.which("dpkg-deb") else 2))
@@ -534,6 +677,11 @@ def a_package_tells_what_the_gate_passed(room):
         member = tar.getmember(f"{name}/PROVED.txt")
         is_so(str(member.mtime), run([*git, "log", "-1", "--format=%ct"])[1].decode().strip())
         is_so(tar.extractfile(member).read().decode().splitlines(), head + passed)
+    # changes of a version to come
+    written(f"{top}/CHANGELOG.md", changes.replace("## ", "## Next\n- a change\n\n## ", 1).encode())
+    refused(f"CHANGELOG.md begins with Next, and {VERSION} has {version()}: bring them together, or say UNPROVED=1")
+    written(f"{top}/CHANGELOG.md", changes.encode())
+    is_so(told(), head + passed)
     # files that no commit has, and another commit
     written(f"{top}/note", b"two\n")
     is_so(told(), [head[0], f"{head[1]}, with changes that no commit has", head[2], *unknown])

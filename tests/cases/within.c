@@ -2,7 +2,9 @@
  * within some memory is served within more. Bytes beside the memory stay as they were. A wrong answer ends it by status 1.
  *
  *     within sizes     a small net and its text, within each size up to four pages, and within two blocks in turn
- *     within enough    lists and texts of many shapes, within as many bytes as include/boruvka.h calls enough */
+ *     within enough    lists and texts of many shapes, within as many bytes as include/boruvka.h calls enough
+ *
+ * A_LINK, A_VERTEX, A_BYTE and MORE are its figures. */
 #include <boruvka.h>
 #include <inttypes.h>
 #include <stdio.h>
@@ -128,7 +130,7 @@ static void enough_for(enum shape shape, uint64_t seed, uint32_t n, size_t m) {
     for (size_t i = 0; i < m; i++) {
         length += (size_t)sprintf(text + length, "a %" PRIu32 " %" PRIu32 " %" PRId64 "\n", links[i].low, links[i].high, links[i].weight);
     }
-    const size_t of_links = 26 * m + 10 * (size_t)n + 4 * PAGE, of_text = 4 * length + 10 * (size_t)n + 4 * PAGE;
+    const size_t of_links = A_LINK * m + A_VERTEX * (size_t)n + MORE, of_text = A_BYTE * length + A_VERTEX * (size_t)n + MORE;
     unsigned char *block = block_of(of_links > of_text ? of_links : of_text);
     const int64_t count = boruvka_forest_within((struct boruvka_memory){block, of_links}, n, links, m);
     CHECK(count >= 0);

@@ -26,6 +26,15 @@ def module():
     return f"{BUILT}/boruvka.wasm"
 
 
+def enough():
+    """What include/boruvka.h calls enough, as words for a compiler."""
+    with open(f"{ROOT}/include/boruvka.h", encoding="utf-8") as it:
+        text = " ".join(it.read().replace("\n *", "\n").split())
+    shape = r"for a list, (\d+) bytes a link, (\d+) a vertex and (\d+) more; for a text, (\d+) times its length, \2 bytes a vertex and \3 more"
+    link, vertex, more, byte = re.search(shape, text).groups()
+    return [f"-DA_LINK={link}", f"-DA_VERTEX={vertex}", f"-DMORE={more}", f"-DA_BYTE={byte}"]
+
+
 def caller(room):
     """The program of tests/cases/embedding.c, with its calls within memory; built once."""
     made = f"{room}/../within"
@@ -81,24 +90,47 @@ def the_example_without_malloc(room):
 
 @case
 def each_size_of_memory(room):
-    expect(run([compiler(), "-O1", "-Wall", "-Wextra", "-Werror", INCLUDE, "-o", f"{room}/sizes", f"{ROOT}/tests/cases/within.c", library()]), 0, b"", b"")
+    expect(run([compiler(), "-O1", "-Wall", "-Wextra", "-Werror", INCLUDE, *enough(), "-o", f"{room}/sizes", f"{ROOT}/tests/cases/within.c", library()]), 0, b"", b"")
     expect(run([f"{room}/sizes", "sizes"]), 0, b"", b"")
     expect(run([f"{room}/sizes", "enough"]), 0, b"", b"")
+
+
+def least(room, shape, vertices, arcs):
+    """Of the list and of the text of a graph: the least memory, and the peak by malloc; tests/cases/least.c, built once."""
+    made = f"{room}/../least"
+    if not os.path.exists(made):
+        wrapped = [f"-Wl,--wrap={it}" for it in ("malloc", "realloc", "free")]
+        words = [compiler(), "-O1", "-Wall", "-Wextra", "-Werror", INCLUDE, *enough(), *wrapped, "-o", made, f"{ROOT}/tests/cases/least.c"]
+        expect(run([*words, library(), libraries()[0]]), 0, b"", b"")
+    status, output, errors = run([made, shape, str(vertices), str(arcs)])
+    expect((status, b"", errors), 0, b"", b"")
+    *_, of_list, list_by_malloc, of_text, text_by_malloc = map(int, output.split()[1:])
+    return (of_list, list_by_malloc), (of_text, text_by_malloc)
 
 
 @case
 def the_least_memory_beside_that_of_malloc(room):
     """It is at most half as much again, for these graphs of more than a few links."""
-    wrapped = [f"-Wl,--wrap={it}" for it in ("malloc", "realloc", "free")]
-    words = [compiler(), "-O1", "-Wall", "-Wextra", "-Werror", INCLUDE, *wrapped, "-o", f"{room}/least", f"{ROOT}/tests/cases/least.c", library()]
-    expect(run([*words, libraries()[0]]), 0, b"", b"")
-    for shape, vertices, arcs in [("grid", 10_000, 0), ("drawn", 1000, 20_000)]:
-        status, output, errors = run([f"{room}/least", shape, str(vertices), str(arcs)])
-        expect((status, b"", errors), 0, b"", b"")
-        *_, of_links, links_by_malloc, of_text, text_by_malloc = map(int, output.split()[1:])
-        for least, peak in [(of_links, links_by_malloc), (of_text, text_by_malloc)]:
-            if not 0 < 2 * least <= 3 * peak:
-                raise AssertionError(f"{output.decode().strip()}: {least} bytes are more than 1.5 times {peak}")
+    for graph in [("grid", 10_000, 0), ("drawn", 1000, 20_000)]:
+        for found, peak in least(room, *graph):
+            if not 0 < 2 * found <= 3 * peak:
+                raise AssertionError(f"{graph}: {found} bytes are more than 1.5 times {peak}")
+
+
+@case
+def the_most_memory_that_lists_and_texts_need(room):
+    """What the header calls enough is enough for these, and little more than they need."""
+    link, vertex, more, byte = (int(it.split("=")[1]) for it in enough())
+    for arcs in (1_025, 16_385, 65_537):
+        _, (of_text, _) = least(room, "pair", 9, arcs)
+        length = len(f"p sp 9 {arcs}\n") + 8 * arcs
+        expect((arcs, 10 * of_text >= 9 * byte * length, b""), arcs, True, b"")
+    for vertices, arcs, tenths in [(60_000, 80_004, 98), (30_000, 60_000, 97)]:
+        (of_list, _), _ = least(room, "late", vertices, arcs)
+        expect((arcs, 100 * of_list >= tenths * (link * arcs + vertex * vertices), b""), arcs, True, b"")
+    # just past, and just at, where a list and a text double; and numbers that part after part leaves apart
+    for graph in [("ring", 23_740, 189_917), ("path", 16_386, 16_385), ("star", 16_384, 16_383), ("drawn", 90_000, 65_537), ("pair", 9, 16_384)]:
+        least(room, *graph)
 
 
 @case
