@@ -37,20 +37,26 @@ def shown(language, block):
     return [(f"{command}\n", output) for command, _, output in commands]
 
 
-def expect_shown(room, blocks):
-    """Runs each command of the blocks, in their order, in a copy of the repository's top that has the examples alone."""
-    if not os.path.isdir(f"{room}/bin"):
+def pasted(room, command):
+    """What a command of a page does in a copy of the repository's top that has the examples alone: its status, and what it
+    writes to either stream."""
+    if not os.path.isdir(f"{room}/examples"):
         shutil.copytree(f"{ROOT}/examples", f"{room}/examples")
-        os.mkdir(f"{room}/bin")
+        os.makedirs(f"{room}/bin", exist_ok=True)
         os.symlink(Program.path, f"{room}/bin/boruvka")
     env = {**os.environ, "PATH": f"{room}/bin:{os.environ['PATH']}", "LC_ALL": "C"}
+    ended = subprocess.run(["sh", "-c", command], cwd=room, env=env, stdin=subprocess.DEVNULL, stdout=subprocess.PIPE, stderr=subprocess.STDOUT, timeout=SECONDS)
+    return ended.returncode, ended.stdout.decode()
+
+
+def expect_shown(room, blocks):
+    """Runs each command of the blocks, in their order."""
     count = 0
     for language, block in blocks:
         for command, output in shown(language, block):
             if command.startswith("dot ") and not shutil.which("dot"):
                 continue
-            ended = subprocess.run(["sh", "-c", command], cwd=room, env=env, stdin=subprocess.DEVNULL, stdout=subprocess.PIPE, stderr=subprocess.STDOUT, timeout=SECONDS)
-            found = ended.returncode, ended.stdout.decode()
+            found = pasted(room, command)
             if found != (0, output):
                 raise AssertionError(f"{command}    wanted {(0, output)!r}\n    found  {found!r:.900}")
             count += 1
@@ -64,25 +70,36 @@ def the_first_screen_of_the_readme(room):
         raise AssertionError(f"{count} commands were found")
 
 
+def awk_rooms(room):
+    """A folder for each awk that is there, in which it goes by that name."""
+    found = {it: shutil.which(it) for it in ("mawk", "gawk", "original-awk", "busybox")}
+    for name, path in found.items():
+        if path:
+            os.makedirs(f"{room}/{name}/bin")
+            os.symlink(path, f"{room}/{name}/bin/awk")
+    return [f"{room}/{name}" for name, path in found.items() if path] or [f"{room}/awk"]
+
+
 @case
 def the_recipes(room):
     *blocks, last = blocks_of("docs/RECIPES.md")
-    count = expect_shown(room, blocks)
-    if count < 20:
-        raise AssertionError(f"only {count} commands were found")
-    if shutil.which("dot"):
-        with open(f"{room}/roads.svg", encoding="utf-8") as it:
-            drawn = it.read()
-        # ten villages and thirteen roads, as in the picture of docs/
-        for picture in [drawn, text_of("docs/roads.svg")]:
-            counts = picture.count('class="node"'), picture.count('class="edge"'), picture.count('stroke-width="3"')
-            if counts != (10, 13, 8):
-                raise AssertionError(f"villages, roads and roads of the forest: {counts}")
-    # the last block takes away whatever the others left
-    expect_shown(room, [last])
-    left = sorted(os.listdir(room)), sorted(os.listdir(f"{room}/examples"))
-    if left != (["bin", "examples"], sorted(os.listdir(f"{ROOT}/examples"))):
-        raise AssertionError(f"the recipes leave {left}")
+    for room in awk_rooms(room):
+        count = expect_shown(room, blocks)
+        if count < 20:
+            raise AssertionError(f"only {count} commands were found")
+        if shutil.which("dot"):
+            with open(f"{room}/roads.svg", encoding="utf-8") as it:
+                drawn = it.read()
+            # ten villages and thirteen roads, as in the picture of docs/
+            for picture in [drawn, text_of("docs/roads.svg")]:
+                counts = picture.count('class="node"'), picture.count('class="edge"'), picture.count('stroke-width="3"')
+                if counts != (10, 13, 8):
+                    raise AssertionError(f"villages, roads and roads of the forest: {counts}")
+        # the last block takes away whatever the others left
+        expect_shown(room, [last])
+        left = sorted(os.listdir(room)), sorted(os.listdir(f"{room}/examples"))
+        if left != (["bin", "examples"], sorted(os.listdir(f"{ROOT}/examples"))):
+            raise AssertionError(f"the recipes leave {left}")
 
 
 @case
