@@ -56,14 +56,19 @@ def drawn_graphs(_room):
         Report(errors).expect_total(text)
 
 
+def expect_of_all_modes(file, text):
+    """By one thread and over workers the program gives this text for the file, with its total, and no worker is lost."""
+    for words, workers in [(["--plain"], 0), ([], 2), (["--workers", "3", "--shards", "5"], 3), (["--workers", "0", "--shards", "3"], 0)]:
+        status, output, errors = ran([*words, "--report"], file)
+        expect((status, output, b""), 0, text, b"")
+        Report(errors).expect_total(text)
+        Report(errors).expect_no_worker_lost(workers)
+
+
 @case
 def weights_of_64_bits(_room):
     for seed, most in [(11, 2**31), (12, 2**33), (13, 2**63 - 1)]:
-        file, text = drawn_graph(seed, 700, 6000, most)
-        for words in [["--plain"], [], ["--workers", "3", "--shards", "5"], ["--workers", "0", "--shards", "3"]]:
-            status, output, errors = ran([*words, "--report"], file)
-            expect((status, output, b""), 0, text, b"")
-            Report(errors).expect_total(text)
+        expect_of_all_modes(*drawn_graph(seed, 700, 6000, most))
 
 
 @case
@@ -73,11 +78,7 @@ def weights_at_the_limits(_room):
     for seed, some in [(14, weights), (15, weights[:1] + weights[-1:]), (16, weights[-1:]), (17, weights[:1])]:
         draw = random.Random(seed)
         rows = [(draw.randint(1, 300), draw.randint(1, 300), draw.choice(some)) for _ in range(1500)]
-        file, text = file_of(300, rows), forest_text(300, forest_of(300, rows))
-        for words in [["--plain"], [], ["--workers", "3", "--shards", "5"], ["--workers", "0", "--shards", "3"]]:
-            status, output, errors = ran([*words, "--report"], file)
-            expect((status, output, b""), 0, text, b"")
-            Report(errors).expect_total(text)
+        expect_of_all_modes(file_of(300, rows), forest_text(300, forest_of(300, rows)))
 
 
 @case
@@ -100,6 +101,7 @@ def expect_total_of_a_million(room, vertices, rows, links):
         report = Report(errors)
         if (report.vertices, report.links, report.total) != (vertices, 1_000_000, total):
             raise AssertionError(f"{words}: {vertices} vertices, 1,000,000 links and a total of {total}: {vars(report)}")
+        report.expect_no_worker_lost(2)
 
 
 @case
