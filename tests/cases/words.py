@@ -200,6 +200,22 @@ def the_help_beside_other_words(_room):
 @case
 def a_word_that_is_not_utf_8(_room):
     expect(ran([b"--plain", b"\xff.gr"], SMALL_NET), 2, b"", b"boruvka: a word is not UTF-8\n")
+    for before in [9, 10, 99, 1000]:
+        expect(ran([*["--"] * before, b"\xff.gr"], SMALL_NET), 2, b"", b"boruvka: a word is not UTF-8\n")
+
+
+@case
+def as_many_words_as_there_are_options(room):
+    # with the program's name FILE is the tenth word or the eleventh, and what stands behind it isn't lost either
+    written(f"{room}/net.gr", SMALL_NET)
+    numbers = ["--threads", "2", "--workers", "3", "--shards", "4", "--plain", "--report"]
+    for before in [[], ["--"]]:
+        expect(ran([*numbers, *before, "net.gr"], b"p sp 0 0\n", cwd=room), 0, SMALL_FOREST, SMALL_REPORT)
+    unexpected = b"error: unexpected argument '%s' found\n\nUsage: boruvka [OPTIONS] [FILE]\n\nFor more information, try '--help'.\n"
+    for more in [["b.gr"], ["--", "b.gr"]]:
+        expect(ran([*numbers, "net.gr", *more], cwd=room), 2, b"", unexpected % b"b.gr")
+    status, output, errors = ran([*numbers, "net.gr", "--help"], cwd=room)
+    expect((status, output, errors), 0, ran(["--help"])[1], b"")
 
 
 # A FILE that isn't there
