@@ -33,6 +33,29 @@ def a_file_by_its_name(room):
 
 
 @case
+def the_file_that_is_named_and_none_beside_it(room):
+    # the names begin or end alike, or differ by a case, a space, a dot or a folder. First each is a graph of its own, and
+    # then all but the one that is named are pipes, which nobody writes to: whoever opens one waits
+    names = ["net.gr", "net.gr2", "net.g", "et.gr", "net", "Net.gr", "net.gr ", " net.gr", ".net.gr", "-", "-net.gr", "n\u00e9t.gr"]
+    names += [f"{folder}/{name}" for folder in ["sub", "net.gr.d"] for name in ["net.gr", "net", "-"]]
+    for place in range(len(names) + 1):
+        os.makedirs(f"{room}/{place}/sub")
+        os.makedirs(f"{room}/{place}/net.gr.d")
+        for weight, name in enumerate(names):
+            if place in (weight, len(names)):
+                written(f"{room}/{place}/{name}", b"p sp 2 1\na 1 2 %d\n" % weight)
+            else:
+                os.mkfifo(f"{room}/{place}/{name}")
+    for weight, name in enumerate(names):
+        for place in [weight, len(names)]:
+            for spelled in [name, f"./{name}", f"sub/../{name}", f"{room}/{place}/{name}"]:
+                if spelled != "-":
+                    found = ran(["--plain", "--", spelled], b"p sp 0 0\n", cwd=f"{room}/{place}", seconds=10)
+                    expect(found, 0, b"p sp 2 1\na 1 2 %d\n" % weight, b"")
+    expect(ran(["net.gr"], b"p sp 0 0\n", cwd=f"{room}/0", seconds=10), 0, b"p sp 2 1\na 1 2 0\n", b"")
+
+
+@case
 def the_report_of_a_file(room):
     written(f"{room}/net.gr", SMALL_NET)
     expect(ran(["--plain", "--report", "net.gr"], cwd=room), 0, SMALL_FOREST, SMALL_REPORT)
