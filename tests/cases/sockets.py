@@ -3,7 +3,7 @@ report tells it. What one failed call costs is in calls.py."""
 import sys
 from errno import EAGAIN, ECONNRESET, EINTR, ETIMEDOUT
 
-from cases.running import SMALL_FOREST, SMALL_NET, Program, Report, case, drawn_graph, expect, told_by
+from cases.running import NOTHING_WRITTEN, SMALL_FOREST, SMALL_NET, Program, Report, case, drawn_graph, expect, told_by
 from cases.workers import over
 
 WORKERS, SHARDS = 2, 4
@@ -137,13 +137,19 @@ def nobody_else_is_listened_to(room):
 @case
 def no_thread_outlives_the_program(room):
     # a `j` is told for each thread that was joined: those of the workers, and more where they are asked
+    file, text = drawn_graph(17, 6000, 12_000)
     ends = [
-        (SMALL_NET, (0, SMALL_FOREST, b"")),
-        (b"p sp 2 2\na 1 2 5\n", (1, b"", b"boruvka: line 3: MissingArcs\n")),
+        (SMALL_NET, {}, (0, SMALL_FOREST, b"")),
+        (b"p sp 2 2\na 1 2 5\n", {}, (1, b"", b"boruvka: line 3: MissingArcs\n")),
+        (SMALL_NET, {"FAIL_CALL": "read"}, (3, b"", b"boruvka: line 1: read failed\n")),
+        (SMALL_NET, {"FAIL_CALL": "write"}, (3, b"", NOTHING_WRITTEN)),
+        (file, {"FAIL_CALL": "write"}, (3, b"", NOTHING_WRITTEN)),
+        (SMALL_NET, {"OFFERS": "0"}, (5, b"", b"boruvka: link 1 2 17 was missed\n")),
     ]
-    for source, wanted in ends:
-        found, told = told_by(room, [Program.path, *over(WORKERS, SHARDS)], source, {"JOINED": "1"}, seconds=20)
-        if found != wanted or told.strip(b"j") or len(told) < WORKERS:
+    for source, how, wanted in ends:
+        environment = {"JOINED": "1", "FAIL_NUMBER": "1", **how}
+        found, told = told_by(room, [Program.path, *over(WORKERS, SHARDS)], source, environment, seconds=20)
+        if found != wanted or told.strip(b"xj") or told.count(b"j") < WORKERS:
             raise AssertionError(f"wanted {wanted!r}, and each thread joined: found {found!r:.600}, told {told!r}")
 
 
