@@ -154,6 +154,19 @@ def no_thread_outlives_the_program(room):
 
 
 @case
+def answers_that_make_no_forest(room):
+    # answers without offers miss the first link; by one offer an answer two rounds, the most of six vertices, aren't enough
+    for offers, sizes, why in [
+        ("0", [(1, 1), (1, 3), (2, 4), (64, 64)], b"link 1 2 17 was missed"),
+        ("1", [(1, 1)], b"round 3 is past the bound"),
+    ]:
+        for size in sizes:
+            found, told = told_by(room, [Program.path, *over(*size), "--report"], SMALL_NET, {"OFFERS": offers}, seconds=20)
+            expect(found, 5, b"", b"boruvka: " + why + b"\n")
+            expect((told, b"", b""), b"", b"", b"")
+
+
+@case
 def sockets_that_give_and_take_a_byte_at_a_time(room):
     report, _ = failed_from(room, SMALL_NET, SMALL_FOREST, "none", 1, {"SHORT": "1"})
     if (report.answered, report.closed) != (3 * SHARDS, 0):
