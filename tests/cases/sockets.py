@@ -167,6 +167,16 @@ def answers_that_make_no_forest(room):
 
 
 @case
+def one_of_sixty_four_workers_that_is_left_out(room):
+    # no connection can be made to it, or its thread doesn't start
+    for call in ["thread", "listen", "connect", "accept"]:
+        for number in [1, 2, 33, 63, 64]:
+            report, failed = failed_from(room, SMALL_NET, SMALL_FOREST, call, number, {}, workers=64)
+            if (failed, report.alone, report.closed) != (1, 0, 0):
+                raise AssertionError(f"{call} {number}: {failed} calls failed: {vars(report)}")
+
+
+@case
 def sockets_that_give_and_take_a_byte_at_a_time(room):
     report, _ = failed_from(room, SMALL_NET, SMALL_FOREST, "none", 1, {"SHORT": "1"})
     if (report.answered, report.closed) != (3 * SHARDS, 0):
