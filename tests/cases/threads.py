@@ -82,6 +82,24 @@ def the_threads_that_are_asked_for(room):
 
 
 @case
+def a_long_file_by_threads_takes_no_more_memory(room):
+    # loops are no links, so that by one thread the file's length takes none; the room in which threads read takes 12 MiB
+    count = 2**23
+    name = f"{room}/loops.gr"
+    with open(name, "wb") as it:
+        it.write(b"p sp 1 %d\n" % count)
+        for _ in range(8):
+            it.write(b"a 1 1 5\n" * (count // 8))
+    peaks = {}
+    for threads in [1, 2, 4]:
+        found, peak = told_by(room, [Program.path, *by(threads), name], b"", {"PEAK": "1"})
+        expect(found, 0, b"p sp 1 0\n", b"")
+        peaks[threads] = int(peak) << 10
+    if peaks[1] > 4 << 20 or not all(8 << 20 < peaks[it] - peaks[1] < 14 << 20 for it in [2, 4]):
+        raise AssertionError(f"bytes by so many threads: {peaks}")
+
+
+@case
 def a_file_that_grows_no_further_by_threads(room):
     name, text = large_net(room)
 
