@@ -9,8 +9,11 @@
  * one of a socket fails and leaves it open.
  * A listen under the name "stranger" passes, but somebody else then connects first. A poll under the name "hangup"
  * passes and tells that the connection has ended, though its socket names no error; under the name "getsockopt" it does
- * too, and then the call fails that asks for the error.
- * For each call that fails an 'x' goes to the descriptor TOLD. With SHORT each recv, read and send is of one byte.
+ * too, and then the call fails that asks for the error. A connect under the name "namesake" passes, but somebody else
+ * connects first, from another address of this machine and the same port.
+ * For each call that fails an 'x' goes to the descriptor TOLD. With SHORT each recv, read and send is of one byte, and with
+ * WHOLE each recv waits until all that it asks for is there. With OFFERS each answer that is sent whole goes out with no
+ * more of its first offers than so many, 0 or 1.
  * With PROCESSORS the program is told that it may run on so many, at most 64, whatever a cgroup grants.
  * With COUNTED an 'R' goes there for each read that asks for 64 KiB, an 'r' for each other, and a 'w' for each write.
  * Where a socket listens on more than the loopback address, an 'A' goes there.
@@ -18,7 +21,7 @@
  * that was. STARTED is how many of the threads that the first one starts are workers, as its first ones are: a 'w' goes
  * there for each thread that one of them started, or one that it started, an 's' for each other thread that is started,
  * and at the end an 'a' for each of those that weren't joined yet at once, at the most. With GREETED an 'H' for each send
- * of a hello.
+ * of a hello. With PEAK the digits of how many KiB of memory the program had at the most.
  * Where words for the user (a forest, a report, a fault) are written to a socket, or a socket is read as a file, a
  * 'T' goes to TOLD. It takes no memory itself. */
 #define _GNU_SOURCE
@@ -44,7 +47,8 @@
 static const char *chosen = "";
 static unsigned long first, last, chosen_error;
 static atomic_ulong counted, started, joined, most_unjoined;
-static int told = -1, is_short, is_counted, tells_started, tells_hellos, processors;
+static unsigned long most_offers;
+static int told = -1, is_short, is_whole, is_counted, tells_started, tells_hellos, processors;
 static _Thread_local int is_hung_up;
 
 /* a thread that was started: what it runs, and the number of the thread of the first one's that it comes from, from 1 */
@@ -70,6 +74,8 @@ __attribute__((constructor)) static void begin(void) {
     first = number("FAIL_NUMBER", 0);
     last = number("FAIL_LAST", first);
     is_short = getenv("SHORT") != 0;
+    is_whole = getenv("WHOLE") != 0;
+    most_offers = number("OFFERS", (unsigned long)-1);
     is_counted = getenv("COUNTED") != 0;
     tells_started = getenv("STARTED") != 0;
     workers = number("STARTED", 0);
@@ -224,7 +230,24 @@ int setsockopt(int fd, int level, int option, const void *value, socklen_t size)
     return fails(name, ENOBUFS) ? -1 : REAL(setsockopt)(fd, level, option, value, size);
 }
 
+/* gives a socket a port, and connects from that port of another address before it */
+static void overtake(int fd, const struct sockaddr *name, socklen_t size) {
+    struct sockaddr_in own = {.sin_family = AF_INET, .sin_addr.s_addr = htonl(INADDR_LOOPBACK)};
+    socklen_t room = sizeof own;
+    int stranger = REAL(socket)(AF_INET, SOCK_STREAM | SOCK_CLOEXEC, 0);
+    if (stranger < 0 || REAL(bind)(fd, (struct sockaddr *)&own, room) || REAL(getsockname)(fd, (struct sockaddr *)&own, &room)) {
+        REAL(_exit)(98);
+    }
+    own.sin_addr.s_addr = htonl(INADDR_LOOPBACK + 1);
+    if (REAL(bind)(stranger, (struct sockaddr *)&own, room) || REAL(connect)(stranger, name, size)) {
+        REAL(_exit)(98);
+    }
+}
+
 int connect(int fd, const struct sockaddr *name, socklen_t size) {
+    if (fails("namesake", 0)) {
+        overtake(fd, name, size);
+    }
     return fails("connect", ECONNREFUSED) ? -1 : REAL(connect)(fd, name, size);
 }
 
@@ -239,13 +262,38 @@ int accept4(int fd, struct sockaddr *name, socklen_t *size, int flags) {
 int shutdown(int fd, int how) { return fails("shutdown", ENOTCONN) ? -1 : REAL(shutdown)(fd, how); }
 
 ssize_t recv(int fd, void *into, size_t count, int flags) {
-    return fails("recv", ECONNRESET) ? failed() : REAL(recv)(fd, into, at_most(count), flags);
+    return fails("recv", ECONNRESET) ? failed() : REAL(recv)(fd, into, at_most(count), is_whole ? flags | MSG_WAITALL : flags);
+}
+
+/* where an answer's fields are */
+enum { HEAD = 5, OFFERS = 17, OFFER = 8 };
+
+static size_t field(const unsigned char *at) {
+    return (size_t)at[0] << 24 | (size_t)at[1] << 16 | (size_t)at[2] << 8 | at[3];
+}
+
+/* whether these bytes are an answer, whole and with too many offers */
+static int is_too_long(const unsigned char *bytes, size_t count) {
+    return count >= OFFERS && bytes[0] == 4 && field(bytes + 1) == count - HEAD && field(bytes + OFFERS - 4) > most_offers;
+}
+
+/* it goes out shorter, and counts as sent */
+static ssize_t send_shorter(int fd, const unsigned char *bytes, size_t count, int flags) {
+    unsigned char answer[OFFERS + OFFER];
+    size_t size = OFFERS + OFFER * most_offers;
+    memcpy(answer, bytes, size);
+    memcpy(answer + 1, (unsigned char[]){0, 0, 0, (unsigned char)(size - HEAD)}, 4);
+    memcpy(answer + OFFERS - 4, (unsigned char[]){0, 0, 0, (unsigned char)most_offers}, 4);
+    return REAL(send)(fd, answer, size, flags) == (ssize_t)size ? (ssize_t)count : -1;
 }
 
 ssize_t send(int fd, const void *bytes, size_t count, int flags) {
     look(fd, bytes, count);
     if (tells_hellos && count >= 5 && !memcmp(bytes, "\1\0\0\0\6", 5)) {
         tell("H");
+    }
+    if (is_too_long(bytes, count)) {
+        return send_shorter(fd, bytes, count, flags);
     }
     return fails("send", ECONNRESET) ? failed() : REAL(send)(fd, bytes, at_most(count), flags);
 }
@@ -337,6 +385,16 @@ int pthread_join(pthread_t which, void **answered) {
     return answer;
 }
 
+static void tell_peak(void) {
+    static char status[1 << 13];
+    int fd = REAL(open)("/proc/self/status", O_RDONLY);
+    const char *at = REAL(read)(fd, status, sizeof status - 1) > 0 ? strstr(status, "VmHWM:") : 0;
+    at = at ? at + strcspn(at, "0123456789") : "";
+    if (REAL(write)(told, at, strspn(at, "0123456789")) < 1) {
+        REAL(_exit)(96);
+    }
+}
+
 static void tell_threads(void) {
     for (unsigned long at = 0; getenv("JOINED") && at < joined; at++) {
         tell("j");
@@ -352,6 +410,9 @@ static void tell_threads(void) {
 /* the program ends so, and neither by exit nor by a return to the C library */
 void _exit(int status) {
     tell_threads();
+    if (getenv("PEAK")) {
+        tell_peak();
+    }
     REAL(_exit)(status);
     __builtin_unreachable();
 }

@@ -3,6 +3,7 @@
 A place is the number of a call among those of its name in one run. A failed call may cost what the manual page says
 of it: FILE or a stream a status and a line, a worker nothing but that worker, and a close nothing.
 """
+import itertools
 import re
 from errno import EAGAIN, ECONNRESET, EINPROGRESS, EINTR, EIO, EMFILE, ENOMEM, ENOSPC, EPIPE, ETIMEDOUT, errorcode
 
@@ -136,18 +137,17 @@ def each_call_that_makes_a_worker_fails_by_each_error(room):
 
 @case
 def a_pair_is_tried_again_after_up_to_four_strangers(room):
-    # somebody else connects first to so many listeners in turn
+    # somebody else connects first to so many listeners in turn, also by the very port of the one who is due
     for file, text in graphs():
-        for size in OVER_WORKERS:
+        for size, strangers, call in itertools.product(OVER_WORKERS, [1, 4, 5], ["stranger", "namesake"]):
             command = [Program.path, *words_for(size), "--report"]
-            for strangers in [1, 4, 5]:
-                runs = each_place(room, command, file, "stranger", [0], strangers)
-                expect_places(runs, size[0])
-                for run in runs[:-1]:
-                    if run.failed != strangers:
-                        raise AssertionError(f"{run.what}: {run.failed} strangers connected, and not {strangers}")
-                    run.expect_workers(text, size, size[0] - (strangers > 4))
-                runs[-1].expect_workers(text, size, size[0])
+            runs = each_place(room, command, file, call, [0], strangers)
+            expect_places(runs, size[0])
+            for run in runs[:-1]:
+                if run.failed != strangers:
+                    raise AssertionError(f"{run.what}: {run.failed} strangers connected, and not {strangers}")
+                run.expect_workers(text, size, size[0] - (strangers > 4))
+            runs[-1].expect_workers(text, size, size[0])
 
 
 @case

@@ -2,6 +2,7 @@
 shows; README's call of a library; what the manual page, the promises and the map name; how long pages and their parts are."""
 import glob
 import os
+import random
 import re
 import shutil
 import struct
@@ -9,7 +10,7 @@ import subprocess
 import sys
 
 from cases.embedding import libraries
-from cases.running import ROOT, SECONDS, Components, Program, case, expect, ran, run
+from cases.running import ROOT, SECONDS, Components, Program, case, expect, forest_of, ran, run
 
 sys.path.insert(0, f"{ROOT}/tools")
 
@@ -21,9 +22,12 @@ def text_of(name):
         return it.read()
 
 
-def blocks_of(name):
-    """The fenced blocks of a page, each with its language."""
-    return re.findall(r"^```(\w*)\n(.*?)^```$", text_of(name), re.M | re.S)
+def blocks_of(name, heading=""):
+    """The fenced blocks of a page, or of the part of it below a heading, each with its language."""
+    text = text_of(name)
+    if heading:
+        text = text.split(f"\n## {heading}\n")[1].split("\n## ")[0]
+    return re.findall(r"^```(\w*)\n(.*?)^```$", text, re.M | re.S)
 
 
 def shown(language, block):
@@ -37,20 +41,26 @@ def shown(language, block):
     return [(f"{command}\n", output) for command, _, output in commands]
 
 
-def expect_shown(room, blocks):
-    """Runs each command of the blocks, in their order, in a copy of the repository's top that has the examples alone."""
-    if not os.path.isdir(f"{room}/bin"):
+def pasted(room, command):
+    """What a command of a page does in a copy of the repository's top that has the examples alone: its status, and what it
+    writes to either stream."""
+    if not os.path.isdir(f"{room}/examples"):
         shutil.copytree(f"{ROOT}/examples", f"{room}/examples")
-        os.mkdir(f"{room}/bin")
+        os.makedirs(f"{room}/bin", exist_ok=True)
         os.symlink(Program.path, f"{room}/bin/boruvka")
     env = {**os.environ, "PATH": f"{room}/bin:{os.environ['PATH']}", "LC_ALL": "C"}
+    ended = subprocess.run(["sh", "-c", command], cwd=room, env=env, stdin=subprocess.DEVNULL, stdout=subprocess.PIPE, stderr=subprocess.STDOUT, timeout=SECONDS)
+    return ended.returncode, ended.stdout.decode()
+
+
+def expect_shown(room, blocks):
+    """Runs each command of the blocks, in their order."""
     count = 0
     for language, block in blocks:
         for command, output in shown(language, block):
             if command.startswith("dot ") and not shutil.which("dot"):
                 continue
-            ended = subprocess.run(["sh", "-c", command], cwd=room, env=env, stdin=subprocess.DEVNULL, stdout=subprocess.PIPE, stderr=subprocess.STDOUT, timeout=SECONDS)
-            found = ended.returncode, ended.stdout.decode()
+            found = pasted(room, command)
             if found != (0, output):
                 raise AssertionError(f"{command}    wanted {(0, output)!r}\n    found  {found!r:.900}")
             count += 1
@@ -64,25 +74,133 @@ def the_first_screen_of_the_readme(room):
         raise AssertionError(f"{count} commands were found")
 
 
+def awk_rooms(room):
+    """A folder for each awk that is there, in which it goes by that name."""
+    found = {it: shutil.which(it) for it in ("mawk", "gawk", "original-awk", "busybox")}
+    for name, path in found.items():
+        if path:
+            os.makedirs(f"{room}/{name}/bin")
+            os.symlink(path, f"{room}/{name}/bin/awk")
+    return [f"{room}/{name}" for name, path in found.items() if path] or [f"{room}/awk"]
+
+
 @case
 def the_recipes(room):
     *blocks, last = blocks_of("docs/RECIPES.md")
-    count = expect_shown(room, blocks)
-    if count < 20:
-        raise AssertionError(f"only {count} commands were found")
-    if shutil.which("dot"):
-        with open(f"{room}/roads.svg", encoding="utf-8") as it:
-            drawn = it.read()
-        # ten villages and thirteen roads, as in the picture of docs/
-        for picture in [drawn, text_of("docs/roads.svg")]:
-            counts = picture.count('class="node"'), picture.count('class="edge"'), picture.count('stroke-width="3"')
-            if counts != (10, 13, 8):
-                raise AssertionError(f"villages, roads and roads of the forest: {counts}")
-    # the last block takes away whatever the others left
-    expect_shown(room, [last])
-    left = sorted(os.listdir(room)), sorted(os.listdir(f"{room}/examples"))
-    if left != (["bin", "examples"], sorted(os.listdir(f"{ROOT}/examples"))):
-        raise AssertionError(f"the recipes leave {left}")
+    for room in awk_rooms(room):
+        count = expect_shown(room, blocks)
+        if count < 25:
+            raise AssertionError(f"only {count} commands were found")
+        if shutil.which("dot"):
+            with open(f"{room}/roads.svg", encoding="utf-8") as it:
+                drawn = it.read()
+            # ten villages and thirteen roads, as in the picture of docs/
+            for picture in [drawn, text_of("docs/roads.svg")]:
+                counts = picture.count('class="node"'), picture.count('class="edge"'), picture.count('stroke-width="3"')
+                if counts != (10, 13, 8):
+                    raise AssertionError(f"villages, roads and roads of the forest: {counts}")
+        # the last block takes away whatever the others left
+        expect_shown(room, [last])
+        left = sorted(os.listdir(room)), sorted(os.listdir(f"{room}/examples"))
+        if left != (["bin", "examples"], sorted(os.listdir(f"{ROOT}/examples"))):
+            raise AssertionError(f"the recipes leave {left}")
+
+
+def recipe(room, *headings):
+    """Makes the files of these recipes, and answers the commands of the last that show something."""
+    commands = [it for heading in headings for language, block in blocks_of("docs/RECIPES.md", heading) for it in shown(language, block)]
+    for command, output in commands:
+        if pasted(room, command) != (0, output):
+            raise AssertionError(command)
+    return [command for command, output in commands if output]
+
+
+def expect_refused(room, command, name, rows, line, told):
+    """With these lines in its file the command fails, and tells just the line's number, the line, and why."""
+    with open(f"{room}/{name}", "w", encoding="utf-8", newline="") as it:
+        it.write("\n".join([*rows, ""]))
+    status, output = pasted(room, command)
+    if not status or not re.fullmatch(rf"line {line}: {re.escape(told)}: [^\n]+\n", output):
+        raise AssertionError(f"{command}    {rows}\n    wanted line {line}, found {(status, output)!r:.900}")
+
+
+@case
+def weights_that_the_recipes_refuse(room):
+    wrong = ["1,9", "x7", "7x", "", "0.755", "1e3", "nan", "0x1F", "-", ".", "1.", ".5", "+1", "1.2.3", "--1", "1 2", "1.-5", "\u0661"]
+    for room in awk_rooms(room):
+        [decimals] = recipe(room, "Decimal weights")
+        plain, quoted = recipe(room, "A CSV with ids")
+        for weight in wrong:
+            arc, row = f"a 1 3 {weight}", f"p9,Old Mill,Gate,{weight}"
+            expect_refused(room, decimals, "decimals.gr", ["p sp 3 2", "a 1 2 0.75", arc], 3, arc)
+            expect_refused(room, plain, "pipes.csv", ["id,from,to,metres", "p1,Old Mill,Gate,0.75", row], 3, row)
+            row = f'p9,"Old Mill",Gate,"{weight}"'
+            expect_refused(room, quoted, "quoted.csv", ["id,from,to,metres", row], 2, f"p9\tOld Mill\tGate\t{weight}")
+
+
+@case
+def lines_that_the_recipe_of_a_csv_refuses(room):
+    head = "id,from,to,metres"
+    for room in awk_rooms(room):
+        recipe(room, "Decimal weights")
+        plain, quoted = recipe(room, "A CSV with ids")
+        for rows, line in [
+            (["p1,Old Mill,Gate,1"], 1),
+            ([head, "p1,Old Mill,Gate,1", "p2,Old Mill,,1"], 3),
+            ([head, "p1,,Gate,1"], 2),
+            ([head, "p1,Old Mill,Gate"], 2),
+            ([head, "p1,Old Mill,Gate,1,2"], 2),
+            ([head, "p1,Old Mill,Gate,1", ""], 3),
+            ([head, 'p1,"Old Mill",Gate,1'], 2),
+            ([head, 'p1,"Mill, old",Gate,1'], 2),
+            (["id;from;to;metres", "p1;Old Mill;Gate;1"], 1),
+        ]:
+            expect_refused(room, plain, "pipes.csv", rows, line, rows[line - 1])
+        for row in ['p1,"Old\tMill",Gate,1', 'p1,"Old\nMill",Gate,1', 'p1,"Old\r\nMill",Gate,1']:
+            fields = str(["p1", row.split('"')[1], "Gate", "1"])
+            expect_refused(room, quoted, "quoted.csv", [head, row], 2, fields)
+        for row in ['p1,"Old Mill,Gate,1', 'p1,"Old" Mill,Gate,1']:
+            with open(f"{room}/quoted.csv", "w", encoding="utf-8") as it:
+                it.write(f"{head}\n{row}\n")
+            status, output = pasted(room, quoted)
+            if not status or not output.splitlines()[-1].startswith("_csv.Error: "):
+                raise AssertionError(f"{row}: {(status, output)!r:.900}")
+
+
+@case
+def decimals_that_no_float_tells_apart(room):
+    weights = ["90071992547409.93", "90071992547409.92", "-0.01", "-0.00", "0.010", "-92233720368547758.08", "92233720368547758.07"]
+    for room in awk_rooms(room):
+        [command] = recipe(room, "Decimal weights")
+        with open(f"{room}/decimals.gr", "w", encoding="utf-8", newline="") as it:
+            it.write("p sp 5 6\r\n" + "".join(f"a {u} {v} {weights[w]}\r\n" for u, v, w in [(1, 2, 0), (2, 1, 1), (2, 3, 5), (3, 4, 6), (4, 5, 3), (5, 4, 2)]))
+        wanted = "p sp 5 4\na 2 3 -92233720368547758.08\na 4 5 -0.01\na 1 2 90071992547409.92\na 3 4 92233720368547758.07\n"
+        if pasted(room, command) != (0, wanted):
+            raise AssertionError(f"wanted {wanted}\n    found  {pasted(room, command)}")
+        # past 64 bits it is the program that refuses, and tells the same line
+        with open(f"{room}/decimals.gr", "w", encoding="utf-8") as it:
+            it.write("c a line more\np sp 2 1\na 1 2 92233720368547758.08\n")
+        if pasted(room, command) != (1, "boruvka: line 3: WeightOutOfRange\n"):
+            raise AssertionError(pasted(room, command))
+
+
+@case
+def the_ids_of_a_drawn_csv(room):
+    # no two lengths are equal, so that the forest is the same however names are numbered
+    draw = random.Random(79)
+    lengths = draw.sample(range(100_000), 900)
+    links = [(draw.randint(1, 200), draw.randint(1, 200), length) for length in lengths]
+    name = [f"{draw.choice(['New', 'Old', 'Upper'])} Town {it}" for it in range(201)]
+    rows = [f"id {at},{name[u]},{name[v]},{length // 100}.{length % 100:02}" for at, (u, v, length) in enumerate(links)]
+    id_of = {length: f"id {at}" for at, (_, _, length) in enumerate(links)}
+    wanted = "".join(f"{id_of[length]}\n" for length, _, _ in forest_of(200, links))
+    for room in awk_rooms(room):
+        recipe(room, "Decimal weights")
+        command = recipe(room, "A CSV with ids")[0]
+        with open(f"{room}/pipes.csv", "w", encoding="utf-8", newline="") as it:
+            it.write("\r\n".join(["\ufeffid,from,to,km", *rows, ""]))
+        if pasted(room, command) != (0, wanted):
+            raise AssertionError(f"wanted {wanted!r:.300}, found {pasted(room, command)!r:.900}")
 
 
 @case

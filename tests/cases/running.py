@@ -162,6 +162,11 @@ class Report:
             if not holds:
                 raise AssertionError(f"not so: {name}: {vars(self)}")
 
+    def expect_no_worker_lost(self, workers):
+        """No line was closed, and beside workers no shard was scanned alone: a right forest doesn't show that."""
+        if self.closed or workers and self.alone:
+            raise AssertionError(f"{workers} workers: one was lost: {vars(self)}")
+
     def expect_total(self, text):
         """It is what the links of this text weigh together."""
         if self.total != total_of(text):

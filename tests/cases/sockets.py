@@ -3,7 +3,7 @@ report tells it. What one failed call costs is in calls.py."""
 import sys
 from errno import EAGAIN, ECONNRESET, EINTR, ETIMEDOUT
 
-from cases.running import SMALL_FOREST, SMALL_NET, Program, Report, case, drawn_graph, expect, told_by
+from cases.running import NOTHING_WRITTEN, SMALL_FOREST, SMALL_NET, Program, Report, case, drawn_graph, expect, told_by
 from cases.workers import over
 
 WORKERS, SHARDS = 2, 4
@@ -137,14 +137,43 @@ def nobody_else_is_listened_to(room):
 @case
 def no_thread_outlives_the_program(room):
     # a `j` is told for each thread that was joined: those of the workers, and more where they are asked
+    file, text = drawn_graph(17, 6000, 12_000)
     ends = [
-        (SMALL_NET, (0, SMALL_FOREST, b"")),
-        (b"p sp 2 2\na 1 2 5\n", (1, b"", b"boruvka: line 3: MissingArcs\n")),
+        (SMALL_NET, {}, (0, SMALL_FOREST, b"")),
+        (b"p sp 2 2\na 1 2 5\n", {}, (1, b"", b"boruvka: line 3: MissingArcs\n")),
+        (SMALL_NET, {"FAIL_CALL": "read"}, (3, b"", b"boruvka: line 1: read failed\n")),
+        (SMALL_NET, {"FAIL_CALL": "write"}, (3, b"", NOTHING_WRITTEN)),
+        (file, {"FAIL_CALL": "write"}, (3, b"", NOTHING_WRITTEN)),
+        (SMALL_NET, {"OFFERS": "0"}, (5, b"", b"boruvka: link 1 2 17 was missed\n")),
     ]
-    for source, wanted in ends:
-        found, told = told_by(room, [Program.path, *over(WORKERS, SHARDS)], source, {"JOINED": "1"}, seconds=20)
-        if found != wanted or told.strip(b"j") or len(told) < WORKERS:
+    for source, how, wanted in ends:
+        environment = {"JOINED": "1", "FAIL_NUMBER": "1", **how}
+        found, told = told_by(room, [Program.path, *over(WORKERS, SHARDS)], source, environment, seconds=20)
+        if found != wanted or told.strip(b"xj") or told.count(b"j") < WORKERS:
             raise AssertionError(f"wanted {wanted!r}, and each thread joined: found {found!r:.600}, told {told!r}")
+
+
+@case
+def answers_that_make_no_forest(room):
+    # answers without offers miss the first link; by one offer an answer two rounds, the most of six vertices, aren't enough
+    for offers, sizes, why in [
+        ("0", [(1, 1), (1, 3), (2, 4), (64, 64)], b"link 1 2 17 was missed"),
+        ("1", [(1, 1)], b"round 3 is past the bound"),
+    ]:
+        for size in sizes:
+            found, told = told_by(room, [Program.path, *over(*size), "--report"], SMALL_NET, {"OFFERS": offers}, seconds=20)
+            expect(found, 5, b"", b"boruvka: " + why + b"\n")
+            expect((told, b"", b""), b"", b"", b"")
+
+
+@case
+def one_of_sixty_four_workers_that_is_left_out(room):
+    # no connection can be made to it, or its thread doesn't start
+    for call in ["thread", "listen", "connect", "accept"]:
+        for number in [1, 2, 33, 63, 64]:
+            report, failed = failed_from(room, SMALL_NET, SMALL_FOREST, call, number, {}, workers=64)
+            if (failed, report.alone, report.closed) != (1, 0, 0):
+                raise AssertionError(f"{call} {number}: {failed} calls failed: {vars(report)}")
 
 
 @case

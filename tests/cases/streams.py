@@ -16,6 +16,7 @@ from cases.running import (
     SMALL_FOREST,
     SMALL_NET,
     Program,
+    Skipped,
     case,
     drawn_graph,
     expect,
@@ -156,6 +157,34 @@ def an_input_that_comes_a_byte_at_a_time(_room):
                 time.sleep(0.001)
             output = started.communicate(timeout=SECONDS)[0]
         expect((started.returncode, output, b""), 0, SMALL_FOREST, b"")
+
+
+def fed_with_gibs(words):
+    """What the program does with an input of more than 4 GiB: links stand before comments of 2 GiB, behind them, and behind
+    2 GiB more. It is skipped where that would take more than half a minute."""
+    comment = b"c" + ((1 << 20) - 2) * b"-" + b"\n"
+    begun = time.monotonic()
+    with subprocess.Popen([Program.path, *words], stdin=subprocess.PIPE, stdout=subprocess.PIPE, stderr=subprocess.PIPE) as started:
+        started.stdin.write(b"p sp 4 3\na 1 2 5\n")
+        try:
+            for at in range(4096):
+                started.stdin.write(comment)
+                if at == 2047:
+                    started.stdin.write(b"a 2 3 -4\n")
+                if at % 128 == 127 and (time.monotonic() - begun) * 4096 > 30 * (at + 1):
+                    started.kill()
+                    raise Skipped(f"{at + 1} MiB took {time.monotonic() - begun:.0f} s")
+            started.stdin.write(b"a 3 4 7\n")
+        except BrokenPipeError:
+            pass  # what it answers tells why
+        output, errors = started.communicate(timeout=SECONDS)
+    return started.returncode, output, errors
+
+
+@case
+def inputs_of_more_than_4_GiB(_room):
+    for words in [["--plain"], ["--plain", "/dev/stdin"]]:
+        expect(fed_with_gibs(words), 0, b"p sp 4 3\na 2 3 -4\na 1 2 5\na 3 4 7\n", b"")
 
 
 @case

@@ -5,7 +5,7 @@ import resource
 
 from cases.running import SMALL_FOREST, SMALL_NET, SMALL_REPORT, Program, case, drawn_graph, expect, ran, told_by, written
 
-THREADS = [1, 2, 3, 7, 64]
+THREADS = [1, 2, 3, 7, 9, 33, 64]
 
 
 def by(threads):
@@ -71,14 +71,32 @@ def threads_that_do_not_start(room):
 
 @case
 def the_threads_that_are_asked_for(room):
-    # some are started exactly where several are asked for, whatever the number of processors; with the first never more run
-    # at once than these
+    # whatever the number of processors, with the first just so many run at once; the file is long enough for more than fifty
     name, text = large_net(room)
     for threads in THREADS:
         found, told = told_by(room, [Program.path, *by(threads), name], b"", {"PROCESSORS": "1", "STARTED": "0"})
         expect(found, 0, text, b"")
-        if b"J" in told or (told.count(b"s") > 0) != (threads > 1) or told.count(b"a") >= threads:
-            raise AssertionError(f"{threads} threads: told {told!r:.300}")
+        others = told.count(b"a")
+        if b"J" in told or not min(threads - 1, 50) <= others < threads:
+            raise AssertionError(f"{threads} threads, and {others} others at once: told {told!r:.300}")
+
+
+@case
+def a_long_file_by_threads_takes_no_more_memory(room):
+    # loops are no links, so that by one thread the file's length takes none; the room in which threads read takes 12 MiB
+    count = 2**23
+    name = f"{room}/loops.gr"
+    with open(name, "wb") as it:
+        it.write(b"p sp 1 %d\n" % count)
+        for _ in range(8):
+            it.write(b"a 1 1 5\n" * (count // 8))
+    peaks = {}
+    for threads in [1, 2, 4]:
+        found, peak = told_by(room, [Program.path, *by(threads), name], b"", {"PEAK": "1"})
+        expect(found, 0, b"p sp 1 0\n", b"")
+        peaks[threads] = int(peak) << 10
+    if peaks[1] > 4 << 20 or not all(8 << 20 < peaks[it] - peaks[1] < 14 << 20 for it in [2, 4]):
+        raise AssertionError(f"bytes by so many threads: {peaks}")
 
 
 @case

@@ -33,6 +33,29 @@ def a_file_by_its_name(room):
 
 
 @case
+def the_file_that_is_named_and_none_beside_it(room):
+    # the names begin or end alike, or differ by a case, a space, a dot or a folder. First each is a graph of its own, and
+    # then all but the one that is named are pipes, which nobody writes to: whoever opens one waits
+    names = ["net.gr", "net.gr2", "net.g", "et.gr", "net", "Net.gr", "net.gr ", " net.gr", ".net.gr", "-", "-net.gr", "n\u00e9t.gr"]
+    names += [f"{folder}/{name}" for folder in ["sub", "net.gr.d"] for name in ["net.gr", "net", "-"]]
+    for place in range(len(names) + 1):
+        os.makedirs(f"{room}/{place}/sub")
+        os.makedirs(f"{room}/{place}/net.gr.d")
+        for weight, name in enumerate(names):
+            if place in (weight, len(names)):
+                written(f"{room}/{place}/{name}", b"p sp 2 1\na 1 2 %d\n" % weight)
+            else:
+                os.mkfifo(f"{room}/{place}/{name}")
+    for weight, name in enumerate(names):
+        for place in [weight, len(names)]:
+            for spelled in [name, f"./{name}", f"sub/../{name}", f"{room}/{place}/{name}"]:
+                if spelled != "-":
+                    found = ran(["--plain", "--", spelled], b"p sp 0 0\n", cwd=f"{room}/{place}", seconds=10)
+                    expect(found, 0, b"p sp 2 1\na 1 2 %d\n" % weight, b"")
+    expect(ran(["net.gr"], b"p sp 0 0\n", cwd=f"{room}/0", seconds=10), 0, b"p sp 2 1\na 1 2 0\n", b"")
+
+
+@case
 def the_report_of_a_file(room):
     written(f"{room}/net.gr", SMALL_NET)
     expect(ran(["--plain", "--report", "net.gr"], cwd=room), 0, SMALL_FOREST, SMALL_REPORT)
@@ -56,14 +79,19 @@ def drawn_graphs(_room):
         Report(errors).expect_total(text)
 
 
+def expect_of_all_modes(file, text):
+    """By one thread and over workers the program gives this text for the file, with its total, and no worker is lost."""
+    for words, workers in [(["--plain"], 0), ([], 2), (["--workers", "3", "--shards", "5"], 3), (["--workers", "0", "--shards", "3"], 0)]:
+        status, output, errors = ran([*words, "--report"], file)
+        expect((status, output, b""), 0, text, b"")
+        Report(errors).expect_total(text)
+        Report(errors).expect_no_worker_lost(workers)
+
+
 @case
 def weights_of_64_bits(_room):
     for seed, most in [(11, 2**31), (12, 2**33), (13, 2**63 - 1)]:
-        file, text = drawn_graph(seed, 700, 6000, most)
-        for words in [["--plain"], [], ["--workers", "3", "--shards", "5"], ["--workers", "0", "--shards", "3"]]:
-            status, output, errors = ran([*words, "--report"], file)
-            expect((status, output, b""), 0, text, b"")
-            Report(errors).expect_total(text)
+        expect_of_all_modes(*drawn_graph(seed, 700, 6000, most))
 
 
 @case
@@ -73,11 +101,7 @@ def weights_at_the_limits(_room):
     for seed, some in [(14, weights), (15, weights[:1] + weights[-1:]), (16, weights[-1:]), (17, weights[:1])]:
         draw = random.Random(seed)
         rows = [(draw.randint(1, 300), draw.randint(1, 300), draw.choice(some)) for _ in range(1500)]
-        file, text = file_of(300, rows), forest_text(300, forest_of(300, rows))
-        for words in [["--plain"], [], ["--workers", "3", "--shards", "5"], ["--workers", "0", "--shards", "3"]]:
-            status, output, errors = ran([*words, "--report"], file)
-            expect((status, output, b""), 0, text, b"")
-            Report(errors).expect_total(text)
+        expect_of_all_modes(file_of(300, rows), forest_text(300, forest_of(300, rows)))
 
 
 @case
@@ -100,6 +124,7 @@ def expect_total_of_a_million(room, vertices, rows, links):
         report = Report(errors)
         if (report.vertices, report.links, report.total) != (vertices, 1_000_000, total):
             raise AssertionError(f"{words}: {vertices} vertices, 1,000,000 links and a total of {total}: {vars(report)}")
+        report.expect_no_worker_lost(2)
 
 
 @case
@@ -198,6 +223,22 @@ def the_help_beside_other_words(_room):
 @case
 def a_word_that_is_not_utf_8(_room):
     expect(ran([b"--plain", b"\xff.gr"], SMALL_NET), 2, b"", b"boruvka: a word is not UTF-8\n")
+    for before in [9, 10, 99, 1000]:
+        expect(ran([*["--"] * before, b"\xff.gr"], SMALL_NET), 2, b"", b"boruvka: a word is not UTF-8\n")
+
+
+@case
+def as_many_words_as_there_are_options(room):
+    # with the program's name FILE is the tenth word or the eleventh, and what stands behind it isn't lost either
+    written(f"{room}/net.gr", SMALL_NET)
+    numbers = ["--threads", "2", "--workers", "3", "--shards", "4", "--plain", "--report"]
+    for before in [[], ["--"]]:
+        expect(ran([*numbers, *before, "net.gr"], b"p sp 0 0\n", cwd=room), 0, SMALL_FOREST, SMALL_REPORT)
+    unexpected = b"error: unexpected argument '%s' found\n\nUsage: boruvka [OPTIONS] [FILE]\n\nFor more information, try '--help'.\n"
+    for more in [["b.gr"], ["--", "b.gr"]]:
+        expect(ran([*numbers, "net.gr", *more], cwd=room), 2, b"", unexpected % b"b.gr")
+    status, output, errors = ran([*numbers, "net.gr", "--help"], cwd=room)
+    expect((status, output, errors), 0, ran(["--help"])[1], b"")
 
 
 # A FILE that isn't there

@@ -5,7 +5,7 @@ import random
 import resource
 import time
 
-from cases.running import SMALL_FOREST, SMALL_NET, Program, Report, case, drawn_graph, expect, ran, told_by, written
+from cases.running import SMALL_FOREST, SMALL_NET, Program, Report, case, drawn_graph, expect, file_of, forest_of, forest_text, ran, told_by, written
 
 
 def over(workers, shards):
@@ -18,15 +18,13 @@ def expect_healthy(words, file, text, workers, shards):
 
 
 def healthy_report(found, text, workers, shards):
-    """The report of a run that gave this text and lost no worker: a line is closed, and a shard scanned alone beside
-    workers, where one found no memory too, which the forest doesn't show."""
+    """The report of a run that gave this text and lost no worker."""
     status, output, errors = found
     expect((status, output, b""), 0, text, b"")
     report = Report(errors)
     report.expect_equations(shards, workers)
     report.expect_total(text)
-    if report.closed or workers and report.alone:
-        raise AssertionError(f"{workers} workers, {shards} shards: a worker failed: {vars(report)}")
+    report.expect_no_worker_lost(workers)
     return report
 
 
@@ -99,6 +97,21 @@ def a_larger_graph_over_workers(_room):
     file, text = drawn_graph(4, 5000, 60000)
     for workers, shards in [(1, 1), (2, 64), (4, 7)]:
         expect_healthy([], file, text, workers, shards)
+
+
+@case
+def answers_that_are_read_by_64_kib(room):
+    # each of 10,000 vertices has an offer in the first answer. The links are sorted by their tails, so that a place beside
+    # that of an offer's link most often has another link of the same vertex
+    draw = random.Random(8125)
+    rows = [(u, draw.randint(1, 10_000), draw.randint(1, 10**6)) for u in range(1, 10_001) for _ in range(6)]
+    file, text = file_of(10_000, rows), forest_text(10_000, forest_of(10_000, rows))
+    for workers, shards in [(1, 1), (2, 2)]:
+        words = [Program.path, *over(workers, shards), "--report"]
+        for more in [{}, {"WHOLE": "1"}]:
+            found, told = told_by(room, words, file, more)
+            healthy_report(found, text, workers, shards)
+            expect((told, b"", b""), b"", b"", b"")
 
 
 @case
