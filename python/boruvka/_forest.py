@@ -34,8 +34,8 @@ class Forest(NamedTuple):
     index: NDArray[np.intp]  # type: ignore[assignment]
 
 
-def minimum_spanning_forest(n: SupportsIndex, u: ArrayLike, v: ArrayLike, w: ArrayLike) -> Forest:
-    """Find the minimum spanning forest of an undirected graph.
+def minimum_spanning_forest(n: SupportsIndex, u: ArrayLike, v: ArrayLike, w: ArrayLike, *, maximum: bool = False) -> Forest:
+    """Find the minimum spanning forest of an undirected graph, or the maximum one.
 
     It is the edges that connect all that the graph connects, at the least total weight. Edge i of the m edges joins the
     vertices u[i] and v[i] with the weight w[i]. It may be a loop, and there may be others between the same vertices.
@@ -48,6 +48,8 @@ def minimum_spanning_forest(n: SupportsIndex, u: ArrayLike, v: ArrayLike, w: Arr
         The ends of each edge, in either order. m is at most 2^30.
     w : array_like of whole numbers or floats of up to 64 bits, shape (m,)
         The weights. They may be negative or infinite. -0.0 is as heavy as 0.0.
+    maximum : bool, optional
+        Whether the total weight shall be the greatest instead. Then the heaviest edge comes first.
 
     Returns
     -------
@@ -59,8 +61,8 @@ def minimum_spanning_forest(n: SupportsIndex, u: ArrayLike, v: ArrayLike, w: Arr
     ------
     ValueError
         If an end isn't from 0 to n - 1, a weight is NaN or past 2^63 - 1, n is negative or past 2^26, m is past 2^30,
-        an array hasn't one dimension or has masked entries, the arrays differ in length, or numpy would round a list's
-        whole numbers.
+        an array hasn't one dimension or has masked entries, the arrays differ in length, or numpy would round a weight
+        of a list or of objects beside the others.
     TypeError
         If n or an end is no whole number, or a weight is neither a whole number nor a float of up to 64 bits.
     MemoryError
@@ -71,9 +73,10 @@ def minimum_spanning_forest(n: SupportsIndex, u: ArrayLike, v: ArrayLike, w: Arr
     Ties: of edges that are equally heavy the one with the lower (u, v) comes first, and of edges that are equal in all
     three the first given. So the forest is the only one of least weight in that order.
 
-    Components: `boruvka.linkage.labels(n, forest, height=np.inf)` numbers them. For the maximum spanning forest give -w.
+    Components: `boruvka.linkage.labels(n, forest, height=np.inf)` numbers them.
 
-    Cost: time about that of sorting the weights once. Memory is about 20 bytes an edge beside the arrays given and the
+    Cost: time about that of sorting the weights once. Somebody who chooses the edges for it can make it the square of
+    that: strangers' graphs want a limit of time. Memory is about 20 bytes an edge beside the arrays given and the
     answer, up to 36 if most edges are in the forest. Ends that are neither int32 nor uint32 are copied, 8 bytes an edge,
     and so are weights other than int64. The arrays given are never written. No other thread may write them meanwhile.
     Any number of threads may call at once, and run side by side. A child that was forked from a process with threads
@@ -94,21 +97,20 @@ def minimum_spanning_forest(n: SupportsIndex, u: ArrayLike, v: ArrayLike, w: Arr
     """
     count = operator.index(n)
     tails, heads, weights = _column(u, "u"), _column(v, "v"), _column(w, "w")
-    _expect_exact(w, weights)
     if not len(tails) == len(heads) == len(weights):
         raise ValueError(f"u, v and w differ in length: {len(tails)}, {len(heads)} and {len(weights)}")
-    index = places(count, tails, heads, weights)
+    index = places(count, tails, heads, weights, maximum)
     one, other = tails.take(index).astype(np.intp), heads.take(index).astype(np.intp)
     return Forest(np.minimum(one, other), np.maximum(one, other), weights.take(index), index)
 
 
-def places(n: int, tails: np.ndarray, heads: np.ndarray, weights: np.ndarray) -> NDArray[np.intp]:
+def places(n: int, tails: np.ndarray, heads: np.ndarray, weights: np.ndarray, maximum: bool = False) -> NDArray[np.intp]:
     """The places of the forest's edges among these, in ascending order of their keys."""
     if not 0 <= n <= _library.MAX_VERTICES:
         raise ValueError(f"n is {n}, and has to be from 0 to 2^26")
     if len(weights) > _library.MAX_LINKS:
         raise ValueError(f"there are {len(weights)} edges, and at most 2^30 may be")
-    u, v, w = vertices(n, tails, "u"), vertices(n, heads, "v"), ordered(weights)
+    u, v, w = vertices(n, tails, "u"), vertices(n, heads, "v"), ordered(weights, maximum)
     return _library.places(n, u, v, w).astype(np.intp)
 
 
@@ -118,15 +120,20 @@ def _column(given: ArrayLike, name: str) -> np.ndarray:
     column = np.asarray(given)
     if column.ndim != 1:
         raise ValueError(f"{name} has {column.ndim} dimensions, and needs one")
+    if column.dtype != object and hasattr(given, "__array__"):
+        return column
+    each = column.tolist() if column.dtype == object else list(given)
+    return _of_each(each, column if column.dtype != object else np.asarray(each), name)
+
+
+def _of_each(each: list, column: np.ndarray, name: str) -> np.ndarray:
+    """The array that numpy made of numbers one by one, if it changed none."""
+    if column.dtype.kind == "f" and set(map(type, each)) != {float}:
+        for place, (it, held) in enumerate(zip(each, column.tolist())):
+            number = it.item() if hasattr(it, "item") else it
+            if number != held and number == number:
+                raise ValueError(f"{name}[{place}] is {it}, which numpy would round to {held} beside the others: give an array")
     return column
-
-
-def _expect_exact(given: ArrayLike, weights: np.ndarray) -> None:
-    """A list of whole numbers past 2^53 and others is refused, of which numpy makes doubles."""
-    if weights.dtype.kind == "f" and isinstance(given, (list, tuple)):
-        for place, it in enumerate(given):
-            if isinstance(it, (int, np.integer)) and abs(int(it)) > 2**53:
-                raise ValueError(f"w[{place}] is {it}, which numpy would round beside the others: give an array")
 
 
 def vertices(n: int, ends: np.ndarray, name: str) -> NDArray[np.uint32]:

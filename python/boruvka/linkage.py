@@ -1,14 +1,15 @@
 """Single linkage and clusters, out of minimum spanning forests.
 
 `spanning_tree` finds the tree of points, and `labels` cuts it into clusters. The edges of the tree, in ascending order,
-are the merges of single linkage, which `single_linkage` and `merges` list. Numpy is all that they need. If scipy is
-there, many points in two or three dimensions have their tree found in their Delaunay triangulation.
+are the merges of single linkage, which `single_linkage` and `merges` list. Numpy is all that they need; scipy makes points in up to
+nine dimensions faster.
 """
 
 from __future__ import annotations
 
 import numbers
 import operator
+import sys
 import warnings
 from typing import SupportsIndex
 
@@ -17,13 +18,9 @@ from numpy.typing import ArrayLike, NDArray
 
 from boruvka import _library
 from boruvka._forest import Forest, minimum_spanning_forest, vertices
+from boruvka._points import tree_of_points
 
 __all__ = ["labels", "merges", "single_linkage", "spanning_tree"]
-
-# the two ends of each of some edges
-Ends = tuple[NDArray[np.intp], NDArray[np.intp]]
-# up to so many points a dimension, all pairs are looked at sooner than a triangulation is made
-_FEW = 50
 
 
 def single_linkage(y: ArrayLike) -> NDArray[np.float64]:
@@ -87,9 +84,11 @@ def spanning_tree(y: ArrayLike) -> Forest:
 
     Notes
     -----
-    Cost: time about n log n for points in one dimension, and in two or three if scipy is there: their tree is found
-    among the edges of their Delaunay triangulation. Others, and distances, take all n (n - 1) / 2 pairs: about 40 bytes
-    and 100 nanoseconds a pair. For distances, scipy's own linkage is several times as fast.
+    Heights are those of all pairs but for rounding, whatever the points are.
+
+    Cost: points in few dimensions take time about n log n if scipy is there, and 200 bytes a point. Others take n^2 d
+    steps, of which a processor does a thousand million a second, and memory of 5 times their own. Distances take about
+    40 bytes and 100 nanoseconds a pair: scipy's own linkage is several times as fast.
 
     Examples
     --------
@@ -107,11 +106,8 @@ def spanning_tree(y: ArrayLike) -> Forest:
     are_finite = np.isfinite(given).all(axis=1)
     if not are_finite.all():
         raise ValueError(f"a coordinate of the point {are_finite.argmin()} isn't finite")
-    with np.errstate(over="ignore"):
-        if not np.isfinite(_lengths(np.ptp(given, axis=0)[np.newaxis])).all():
-            raise ValueError("points are so far apart that doubles don't hold their distances")
     if _are_distances(given):
-        warnings.warn("y is square, symmetric and 0 on its diagonal: its rows are taken as points, not as distances", stacklevel=2)
+        _warn("y is square, symmetric and 0 on its diagonal: its rows are taken as points, not as distances")
     return _of_points(given)
 
 
@@ -277,7 +273,21 @@ def _are_distances(points: NDArray[np.float64]) -> bool:
     return points.shape[0] == points.shape[1] > 1 and not points.diagonal().any() and bool((points == points.T).all())
 
 
+def _warn(words: str) -> None:
+    """Warns as scipy does, at the line that called this module."""
+    level, frame = 1, sys._getframe()
+    while frame.f_back and frame.f_globals["__name__"] == __name__:
+        level, frame = level + 1, frame.f_back
+    try:
+        from scipy.cluster.hierarchy import ClusterWarning as category
+    except ImportError:
+        category = UserWarning
+    warnings.warn(words, category, stacklevel=level)
+
+
 def _of_distances(distances: NDArray[np.float64]) -> Forest:
+    if not len(distances):
+        raise ValueError("there is no point and no distance: one point is a row, [[x, y]]")
     n = (1 + round((1 + 8 * len(distances)) ** 0.5)) // 2
     if n * (n - 1) // 2 != len(distances):
         raise ValueError(f"{len(distances)} distances aren't those between all pairs of any number of points")
@@ -287,22 +297,13 @@ def _of_distances(distances: NDArray[np.float64]) -> Forest:
 
 
 def _of_points(points: NDArray[np.float64]) -> Forest:
-    n, dimensions = points.shape
-    near = _neighbours(points) if dimensions in (1, 2, 3) and n > _FEW * dimensions else None
-    if near is None:
-        return minimum_spanning_forest(n, *_pairs(n), _all_distances(points))
-    u, v = near
-    tree = minimum_spanning_forest(n, u, v, _lengths(points[u] - points[v]))
+    n = len(points)
+    one, other, lengths = tree_of_points(points, 2.0, None)
+    if not np.isfinite(lengths).all():
+        place = np.flatnonzero(~np.isfinite(lengths))[0]
+        raise ValueError(f"points {one[place]} and {other[place]} are so far apart that doubles don't hold their distance")
+    tree = minimum_spanning_forest(n, one, other, lengths)
     return tree._replace(index=_place_of_pair(n, tree.u, tree.v))
-
-
-def _lengths(steps: NDArray[np.float64]) -> NDArray[np.float64]:
-    return np.sqrt(np.einsum("ij,ij->i", steps, steps))
-
-
-def _all_distances(points: NDArray[np.float64]) -> NDArray[np.float64]:
-    """The distances between all pairs, in the order of `_pairs`."""
-    return np.concatenate([np.empty(0), *(_lengths(points[i + 1 :] - points[i]) for i in range(len(points) - 1))])
 
 
 def _place_of_pair(n: int, u: NDArray[np.intp], v: NDArray[np.intp]) -> NDArray[np.intp]:
@@ -319,42 +320,3 @@ def _pairs(n: int) -> tuple[NDArray[np.int32], NDArray[np.int32]]:
     high = np.arange(len(low), dtype=np.int32)
     high -= np.repeat((_place_of_pair(n, first, first + 1) - first - 1).astype(np.int32), n - 1 - first)
     return low, high
-
-
-def _neighbours(points: NDArray[np.float64]) -> Ends | None:
-    """Edges among which is a minimum spanning tree of points in one, two or three dimensions, or None if none are found."""
-    # equal points are one here, and each hangs on the first of them
-    places, first, same = np.unique(points, axis=0, return_index=True, return_inverse=True)
-    near = _in_line(len(places)) if points.shape[1] == 1 else _triangulated(places)
-    if near is None:
-        return None
-    rest = np.setdiff1d(np.arange(len(points)), first)
-    return np.concatenate([first[near[0]], rest]), np.concatenate([first[near[1]], first[same.ravel()[rest]]])
-
-
-def _in_line(n: int) -> Ends:
-    """The edges between each of n points in their order and the next."""
-    return np.arange(n - 1), np.arange(1, n)
-
-
-def _triangulated(points: NDArray[np.float64]) -> Ends | None:
-    """The edges of the Delaunay triangulation.
-
-    None if scipy isn't there, all points lie in one line or plane, or rounding kept a point out of the triangulation.
-    """
-    try:
-        from scipy.spatial import Delaunay, QhullError
-    except ImportError:
-        return None
-    try:
-        # (from the origin, so that rounding loses the least)
-        mesh = Delaunay(points - points.min(axis=0))
-    except QhullError:
-        return None
-    if len(mesh.coplanar):
-        return None
-    starts, others = mesh.vertex_neighbor_vertices
-    ends = np.repeat(np.arange(len(points)), np.diff(starts))
-    # each edge stands there from both its ends
-    once = ends < others
-    return ends[once], others[once]

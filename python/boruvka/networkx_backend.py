@@ -5,14 +5,13 @@ by Kruskal's algorithm: the same edges in the same order. A call that names anot
 and so is one whose weights can't be put in order as 64-bit numbers. Such weights are integers past 64 bits, doubles
 beside integers past 2^53, and other types such as `Fraction`.
 
-The edges are put into arrays at the first call. Networkx keeps these with the graph (from version 3.3 on), and drops
-them when a method changes the graph. It can't see that the data of an edge was changed in place, as by
-`G[u][v]["weight"] = 2`: call `G.__networkx_cache__.clear()` then.
+The ends of the edges are put into arrays at the first call. Networkx keeps these with the graph (from version 3.3 on),
+and drops them when a method changes the graph. Weights are read at each call.
 """
 
 from __future__ import annotations
 
-from collections.abc import Callable, Collection, Iterable, Iterator
+from collections.abc import Callable, Collection, Iterable, Iterator, Mapping
 from itertools import chain, compress
 from typing import Any
 
@@ -35,13 +34,33 @@ class Unsuited(Exception):
 
 
 class ArrayGraph:
-    """A graph of networkx, and its edges in arrays for each name of a weight that was asked for."""
+    """A graph of networkx, and its edges in its order: their ends in arrays, their keys if it may have parallel ones,
+    and the dictionary of the data of each.
+
+    Tuples are made of the forest's edges alone: to make one of each edge takes longer than to solve.
+    """
 
     __networkx_backend__ = "boruvka"
 
     def __init__(self, graph: nx.Graph) -> None:
         self.graph = graph
-        self.columns: dict[Any, Columns] = {}
+        # (views say how many they would hold if nothing were filtered)
+        around = {it: _held(others) for it, others in graph.adjacency()}
+        self.names = list(around)
+        number = {it: i for i, it in enumerate(self.names)}
+        u = np.repeat(np.arange(len(number), dtype=np.int32), _lengths(around.values()))
+        v = np.fromiter(map(number.__getitem__, chain.from_iterable(around.values())), np.int32, len(u))
+        data = list(chain.from_iterable(it.values() for it in around.values()))
+        self.keys = None
+        if graph.is_multigraph():
+            # between two vertices stands an edge for each key
+            data = list(map(_held, data))
+            u, v = (np.repeat(it, _lengths(data)) for it in (u, v))
+            keys, data = list(chain.from_iterable(data)), list(chain.from_iterable(it.values() for it in data))
+            self.keys = list(compress(keys, (u <= v).tolist()))
+        # an edge stands at both its ends, and counts at that which comes first
+        self.data = list(compress(data, (u <= v).tolist()))
+        self.u, self.v = u[u <= v], v[u <= v]
 
     def is_directed(self) -> bool:
         return self.graph.is_directed()
@@ -49,48 +68,24 @@ class ArrayGraph:
     def is_multigraph(self) -> bool:
         return self.graph.is_multigraph()
 
-
-class Columns:
-    """The edges of a graph in arrays, in networkx's order; an Unsuited if their weights can't be put in order.
-
-    Tuples are made of the forest's edges alone: to make one of each edge takes longer than to solve.
-    """
-
-    def __init__(self, graph: nx.Graph, weight: str) -> None:
-        around = dict(graph.adjacency())
-        self.names = list(around)
-        number = {name: i for i, name in enumerate(self.names)}
-        u = np.repeat(np.arange(len(around), dtype=np.int32), _lengths(around.values()))
-        v = np.fromiter(map(number.__getitem__, chain.from_iterable(around.values())), np.int32, len(u))
-        data = list(chain.from_iterable(it.values() for it in around.values()))
-        self.keys = None
-        if graph.is_multigraph():
-            # between two vertices stands an edge for each key
-            u, v = (np.repeat(it, _lengths(data)) for it in (u, v))
-            keys, data = list(chain.from_iterable(data)), list(chain.from_iterable(it.values() for it in data))
-            self.keys = list(compress(keys, (u <= v).tolist()))
-        # an edge stands at both its ends, and counts at that which comes first
-        self.data = list(compress(data, (u <= v).tolist()))
-        self.u, self.v = u[u <= v], v[u <= v]
-        self.w = _array_of([it.get(weight, 1) for it in self.data])
-        self.ranks: dict[bool, NDArray[np.int64]] = {}
-
     def edges(self, index: NDArray[np.intp]) -> list[tuple]:
         """Edges as networkx has them: their ends, their keys in a multigraph, their data."""
         columns = [map(self.names.__getitem__, it[index].tolist()) for it in (self.u, self.v)]
         columns += [map(it.__getitem__, index.tolist()) for it in (self.keys, self.data) if it is not None]
         return list(zip(*columns))
 
-    def forest(self, is_minimum: bool, ignore_nan: bool) -> list[tuple]:
-        """The edges of the forest in the order in which Kruskal's algorithm takes them."""
-        numbers = ~np.isnan(self.w)
+    def forest(self, weight: str, is_minimum: bool, ignore_nan: bool) -> list[tuple]:
+        """The edges of the forest in the order in which Kruskal's algorithm takes them.
+
+        An Unsuited says that the weights can't be put in order.
+        """
+        weights = _array_of([it.get(weight, 1) for it in self.data])
+        numbers = ~np.isnan(weights)
         if not (ignore_nan or numbers.all()):
             (edge,) = self.edges(np.flatnonzero(~numbers)[:1])
             raise ValueError(f"NaN found as an edge weight. Edge {edge}")
-        if is_minimum not in self.ranks:
-            self.ranks[is_minimum] = _ranks(self.w, is_minimum)
         kept = np.flatnonzero(numbers)
-        columns = self.u[kept], self.v[kept], self.ranks[is_minimum][kept]
+        columns = self.u[kept], self.v[kept], _ranks(weights[kept], is_minimum)
         return self.edges(kept[places(len(self.names), *columns)])
 
 
@@ -171,17 +166,21 @@ def _edges(
     held = G if isinstance(G, ArrayGraph) else ArrayGraph(G)
     if held.is_directed():
         raise nx.NetworkXNotImplemented("not implemented for directed type")
+    own = getattr(of_networkx, "orig_func", of_networkx)
+    words = {"algorithm": algorithm, "weight": weight, "keys": keys, "data": data, "ignore_nan": ignore_nan}
+    return _found(held, own, **words) if algorithm == "kruskal" else own(held.graph, **words)
+
+
+def _found(held: ArrayGraph, own: Callable, **words: Any) -> Iterator[tuple]:
+    """The edges of the forest. As networkx does, it looks at weights when the first is asked for."""
     try:
-        if algorithm != "kruskal":
-            raise Unsuited
-        if weight not in held.columns:
-            held.columns[weight] = Columns(held.graph, weight)
-        found = held.columns[weight].forest(of_networkx is nx.minimum_spanning_edges, ignore_nan)
+        found = held.forest(words["weight"], own.__name__ == "minimum_spanning_edges", words["ignore_nan"])
     except Unsuited:
-        own = getattr(of_networkx, "orig_func", of_networkx)
-        return own(held.graph, algorithm=algorithm, weight=weight, keys=keys, data=data, ignore_nan=ignore_nan)
-    ends = 3 if keys and held.is_multigraph() else 2
-    return iter([(*it[:ends], it[-1]) if data else it[:ends] for it in found])
+        yield from own(held.graph, **words)
+        return
+    ends = 3 if words["keys"] and held.is_multigraph() else 2
+    for it in found:
+        yield (*it[:ends], it[-1]) if words["data"] else it[:ends]
 
 
 def _tree(G: ArrayGraph | nx.Graph, edges: Iterator[tuple]) -> nx.Graph:
@@ -192,6 +191,11 @@ def _tree(G: ArrayGraph | nx.Graph, edges: Iterator[tuple]) -> nx.Graph:
     tree.add_nodes_from(graph.nodes.items())
     tree.add_edges_from(edges)
     return tree
+
+
+def _held(group: Mapping) -> dict:
+    """What a mapping holds."""
+    return group if type(group) is dict else dict(group)
 
 
 def _lengths(groups: Iterable[Collection]) -> NDArray[np.intp]:

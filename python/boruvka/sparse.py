@@ -12,17 +12,19 @@ from boruvka._forest import places
 __all__ = ["minimum_spanning_tree"]
 
 
-def minimum_spanning_tree(csgraph: spmatrix | ArrayLike, overwrite: bool = False) -> csr_matrix:
+def minimum_spanning_tree(csgraph: spmatrix | ArrayLike, overwrite: bool = False, *, maximum: bool = False) -> csr_matrix:
     """Stand in for `scipy.sparse.csgraph.minimum_spanning_tree`.
 
     Parameters
     ----------
     csgraph : array_like or sparse matrix, shape (n, n)
-        Entry (i, j) is the weight of an edge between the vertices i and j, and so is (j, i): the lighter counts. No edges
+        Entry (i, j) is the weight of an edge between the vertices i and j, and so is (j, i): the better counts. No edges
         are: what a sparse matrix doesn't store; zeros, infinities and NaNs of a dense array; and just what a masked
         array masks. Weights are taken as doubles.
     overwrite : bool, optional
         Without effect: csgraph is never written.
+    maximum : bool, optional
+        Whether the total weight shall be the greatest instead.
 
     Returns
     -------
@@ -59,7 +61,7 @@ def minimum_spanning_tree(csgraph: spmatrix | ArrayLike, overwrite: bool = False
     if np.isnan(graph.data).any():
         raise ValueError("csgraph has a NaN")
     taken = np.zeros(len(rows), bool)
-    taken[places(n, rows, graph.indices, graph.data)] = True
+    taken[places(n, rows, graph.indices, graph.data, maximum)] = True
     taken &= graph.data != 0
     starts = np.zeros(n + 1, graph.indptr.dtype)
     np.cumsum(np.bincount(rows[taken], minlength=n), out=starts[1:])

@@ -64,8 +64,11 @@ def kruskal(n, u, v, order):
     return [place for place in order if components.join(u[place], v[place])]
 
 
-def by_key(graph):
-    """The places of the forest's edges, in the order of (weight, lower end, higher end, place)."""
+def by_key(graph, maximum=False):
+    """The places of the forest's edges, in the order of (weight, lower end, higher end, place); the heaviest first if the
+    maximum is asked for."""
     ends = [(min(it), max(it)) for it in zip(graph.u, graph.v)]
-    order = sorted(range(len(graph.w)), key=lambda i: (graph.w[i], *ends[i], i))
+    order = sorted(range(len(graph.w)), key=lambda i: (*ends[i], i))
+    # (sorting is stable, also backwards)
+    order.sort(key=lambda i: graph.w[i], reverse=maximum)
     return kruskal(graph.n, graph.u, graph.v, order)

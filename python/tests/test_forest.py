@@ -1,8 +1,14 @@
 """`minimum_spanning_forest`, over the graphs of the documents, at its limits, and over drawn graphs."""
 
+import contextlib
+import ctypes
+import decimal
+import fractions
 import math
+import mmap
 import threading
 import unittest
+from collections import deque
 
 import numpy as np
 
@@ -23,6 +29,21 @@ SMALL_FOREST = [[1, 2, 2, 3, 0], [4, 3, 4, 5, 2], [0, 0, 0, 3, 10], [6, 4, 3, 5,
 
 def listed(forest):
     return [it.tolist() for it in forest]
+
+
+@contextlib.contextmanager
+def without_subnormals():
+    """Has the processor take floats next to 0 for 0, as a library built for speed may; for this thread."""
+    with mmap.mmap(-1, mmap.PAGESIZE, prot=mmap.PROT_READ | mmap.PROT_WRITE | mmap.PROT_EXEC) as page:
+        page.write(bytes.fromhex("0fae17c3"))  # ldmxcsr [rdi]; ret
+        start = ctypes.c_char.from_buffer(page)
+        load = ctypes.CFUNCTYPE(None, ctypes.POINTER(ctypes.c_uint32))(ctypes.addressof(start))
+        load(ctypes.c_uint32(0x9FC0))
+        try:
+            yield
+        finally:
+            load(ctypes.c_uint32(0x1F80))
+            del start
 
 
 class Documented(unittest.TestCase):
@@ -122,11 +143,31 @@ class Refused(unittest.TestCase):
         whole = np.ma.masked_equal([3, 4], 1)
         self.assertEqual(minimum_spanning_forest(3, [0, 1], [1, 2], whole).w.tolist(), [3, 4])
 
-    def test_lists_that_numpy_would_round(self):
-        for weights in ([2**63 + 1, 2**63, -1], [2**53 + 1, 0.5, 1], (0.5, 1, -(2**53) - 1)):
-            place = max(range(3), key=lambda it: abs(weights[it]))
-            self.expect(ValueError, rf"^w\[{place}\] is {weights[place]}, ", 3, [0, 0, 1], [1, 1, 2], weights)
-        self.assertEqual(minimum_spanning_forest(3, [0, 0, 1], [1, 1, 2], [2**53, 0.5, 1]).index.tolist(), [1, 2])
+    def test_what_numpy_would_round(self):
+        for weights in ([2**53 + 1, 0.5, 1], [0.5, 1, -(2**53) - 1], [2**63 + 1, 2**62 + 1, -1], [np.int64(2**53 + 1), np.float32(0.5), 1], [np.uint64(2**63 - 1), np.int64(-1), 2]):
+            place = next(i for i, it in enumerate(weights) if abs(int(it)) > 2**53)
+            for held in self.containers(weights):
+                self.expect(ValueError, rf"^w\[{place}\] is {weights[place]}, which numpy would round", 3, [0, 0, 1], [1, 1, 2], held)
+
+    def test_what_numpy_holds(self):
+        for weights in ([2**60, 0.5, 1], [2**53, 0.5, 1], [-(2**63), 2.5, 2], [2**62, -1.5, 2**1000 * 1.0], [2**54 + 4, 0.5, True], [np.int64(2**60), np.float32(0.1), 3]):
+            for held in self.containers(weights):
+                forest = minimum_spanning_forest(4, [0, 1, 2], [1, 2, 3], held)
+                order = sorted(range(3), key=lambda i: weights[i])
+                self.assertEqual((forest.index.tolist(), forest.w.tolist()), (order, [weights[i] for i in order]))
+
+    def containers(self, numbers):
+        """The same numbers in whatever may hold them one by one."""
+        whole = np.empty(len(numbers), object)
+        whole[:] = numbers
+        return [numbers, tuple(numbers), deque(numbers), [np.array(it) for it in numbers], deque(map(np.array, numbers)), whole, whole[::-1][::-1]]
+
+    def test_objects_that_are_no_numbers(self):
+        for wrong in (decimal.Decimal(1), fractions.Fraction(1, 2), None, "1", [1]):
+            for held in ([wrong, 1], np.array([wrong, 1], object)):
+                with self.assertRaises((TypeError, ValueError)):
+                    minimum_spanning_forest(3, [0, 1], [1, 2], held)
+        self.assertEqual(minimum_spanning_forest(3, np.array([0, 1], object), deque([1, 2]), np.array([2, 1], object)).index.tolist(), [1, 0])
 
     def test_shapes(self):
         for wrong in (0, [[0, 1]], np.zeros((2, 1), int)):
@@ -188,6 +229,16 @@ class Drawn(unittest.TestCase):
                     self.expect_scipys(graph, forest)
         self.assertEqual(kinds, set(KINDS))
 
+    def test_maximum_spanning_forests_against_kruskal(self):
+        for seed in range(1000):
+            graph = Graph(seed)
+            with self.subTest(seed=seed, kind=graph.kind):
+                before = [it.tobytes() for it in graph.held]
+                forest = minimum_spanning_forest(graph.n, *graph.held, maximum=True)
+                self.assertEqual(forest.index.tolist(), by_key(graph, maximum=True))
+                self.assertEqual(forest.w.tobytes(), graph.held[2][forest.index].tobytes())
+                self.assertEqual([it.tobytes() for it in graph.held], before)
+
     def expect_scipys(self, graph, forest):
         """As many edges as scipy finds components to join, and as heavy one by one, as far as doubles tell."""
         weights = np.array(graph.w, np.float64)
@@ -209,7 +260,37 @@ class Drawn(unittest.TestCase):
             weights = draw.integers(0, 2 if dtype == "?" else 100, m).astype(dtype)
             graph.w = weights.tolist()
             with self.subTest(dtype=dtype):
-                self.assertEqual(minimum_spanning_forest(n, u, v, weights).index.tolist(), by_key(graph))
+                for maximum in (False, True):
+                    found = minimum_spanning_forest(n, u, v, weights, maximum=maximum)
+                    self.assertEqual(found.index.tolist(), by_key(graph, maximum))
+
+    def test_the_ends_of_each_dtype(self):
+        for dtype in "b B h H i I l e f d ?".split():
+            about = np.finfo(dtype) if dtype in "efd" else np.iinfo(dtype) if dtype != "?" else None
+            least, most = (about.min, about.max) if about else (False, True)
+            ends = [most, least, 1, 0, least, most, least + 1 if about else True]
+            ends += [about.smallest_subnormal, -about.smallest_subnormal, np.inf, -np.inf, -0.0] if dtype in "efd" else []
+            weights = np.array(ends, dtype)
+            graph = Graph(0)
+            graph.n, graph.u, graph.v, graph.w = 4, [i % 4 for i in range(len(ends))], [(i // 4 + i + 1) % 4 for i in range(len(ends))], weights.tolist()
+            with self.subTest(dtype=dtype):
+                for maximum in (False, True):
+                    found = minimum_spanning_forest(4, graph.u, graph.v, weights, maximum=maximum)
+                    self.assertEqual(found.index.tolist(), by_key(graph, maximum))
+
+    def test_floats_next_to_0_keep_their_order_where_they_are_switched_off(self):
+        for dtype in (np.float16, np.float32, np.float64, np.dtype(">f8")):
+            step = float(np.finfo(dtype).smallest_subnormal)
+            weights = np.array([3 * step, -2 * step, step, 0, -0.0, -step, 2 * step], dtype)
+            ends = np.arange(7)
+            wanted = sorted(range(7), key=lambda i: weights[i])
+            with without_subnormals():
+                is_off = float(np.float64(5e-324) + np.float64(0)) == 0
+                found = minimum_spanning_forest(8, ends, ends + 1, weights).index.tolist()
+            self.assertTrue(is_off)
+            self.assertEqual(found, wanted)
+        # (the order of equal ones is that of their ends)
+        self.assertEqual(wanted, [1, 5, 3, 4, 2, 6, 0])
 
 
 class Threads(unittest.TestCase):

@@ -1,11 +1,13 @@
 """Single linkage and clusters, by worked examples, beside scipy's, and over drawn graphs."""
 
+import math
 import unittest
 import warnings
+from itertools import combinations
 from unittest import mock
 
 import numpy as np
-from graphs import Components, Graph
+from graphs import Components, Graph, kruskal
 
 from boruvka import Forest, minimum_spanning_forest
 from boruvka.linkage import labels, merges, single_linkage, spanning_tree
@@ -28,10 +30,25 @@ def clouds(draw, n, dimensions):
     yield draw.integers(-3, 4, (n, 1)) * np.arange(1, dimensions + 1)
     yield 1e6 + apart
     yield 1e12 + apart
-    # rounding keeps some of these out of the triangulation
     yield draw.integers(0, 5, (n, dimensions)) + 1e-12 * apart
     yield np.repeat(apart[: 1 + n // 3], 3, axis=0)
     yield np.zeros((n, dimensions))
+    # almost in a line, in dense clusters, in clusters within clusters, and near the ends of doubles
+    yield np.outer(draw.random(n), np.ones(dimensions)) + 1e-13 * apart
+    yield draw.integers(0, 4, (n, 1)) * 100 + 1e-3 * apart
+    yield draw.integers(0, 3, (n, 1)) * 50 + apart * 10.0 ** draw.integers(-8, 1, (n, 1))
+    yield 1e150 * apart
+    yield 1e-200 * apart
+
+
+def heights_of_all_pairs(points):
+    """The lengths of the tree by Kruskal's algorithm over all pairs, and the standard library's distance."""
+    rows = np.asarray(points).tolist()
+    pairs = list(combinations(range(len(rows)), 2))
+    lengths = [math.dist(rows[i], rows[j]) for i, j in pairs]
+    order = sorted(range(len(pairs)), key=lengths.__getitem__)
+    taken = kruskal(len(rows), [it[0] for it in pairs], [it[1] for it in pairs], order)
+    return [lengths[it] for it in taken]
 
 
 class Worked(unittest.TestCase):
@@ -78,7 +95,7 @@ class Worked(unittest.TestCase):
         self.assertEqual(labels(3, listed, height=2).tolist(), [0, 1, 1])
 
     def test_few_points(self):
-        for one in ([[3.0, 4.0]], np.empty((1, 0)), []):
+        for one in ([[3.0, 4.0]], np.empty((1, 0))):
             self.assertEqual(single_linkage(one).shape, (0, 4))
         self.assertEqual(single_linkage([[0, 0], [3, 4]]).tolist(), [[0, 1, 5, 2]])
         self.assertEqual(labels(0, minimum_spanning_forest(0, [], [], []), height=1).tolist(), [])
@@ -89,6 +106,7 @@ class Refused(unittest.TestCase):
     def test_points_and_distances(self):
         for wrong, words in [
             (np.empty((0, 2)), "^there is no point$"),
+            ([], "^there is no point and no distance"),
             (np.ma.masked_equal([[0.0], [1.0]], 1), "masked"),
             (3.0, "shape"),
             (np.zeros((2, 2, 2)), "shape"),
@@ -102,17 +120,19 @@ class Refused(unittest.TestCase):
             for call in (single_linkage, spanning_tree):
                 with self.assertRaisesRegex(ValueError, words):
                     call(wrong)
-        with self.assertRaisesRegex(ValueError, "far apart"):
-            spanning_tree([[1e200, 0], [0, 1], [0, 2]])
+        with self.assertRaisesRegex(ValueError, "^points 0 and 1 are so far apart"):
+            spanning_tree([[1.7e308, 0], [-1.7e308, 0]])
         for wrong in (["a"], [[1j, 2], [3, 4]], [[None]]):
             with self.assertRaises(TypeError):
                 single_linkage(wrong)
-        with self.assertRaisesRegex(ValueError, "2\\^30"):
-            spanning_tree(np.zeros((50_000, 5)))
 
     def test_what_looks_like_a_matrix_of_distances_is_told(self):
-        with self.assertWarnsRegex(UserWarning, "square"):
-            single_linkage([[0, 1, 2], [1, 0, 3], [2, 3, 0]])
+        for call in (single_linkage, spanning_tree):
+            with self.assertWarnsRegex(UserWarning, "square") as told:
+                call([[0, 1, 2], [1, 0, 3], [2, 3, 0]])
+            self.assertEqual(told.filename, __file__)
+            if hierarchy:
+                self.assertIs(told.warning.__class__, hierarchy.ClusterWarning)
         with warnings.catch_warnings():
             warnings.simplefilter("error")
             single_linkage([[0, 1], [2, 0]])
@@ -160,6 +180,71 @@ class Refused(unittest.TestCase):
                 call(single_linkage([[0], [1], [3]]))
         with self.assertRaisesRegex(ValueError, "one tree"):
             merges(10, ROADS)
+
+
+class Exact(unittest.TestCase):
+    def expect_all_pairs(self, points):
+        """The tree connects all points, by edges of just the lengths of the tree of all pairs but for rounding."""
+        with warnings.catch_warnings():
+            # (two equal points of a plane look like distances)
+            warnings.simplefilter("ignore", UserWarning)
+            tree = spanning_tree(points)
+        self.assertEqual(len(np.unique(labels(len(points), tree, height=np.inf))), 1)
+        np.testing.assert_allclose(tree.w, heights_of_all_pairs(points), rtol=1e-13, atol=0)
+        return tree
+
+    def test_points_of_all_kinds_in_1_to_50_dimensions(self):
+        draw = np.random.default_rng(8)
+        for dimensions in (1, 2, 3, 5, 9, 10, 50):
+            for n in (2, 7, 120):
+                for kind, points in enumerate(clouds(draw, n, dimensions)):
+                    with self.subTest(dimensions=dimensions, n=n, kind=kind):
+                        self.expect_all_pairs(points)
+
+    def test_by_rows_too(self):
+        draw = np.random.default_rng(9)
+        with mock.patch("boruvka._points._trees_for", lambda _: None):
+            for dimensions in (2, 3, 9):
+                for points in clouds(draw, 60, dimensions):
+                    self.expect_all_pairs(points)
+
+    def test_almost_in_a_line_or_a_plane(self):
+        draw = np.random.default_rng(14)
+        line = np.outer(draw.random(250), [1, 1, 1]) + draw.normal(size=(250, 3)) * 1e-13
+        self.expect_all_pairs(line)
+        self.expect_all_pairs(line[:, :2])
+        plane = draw.random((250, 2)) @ [[1, 0, 2], [0, 1, -1]] + draw.normal(size=(250, 3)) * 1e-14
+        self.expect_all_pairs(plane)
+
+    def test_the_ends_of_doubles(self):
+        draw = np.random.default_rng(15)
+        for dimensions in (1, 2, 3, 12):
+            for scale in (1e-320, 1e-300, 1e-160, 1e149, 1e150, 1e153, 1e300, 1e307):
+                self.expect_all_pairs(draw.random((200, dimensions)) * scale)
+            sizes = 10.0 ** draw.integers(-320, 300, (80, 1))
+            self.expect_all_pairs(draw.normal(size=(80, dimensions)) * sizes)
+        for beside in ([[1e-300, 0], [3e-300, 0], [1e300, 0], [1e300, 2e290]], [[5e-324, 0], [0, 5e-324], [1e308, 0]], [[1e200, 0], [0, 1], [0, 2]]):
+            self.expect_all_pairs(beside)
+        # each step can be held, though the whole way can't
+        self.assertEqual(spanning_tree([[-1.5e308], [0], [1.5e308]]).w.tolist(), [1.5e308] * 2)
+
+    def test_many_copies(self):
+        draw = np.random.default_rng(16)
+        for dimensions in (2, 3, 10):
+            points = draw.integers(0, 2, (3000, dimensions)).astype(float)
+            places = np.unique(points, axis=0)
+            heights = spanning_tree(points).w
+            self.assertEqual(heights.tolist(), [0.0] * (3000 - len(places)) + [1.0] * (len(places) - 1))
+
+    @unittest.skipUnless(hierarchy, "there is no scipy")
+    def test_larger_ones_beside_scipys(self):
+        draw = np.random.default_rng(17)
+        for dimensions in (2, 4, 8, 30):
+            for kind, points in enumerate(clouds(draw, 2000, dimensions)):
+                with self.subTest(dimensions=dimensions, kind=kind):
+                    scale = 2.0 ** np.frexp(np.abs(points).max())[1]
+                    wanted = hierarchy.linkage(points / scale, "single")[:, 2] * scale
+                    np.testing.assert_allclose(spanning_tree(points).w, wanted, rtol=1e-12, atol=0)
 
 
 class Drawn(unittest.TestCase):
@@ -218,15 +303,6 @@ class Scipys(unittest.TestCase):
     def expect_same_parts(self, one, other):
         pairs = set(zip(one.tolist(), other.tolist()))
         self.assertEqual((len(pairs), len(pairs)), (len(set(one.tolist())), len(set(other.tolist()))))
-
-    def test_the_triangulation_and_all_pairs_find_trees_of_one_length(self):
-        draw = np.random.default_rng(6)
-        for dimensions in (1, 2, 3):
-            for points in clouds(draw, 400, dimensions):
-                found = spanning_tree(points)
-                with mock.patch("boruvka.linkage._neighbours", lambda _: None):
-                    wanted = spanning_tree(points)
-                np.testing.assert_allclose(found.w, wanted.w, rtol=1e-9, atol=1e-9)
 
     def test_without_scipy(self):
         points = np.random.default_rng(7).normal(size=(200, 2))

@@ -108,6 +108,37 @@ class Functions(unittest.TestCase):
         with self.assertRaises(TypeError):
             list(backend.minimum_spanning_edges(graph, ignore_nan=True))
 
+    def test_weights_are_looked_at_when_the_first_edge_is_read(self):
+        for wrong in (math.nan, "two", None):
+            graph = nx.Graph([(1, 2, {"weight": wrong}), (2, 3, {"weight": 2.0})])
+            for module in (nx, backend):
+                for name in ("minimum_spanning_edges", "maximum_spanning_edges"):
+                    edges = getattr(module, name)(graph)
+                    with self.assertRaises((ValueError, TypeError)):
+                        next(edges)
+                with self.assertRaises((ValueError, TypeError)):
+                    module.minimum_spanning_tree(graph)
+            graph[1][2]["weight"] = 1.0
+            self.expect_the_same(graph)
+
+    def test_views_that_filter(self):
+        for seed in range(60):
+            drawn = Graph(seed)
+            for kind in (nx.Graph, nx.MultiGraph):
+                graph = graph_of(drawn, kind)
+                edges = list(graph.edges(keys=True)) if graph.is_multigraph() else list(graph.edges())
+                kept = set(edges[::2]) | {(it[1], it[0], *it[2:]) for it in edges[::2]}
+                views = [
+                    nx.subgraph_view(graph, filter_edge=lambda *it: it in kept),
+                    nx.subgraph_view(graph, filter_node=lambda it: it[0] % 3 > 0),
+                    graph.edge_subgraph(edges[::2]),
+                    graph.subgraph(list(graph)[::2]),
+                ]
+                for place, view in enumerate(views):
+                    with self.subTest(seed=seed, kind=kind, place=place):
+                        for name in ("minimum_spanning_edges", "maximum_spanning_edges"):
+                            self.assertEqual(list(getattr(backend, name)(view)), list(getattr(nx, name)(view)))
+
     def test_directed_graphs_are_refused(self):
         for kind in (nx.DiGraph, nx.MultiDiGraph):
             for name in backend.info()["functions"]:
@@ -149,13 +180,24 @@ class Found(unittest.TestCase):
         graph.remove_edge(0, 1)
         self.assertEqual(sorted(nx.minimum_spanning_edges(graph, data=False, backend="boruvka")), [(0, 3), (1, 2), (2, 3)])
 
+    def test_weights_that_were_changed_in_place(self):
+        for kind, key in ((nx.Graph, []), (nx.MultiGraph, [0])):
+            graph = nx.cycle_graph(4, create_using=kind)
+            for heavy in ((0, 1), (2, 3), (1, 2), (3, 0)):
+                *at, last = [*heavy, *key]
+                data = graph[at[0]][last] if not key else graph[at[0]][at[1]][last]
+                data["weight"] = 5
+                left_out = {*graph.edges()} - {it[:2] for it in nx.minimum_spanning_edges(graph, data=False, backend="boruvka")}
+                self.assertEqual({frozenset(it) for it in left_out}, {frozenset(heavy)})
+                data["weight"] = 1
+
     def test_the_arrays_are_kept_with_the_graph(self):
         graph = nx.path_graph(4)
         if not hasattr(graph, "__networkx_cache__"):
             self.skipTest("this networkx keeps nothing")
         found = [list(nx.minimum_spanning_edges(graph, backend="boruvka")) for _ in range(3)]
         (held,) = graph.__networkx_cache__["backends"]["boruvka"].values()
-        self.assertEqual((found[1:], list(held.columns)), (found[:2], ["weight"]))
+        self.assertEqual((found[1:], held.u.tolist()), (found[:2], [0, 1, 2]))
 
     def test_what_networkx_answers_itself(self):
         graph = nx.Graph([(1, 2, {"weight": 2**70}), (2, 3, {"weight": 0.5}), (1, 3, {"weight": 2**70 + 1})])

@@ -3,7 +3,7 @@
 import unittest
 
 import numpy as np
-from graphs import Graph
+from graphs import Graph, by_key
 
 try:
     from scipy import sparse
@@ -79,6 +79,16 @@ class Sparse(unittest.TestCase):
                 if not np.isnan(given.data).any():
                     self.expect_scipys(given.toarray(), False)
                     self.expect_scipys(given, False)
+
+    def test_maximum_spanning_trees(self):
+        for seed in range(200):
+            graph = Graph(seed, ("ties", "doubles", "special doubles", "natural"))
+            given = matrix_of(graph, graph.w)
+            found = minimum_spanning_tree(given, maximum=True)
+            wanted = sorted(graph.w[it] for it in by_key(graph, maximum=True))
+            self.assertEqual(sorted(found.data), [it for it in wanted if it != 0])
+        dense = np.array([[0, 4, 1], [3, 0, 0], [2, 6, 0]])
+        self.assertEqual(minimum_spanning_tree(dense, maximum=True).toarray().tolist(), [[0, 4, 0], [0, 0, 0], [0, 6, 0]])
 
     def test_refused(self):
         for wrong in (np.ones((2, 3)), sparse.csr_matrix((2, 3))):
