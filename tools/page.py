@@ -23,10 +23,23 @@ def read(name):
         return it.read()
 
 
-def joined(*names):
-    """The scripts of these names as one, each after those that it imports."""
-    text = "\n".join(re.sub(r"^import .*;\n", "", read(it), flags=re.M) for it in names)
-    return re.sub(r"^export ", "", text, flags=re.M)
+def parts(name, before=()):
+    """A script and all that it imports, each after those that it imports itself."""
+    names = []
+    for it in re.findall(r"^import .* from '\./(.*)';$", read(name), re.M):
+        names += parts(it, [*before, *names])
+    return [*names, name] if name not in [*before, *names] else names
+
+
+def joined(name):
+    """A script with all that it imports, as one script: no name may stand in two of them."""
+    text = "\n".join(re.sub(r"^import .*;\n", "", read(it), flags=re.M) for it in parts(name))
+    text = re.sub(r"^export ", "", text, flags=re.M)
+    names = re.findall(r"^(?:async )?(?:const|let|class|function\*?) ([\w$]+)", text, re.M)
+    twice = sorted({it for it in names if names.count(it) > 1})
+    if twice:
+        raise SystemExit(f"tools/page.py: {name} and its imports have two of {', '.join(twice)}")
+    return text
 
 
 def held(name, text):
@@ -41,8 +54,8 @@ def packed(module):
     page = read("index.html")
     if page.count(SCRIPT) != 1:
         raise SystemExit("tools/page.py: index.html doesn't run page.js")
-    parts = [held("packed-module", base64.b64encode(module).decode()), held("packed-worker", joined("boruvka.js", "worker.js"))]
-    return page.replace(SCRIPT, "".join(parts) + f'<script type="module">\n{joined("page.js")}</script>')
+    inside = [held("packed-module", base64.b64encode(module).decode()), held("packed-worker", joined("worker.js"))]
+    return page.replace(SCRIPT, "".join(inside) + f'<script type="module">\n{joined("page.js")}</script>')
 
 
 def main(module, into):

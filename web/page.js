@@ -36,14 +36,15 @@ const CAUSES = {
   BadPlace: 'A place must be “v V X Y”, with a vertex and two numbers.',
   SecondPlace: 'This vertex has a place already.',
   MissingPlaces: 'There are fewer places than the problem line says. Was the file cut off?',
-  DistanceTooLong: 'A distance has more than 2^53 of these steps. Choose a larger step.',
+  TooFarApart: 'No double holds the distance of these points.',
+  TooNear: 'Two points are nearer to each other than 10^-150 of the whole. Leave one of them out.',
   PlacesDiffer: 'The graph has another number of vertices than this file has places.',
   'no memory': 'The browser gives no more memory.',
 };
 
 // What is seen. `points` may be newer than `found`, the worker's last answer, while a new one is awaited.
-// `joined` is how they are, and `cross` the place on the picture that keys move.
-const state = { points: new Float64Array(), isGraph: false, isFitted: true, joined: null, found: null, clusters: null, cross: null, draws: 0 };
+// `cross` is the place on the picture that keys move.
+const state = { points: new Float64Array(), isGraph: false, isFitted: true, found: null, clusters: null, cross: null, draws: 0 };
 
 class Refused extends Error {
   constructor({ kind, line }) {
@@ -160,7 +161,11 @@ function clustersAt(count) {
   return { count, kept, nodes: all, colours };
 }
 
-const weightAt = (forest, i) => new BigInt64Array(forest.buffer, forest.byteOffset + 16 * i, 1)[0];
+// The weight of a forest's link: a whole number for a graph, for points the length, whose bits are the link's weight.
+function weightAt(forest, i) {
+  const Weights = state.isGraph ? BigInt64Array : Float64Array;
+  return new Weights(forest.buffer, forest.byteOffset + 16 * i, 1)[0];
+}
 
 // ---- the picture
 
@@ -375,18 +380,17 @@ function drawDendrogram() {
   pen.font = FONT;
   pen.fillText(decimal(weightAt(forest, k - 1)), MARGIN, height - MARGIN / 2);
   pen.textAlign = 'right';
-  pen.fillText(weightAt(forest, 0) < 0n ? decimal(weightAt(forest, 0)) : '0', width - MARGIN, height - MARGIN / 2);
+  pen.fillText(weightAt(forest, 0) < 0 ? decimal(weightAt(forest, 0)) : '0', width - MARGIN, height - MARGIN / 2);
 }
 
 // ---- what is told
 
 const counted = it => it.toLocaleString('en');
 
-// A whole number of steps as a decimal, exactly.
-function decimal(steps) {
-  const [whole, part = ''] = (state.joined?.step ?? '1').split('.'), scaled = steps * BigInt(whole + part);
-  const digits = String(scaled < 0n ? -scaled : scaled).padStart(part.length + 1, '0'), point = digits.length - part.length;
-  return (scaled < 0n ? '−' : '') + counted(BigInt(digits.slice(0, point))) + (part && `.${digits.slice(point)}`);
+// A weight: a whole number exactly, a length to seven digits.
+function decimal(weight) {
+  const text = typeof weight === 'bigint' ? counted(weight) : weight.toLocaleString('en', { maximumSignificantDigits: 7 });
+  return text.replace('-', '−');
 }
 
 // The sizes of the largest clusters.
@@ -451,13 +455,6 @@ function cutTo(count) {
 
 // ---- what is asked for
 
-// How the points are to be joined. The step is a decimal without an exponent.
-function joined() {
-  const within = (id, least, most, other) => Math.max(least, Math.min(most, Number($(id).value) || other));
-  const step = within('step', 1e-9, 1e9, 0.01).toFixed(9).replace(/\.?0+$/, '');
-  return { pairs: $('pairs').checked, near: Math.round(within('near', 1, 50, 8)), step };
-}
-
 // Whether the forest is that of the points seen.
 const isFresh = () => state.isGraph || state.found?.n * 2 === state.points.length;
 
@@ -471,8 +468,7 @@ function forget() {
 async function showAnswer(task, { isFitted = state.isFitted, count = $('cut').valueAsNumber } = {}) {
   const found = await solver.ask(task);
   if (!found) return;
-  Object.assign(state, { found, points: found.points, isGraph: !task.joined, joined: task.joined, isFitted });
-  if (task.joined) $(found.pairs ? 'pairs' : 'nearest').checked = true;
+  Object.assign(state, { found, points: found.points, isGraph: task.task === 'graph', isFitted });
   if (isFitted) fit();
   cutTo(count);
 }
@@ -480,7 +476,7 @@ async function showAnswer(task, { isFitted = state.isFitted, count = $('cut').va
 // The forest of the points that are there.
 async function solve(choice) {
   try {
-    await showAnswer({ task: 'points', points: state.points, joined: joined() }, choice);
+    await showAnswer({ task: 'points', points: state.points }, choice);
   } catch (error) {
     forget();
     fault(error);
@@ -548,7 +544,7 @@ async function openFile(file) {
   const text = new Uint8Array(await file.arrayBuffer()), name = file.name.toLowerCase();
   if (name.endsWith('.co')) await openPlaces(text);
   else if (name.endsWith('.gr')) await showAnswer({ task: 'graph', text }, NEW);
-  else await showAnswer({ task: 'table', text, joined: joined() }, NEW);
+  else await showAnswer({ task: 'table', text }, NEW);
 }
 
 // Opens files, graphs before places. A file that is refused changes nothing.
@@ -641,14 +637,8 @@ function listenToControls() {
   };
   $('cut').oninput = () => cutTo($('cut').valueAsNumber);
   $('clusters').onchange = () => cutTo($('clusters').valueAsNumber);
-  for (const id of ['pairs', 'nearest', 'near', 'step']) {
-    $(id).onchange = () => {
-      fault(null);
-      if (!state.isGraph) solve();
-    };
-  }
   $('saveforest').onclick = () => saveMade('forest.gr', { task: 'forestFile', n: state.found.n, forest: state.found.forest });
-  $('savelinks').onclick = () => saveMade('links.gr', { task: 'linksFile', points: state.points, joined: state.joined });
+  $('savelinks').onclick = () => saveMade('links.gr', { task: 'linksFile', points: state.points });
   $('saveclusters').onclick = () => save('clusters.csv', new Blob(clustersText(), { type: 'text/csv' }));
   $('savepicture').onclick = () => save('forest.svg', new Blob([pictureText()], { type: 'image/svg+xml' }));
 }

@@ -6,10 +6,11 @@
 // Points are a Float64Array: x and y of each. Links and forests are as boruvka.js has them.
 
 import { Refusal, forestOfLinks, forestOfText } from './boruvka.js';
+import { Plane } from './spaces.js';
+import { candidates } from './tree.js';
 
 const MOST_POINTS = 1_000_000;
-const MOST_PAIRED = 3_000;
-const MOST_COORDINATE = 1e100;
+const LEAST_SQUARE = 2 ** -1000; // of a distance, where the longest side of the box around all points is 1 to 2
 const MOST_PLACED = 1_000_000;
 const NONE = 0xffffffff; // no number of a colour
 
@@ -17,158 +18,23 @@ const told = part => postMessage({ progress: part });
 
 // ---- links between points
 
-// Puts the link at this place. Its weight is a whole number from 0 to 2^53.
-function putLink(links, place, weight, low, high) {
-  links[4 * place] = weight; // its lower 32 bits
-  links[4 * place + 1] = weight / 2 ** 32;
-  links[4 * place + 2] = low + 1;
-  links[4 * place + 3] = high + 1;
-}
-
-// The distance of two points in steps, rounded.
-function stepsBetween(points, u, v, step) {
-  const dx = points[2 * u] - points[2 * v], dy = points[2 * u + 1] - points[2 * v + 1];
-  return Math.round(Math.sqrt(dx * dx + dy * dy) / step);
-}
-
-// No distance is longer than the diagonal of the box around all points.
-function expectShort(points, step) {
-  let [left, right, low, high] = [Infinity, -Infinity, Infinity, -Infinity];
-  for (let i = 0; i < points.length; i += 2) {
-    left = Math.min(left, points[i]);
-    right = Math.max(right, points[i]);
-    low = Math.min(low, points[i + 1]);
-    high = Math.max(high, points[i + 1]);
-  }
-  if (points.length && !(Math.hypot(right - left, high - low) / step < 2 ** 53)) {
-    throw new Refusal('DistanceTooLong');
-  }
-}
-
-function allPairs(points, step) {
-  const n = points.length / 2, links = new Uint32Array(2 * n * Math.max(0, n - 1));
-  let place = 0;
-  for (let u = 0; u < n; u++) {
-    for (let v = u + 1; v < n; v++) {
-      putLink(links, place++, stepsBetween(points, u, v, step), u, v);
-    }
-    if (u % 256 === 0) told(1 - (1 - u / n) ** 2);
+// The links among which the shortest net of points is. Their weights are the bits of their lengths, doubles: as whole
+// numbers these have the same order.
+function linksOf(points) {
+  const space = Plane.of(points);
+  if (!space) throw new Refusal('TooFarApart');
+  const found = candidates(space, told), links = new Uint32Array(4 * found.length / 3), lengths = new Float64Array(links.buffer);
+  for (let i = 0, at = 0; i < links.length; i += 4, at += 3) {
+    const u = found[at], v = found[at + 1];
+    if (found[at + 2] < LEAST_SQUARE && isApart(points, u, v)) throw new Refusal('TooNear');
+    lengths[i / 2] = space.length(found[at + 2]);
+    links[i + 2] = Math.min(u, v) + 1;
+    links[i + 3] = Math.max(u, v) + 1;
   }
   return links;
 }
 
-// Moves the points of ids[low..high) until the one in the middle parts them by this coordinate, x (0) or y (1).
-function partAtMiddle(points, ids, low, high, axis) {
-  const middle = (low + high) >> 1;
-  for (let from = low, to = high - 1; from < to;) {
-    const pivot = points[2 * ids[(from + to) >> 1] + axis];
-    let i = from, j = to;
-    while (i <= j) {
-      while (points[2 * ids[i] + axis] < pivot) i++;
-      while (points[2 * ids[j] + axis] > pivot) j--;
-      if (i <= j) {
-        const id = ids[i];
-        ids[i++] = ids[j];
-        ids[j--] = id;
-      }
-    }
-    if (middle <= j) to = j;
-    else if (middle >= i) from = i;
-    else break;
-  }
-  return middle;
-}
-
-const LEAF = 8; // so few points are looked through one by one
-
-// A k-d tree: ids in an order where the middle of each range parts it by x, its halves by y, and so on. It finds the k
-// points nearest to one of them: `found` are their places in that order, nearest first, and `far` their squared distances.
-class Tree {
-  constructor(points, k) {
-    this.ids = Uint32Array.from({ length: points.length / 2 }, (_, i) => i);
-    this.part(points, 0, this.ids.length, 0);
-    this.x = Float64Array.from(this.ids, it => points[2 * it]);
-    this.y = Float64Array.from(this.ids, it => points[2 * it + 1]);
-    this.found = new Uint32Array(k);
-    this.far = new Float64Array(k);
-  }
-
-  part(points, low, high, axis) {
-    if (high - low <= LEAF) return;
-    const middle = partAtMiddle(points, this.ids, low, high, axis);
-    this.part(points, low, middle, 1 - axis);
-    this.part(points, middle + 1, high, 1 - axis);
-  }
-
-  nearestTo(place) {
-    this.from = place;
-    this.far.fill(Infinity);
-    this.search(0, this.ids.length, 0);
-    return this.found;
-  }
-
-  search(low, high, axis) {
-    if (high - low <= LEAF) {
-      for (let place = low; place < high; place++) this.offer(place);
-      return;
-    }
-    const middle = (low + high) >> 1, along = axis ? this.y : this.x, beyond = along[this.from] - along[middle];
-    if (beyond < 0) this.search(low, middle, 1 - axis);
-    else this.search(middle + 1, high, 1 - axis);
-    this.offer(middle);
-    if (beyond * beyond >= this.far[this.far.length - 1]) return;
-    if (beyond < 0) this.search(middle + 1, high, 1 - axis);
-    else this.search(low, middle, 1 - axis);
-  }
-
-  // Takes a point among those found, if it is nearer than the last of them.
-  offer(place) {
-    const { found, far, from, x, y } = this, dx = x[place] - x[from], dy = y[place] - y[from], distance = dx * dx + dy * dy;
-    let i = far.length - 1;
-    if (place === from || !(distance < far[i])) return;
-    for (; i > 0 && far[i - 1] > distance; i--) {
-      far[i] = far[i - 1];
-      found[i] = found[i - 1];
-    }
-    far[i] = distance;
-    found[i] = place;
-  }
-}
-
-// The ids of the `width` points nearest to each, one after the other.
-function nearestIds(points, width) {
-  const n = points.length / 2, near = new Uint32Array(n * width), tree = new Tree(points, width);
-  for (let place = 0; place < n; place++) {
-    const found = tree.nearestTo(place), begin = tree.ids[place] * width;
-    for (let i = 0; i < width; i++) near[begin + i] = tree.ids[found[i]];
-    if (place % 4096 === 0) told(place / n);
-  }
-  return near;
-}
-
-// Joins each point to its k nearest. Two points that are near each other have one link.
-function nearest(points, k, step) {
-  const width = Math.max(0, Math.min(k, points.length / 2 - 1)), near = width ? nearestIds(points, width) : new Uint32Array();
-  const isNear = (u, v) => {
-    for (let i = u * width; i < (u + 1) * width; i++) if (near[i] === v) return true;
-    return false;
-  };
-  const links = new Uint32Array(4 * near.length);
-  let count = 0;
-  for (let place = 0; place < near.length; place++) {
-    const u = Math.floor(place / width), v = near[place];
-    if (u < v || !isNear(v, u)) putLink(links, count++, stepsBetween(points, u, v, step), Math.min(u, v), Math.max(u, v));
-  }
-  return links.subarray(0, 4 * count);
-}
-
-const canPair = (points, pairs) => pairs && points.length / 2 <= MOST_PAIRED;
-
-// How points are joined: all pairs, or each to its nearest `near`. The step is a decimal.
-function linksOf(points, { pairs, near, step }) {
-  expectShort(points, Number(step));
-  return canPair(points, pairs) ? allPairs(points, Number(step)) : nearest(points, near, Number(step));
-}
+const isApart = (points, u, v) => points[2 * u] !== points[2 * v] || points[2 * u + 1] !== points[2 * v + 1];
 
 // ---- clusters
 
@@ -308,7 +174,7 @@ function placed(n, forest, { roots, first, order, size }) {
 // ---- files
 
 const decoded = text => new TextDecoder().decode(text);
-const isCoordinate = it => Math.abs(it) <= MOST_COORDINATE;
+const isCoordinate = Number.isFinite;
 const lines = text => decoded(text).replace(/\r?\n$/, '').split('\n');
 
 // The points of a table: x and y are the first two numbers of each line. Its first line may be a header.
@@ -387,33 +253,33 @@ function memoryOf(answer) {
   return values.flatMap(it => ArrayBuffer.isView(it) ? it.buffer : memoryOf(it));
 }
 
-// What a forest tells, with its merges and the sum of its weights. `begun` is when its call began.
-function found(n, forest, begun) {
-  const milliseconds = performance.now() - begun, weights = new BigInt64Array(forest.buffer, forest.byteOffset, forest.length / 2);
-  let total = 0n;
+// What a forest tells, with its merges and the sum of its weights, which are `Weights`. `begun` is when its call began.
+function found(n, forest, Weights, begun) {
+  const milliseconds = performance.now() - begun, weights = new Weights(forest.buffer, forest.byteOffset, forest.length / 2);
+  let total = Weights === Float64Array ? 0 : 0n;
   for (let i = 0; i < weights.length; i += 2) total += weights[i];
   return { n, forest, total, milliseconds, merges: mergesOf(n, forest) };
 }
 
 const tasks = {
-  points(module, { points, joined }) {
-    const n = points.length / 2, links = linksOf(points, joined), pairs = canPair(points, joined.pairs);
+  points(module, { points }) {
+    const n = points.length / 2, links = linksOf(points);
     told(null);
     const begun = performance.now();
-    return { points, pairs, links: links.length / 4, ...found(n, forestOfLinks(module, n, links), begun) };
+    return { points, links: links.length / 4, ...found(n, forestOfLinks(module, n, links), Float64Array, begun) };
   },
 
-  table: (module, { text, joined }) => tasks.points(module, { points: pointsOfTable(text), joined }),
+  table: (module, { text }) => tasks.points(module, { points: pointsOfTable(text) }),
 
   graph(module, { text }) {
     told(null);
-    const begun = performance.now(), { n, forest } = linksOfText(forestOfText(module, text)), all = found(n, forest, begun);
+    const begun = performance.now(), { n, forest } = linksOfText(forestOfText(module, text)), all = found(n, forest, BigInt64Array, begun);
     return { ...all, points: n <= MOST_PLACED ? placed(n, forest, all.merges) : new Float64Array() };
   },
 
   places: (_module, { text }) => ({ points: pointsOfPlaces(text) }),
   forestFile: (_module, { n, forest }) => fileOfLinks(n, forest),
-  linksFile: (_module, { points, joined }) => fileOfLinks(points.length / 2, linksOf(points, joined)),
+  linksFile: (_module, { points }) => fileOfLinks(points.length / 2, linksOf(points)),
 };
 
 let module;

@@ -95,7 +95,7 @@ def places_of_a_graph(_room):
     # without a graph they are points
     page.click("clear")
     page.drop(("places.co", PLACES))
-    page.expect(points="6", links="15", size="5")
+    page.expect(points="6", size="5")
 
 
 FAULTS = [
@@ -115,7 +115,7 @@ FAULTS = [
     ("bad.csv", b"1\n", "line 1: BadPoint"),
     ("bad.csv", b"1,inf\n", "line 1: BadPoint"),
     ("bad.csv", b"0,0\n" * 1000001, "line 1000001: TooManyPoints"),
-    ("far.csv", b"0,0\n1e90,0\n", "DistanceTooLong"),
+    ("far.csv", b"0,0\n1e308,1e308\n-1e308,0\n", "TooFarApart"),
     ("bad.co", b"v 1 2 3\n", "line 1: NoProblemYet"),
     ("bad.co", b"p aux sp co 1\np aux sp co 1\n", "line 2: SecondProblem"),
     ("bad.co", b"p sp 2 1\n", "line 1: BadProblem"),
@@ -151,10 +151,10 @@ def refused_files(_room):
 @case
 def a_file_that_is_refused_while_points_are_joined(_room):
     page = Page.opened()
-    page.set("count", 2900)
+    page.set("count", 40000)
     page.browser.run("document.getElementById('random').click()")
     page.drop(("bad.csv", b"1\n"))
     is_so(page.text("fault").startswith("bad.csv: line 1: BadPoint"), True)
-    is_so(page.shown("points", "size"), ["2,900", "2,899"])
+    is_so(page.shown("points", "size"), ["40,000", "39,999"])
     source = page.saved("savelinks", "links.gr")
     is_so(page.saved("saveforest", "forest.gr") == forest_by_program(source), True)

@@ -13,6 +13,7 @@ from browsing.driver import Browser
 from cases.running import ROOT, Components, Program, Skipped, forest_of, forest_text, ran
 
 WEB = f"{ROOT}/web"
+HERE = os.path.dirname(os.path.realpath(__file__))
 SHOWN = ("points", "links", "size", "total", "heaviest", "kept", "largest")
 
 DROP = """
@@ -63,7 +64,7 @@ class Page:
             self.browser = Browser(f"{self.folder}/saved")
             shutil.copytree(WEB, f"{self.folder}/web")
             shutil.copy(Page.module, f"{self.folder}/web/boruvka.wasm")
-            shutil.copy(f"{os.path.dirname(os.path.realpath(__file__))}/kruskal.js", f"{self.folder}/web")
+            shutil.copy(f"{HERE}/kruskal.js", f"{self.folder}/web")
             handler = functools.partial(Quiet, directory=f"{self.folder}/web")
             self.server = Server(("127.0.0.1", 0), handler)
         except BaseException:

@@ -10,7 +10,7 @@ from cases.running import ROOT, case
 @case
 def the_page_begins_with_an_example(_room):
     page = Page.opened()
-    page.expect(points="1,500", links="1,124,250", size="1,499")
+    page.expect(points="1,500", size="1,499")
     page.keep("begin")
     links = page.saved("savelinks", "links.gr")
     is_so(page.saved("saveforest", "forest.gr"), forest_by_program(links))
@@ -38,7 +38,7 @@ def nothing_comes_from_elsewhere(_room):
     found = page.browser.run("return performance.getEntriesByType('resource').map(it => it.name)")
     here = page.address.rsplit("/", 1)[0]
     is_so({it for it in found if not it.startswith((f"{here}/", "blob:", "data:"))}, set())
-    is_so({f"{here}/page.js", f"{here}/worker.js", f"{here}/boruvka.wasm"} <= set(found), True)
+    is_so({f"{here}/page.js", f"{here}/worker.js", f"{here}/tree.js", f"{here}/boruvka.wasm"} <= set(found), True)
 
 
 @case

@@ -17,7 +17,7 @@ def each_control_is_reached_and_named(_room):
     wanted = page.browser.run("""
         const all = [...document.querySelectorAll('button, input, summary, canvas[tabindex]')];
         return all.filter(it => it.checkVisibility() && !(it.type === 'radio' && !it.checked)).map(it => it.id || it.localName)""")
-    if len(wanted) < 15:
+    if len(wanted) < 11:
         raise AssertionError(f"only these were found: {wanted}")
     reached, page_of = [], "return document.activeElement === document.body ? '' : document.activeElement.id || document.activeElement.localName"
     for _ in range(len(wanted) + 2):
@@ -28,7 +28,7 @@ def each_control_is_reached_and_named(_room):
     roles = {"button", "spinbutton", "slider", "radio", "application", "image", "DisclosureTriangle", "textbox"}
     named = [(it["role"]["value"], it.get("name", {}).get("value", "").strip()) for it in tree if not it["ignored"] and it.get("role", {}).get("value") in roles]
     is_so([it for it in named if not it[1]], [])
-    if len(named) < 17:
+    if len(named) < 12:
         raise AssertionError(f"only these were found: {named}")
     is_so(len({it[1] for it in named}), len(named))
     live = {it["role"]["value"] for it in tree if not it["ignored"]} & {"alert", "status"}
@@ -118,7 +118,6 @@ def own_time(page):
 @case
 def a_hundred_thousand_points_stay_fluid(_room):
     page = Page.opened()
-    page.click("nearest")
     page.browser.run("document.getElementById('count').value = arguments[0]", MOST_POINTS)
     page.browser.devtools("Performance.enable", timeDomain="threadTicks")
     begin = own_time(page)
@@ -146,8 +145,7 @@ def a_hundred_thousand_points_stay_fluid(_room):
 @case
 def what_takes_long_can_be_stopped(_room):
     page = Page.opened()
-    page.click("nearest")
-    page.browser.run("document.getElementById('near').value = 50; document.getElementById('count').value = 200000; document.getElementById('random').click()")
+    page.browser.run("document.getElementById('count').value = 200000; document.getElementById('random').click()")
     page.browser.wait("!document.getElementById('busy').hidden")
     page.click("stop")
     page.expect(points="200,000", size="", total="")
