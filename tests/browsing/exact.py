@@ -152,10 +152,10 @@ def the_page_finds_the_shortest_net(room):
             points = shape(draw, n)
             page.drop(("points.csv", text_of(points)))
             page.expect(points=f"{len(points):,}", size=f"{len(points) - 1:,}")
-            forest = page.saved("saveforest", "forest.gr")
+            forest = page.saved("forest.gr")
             found = [struct.unpack("d", struct.pack("q", it[2]))[0] for it in arcs_of(forest)[1]]
             is_so((shape.__name__, n, found == lengths_by_prim(room, points)), (shape.__name__, n, True))
-            is_so(forest_by_program(page.saved("savelinks", "links.gr")) == forest, True)
+            is_so(forest_by_program(page.saved("links.gr")) == forest, True)
             total = f"{sum(found):,.7g}" if 1e-3 < sum(found) < 1e6 else None
             if total:
                 is_so(page.text("total"), f"{float(f'{sum(found):.7g}'):,}".removesuffix(".0"))
