@@ -4,11 +4,23 @@
 usage: tools/page.py MODULE INTO
 
 MODULE is boruvka.wasm, which `make wasm` builds. INTO gets the page. The same files give the same bytes.
+
+The page takes data in two ways, and reads both as it reads a file that is opened:
+
+- Inside of it, in place of the empty element DATA: `<script type="application/json" id="data">{"name": "towns.csv",
+  "base64": ".."}</script>`. The base64 is that of the file's bytes, packed by gzip or not. Its name ends as the file's would,
+  and has each `<` as `\\u003c`.
+- In its address, behind `#d=`: the text of a table of up to 5,000 points, packed by raw deflate and written as base64url
+  without `=`.
+
+A policy in its head names the sums of its scripts and its style: no other runs, and nothing is asked for.
 """
 import base64
+import hashlib
 import os
 import re
 import sys
+import zlib
 
 sys.dont_write_bytecode = True
 
@@ -16,6 +28,8 @@ from crates import ROOT
 
 WEB = f"{ROOT}/web"
 SCRIPT = '<script type="module" src="page.js"></script>'
+STYLE = '<link rel="stylesheet" href="page.css">'
+DATA = '<script type="application/json" id="data"></script>'
 
 
 def read(name):
@@ -23,26 +37,61 @@ def read(name):
         return it.read()
 
 
-def joined(*names):
-    """The scripts of these names as one, each after those that it imports."""
-    text = "\n".join(re.sub(r"^import .*;\n", "", read(it), flags=re.M) for it in names)
-    return re.sub(r"^export ", "", text, flags=re.M)
+def parts(name, before=()):
+    """A script and all that it imports, each after those that it imports itself."""
+    names = []
+    for it in re.findall(r"^import .* from '\./(.*)';$", read(name), re.M):
+        names += parts(it, [*before, *names])
+    return [*names, name] if name not in [*before, *names] else names
 
 
-def held(name, text):
-    """A part of the page that isn't run, but read by its scripts."""
-    if "</script" in text.lower():
-        raise SystemExit(f"tools/page.py: {name} would end its element")
-    return f'<script type="text/plain" id="{name}">\n{text.strip()}\n</script>\n'
+def variable(name):
+    return f"from_{name.removesuffix('.js')}"
+
+
+def enclosed(name):
+    """A script as a function that is called once: it answers what the script exports."""
+    text = re.sub(r"^import (.*) from '\./(.*)';$", lambda it: f"const {it[1]} = {variable(it[2])};", read(name), flags=re.M)
+    exports = re.findall(r"^export (?:const|class|(?:async )?function\*?) (\w+)", text, re.M)
+    text = re.sub(r"^export ", "", text, flags=re.M)
+    if re.search(r"^(import|export)\b", text, re.M):
+        raise SystemExit(f"tools/page.py: {name} imports or exports in a way that isn't known here")
+    return f"const {variable(name)} = (() => {{\n{text}return {{ {', '.join(exports)} }};\n}})();\n"
+
+
+def joined(name):
+    """A script with all that it imports, as one script."""
+    return "\n".join(map(enclosed, parts(name)))
+
+
+def held(name, content):
+    """A part of the page that isn't run, but unpacked by its scripts: bytes packed by raw deflate, as base64."""
+    packer = zlib.compressobj(9, zlib.DEFLATED, -15)
+    text = base64.b64encode(packer.compress(content) + packer.flush()).decode()
+    return f'<script type="text/plain" id="{name}">{text}</script>\n'
+
+
+def policy(*scripts, style):
+    """What the browser lets a packed page do: run these texts, and no more."""
+    sums = {it: f"'sha256-{base64.b64encode(hashlib.sha256(it.encode()).digest()).decode()}'" for it in [*scripts, style]}
+    of_scripts = " ".join(sums[it] for it in scripts)
+    return f"default-src 'none'; script-src {of_scripts} 'wasm-unsafe-eval'; worker-src blob:; style-src {sums[style]}; img-src data: blob:; media-src blob:; base-uri 'none'; form-action 'none'"
+
+
+def replaced(page, old, new):
+    if page.count(old) != 1:
+        raise SystemExit(f"tools/page.py: index.html has {page.count(old)} of {old}")
+    return page.replace(old, new)
 
 
 def packed(module):
     """The page, with these bytes as its module."""
-    page = read("index.html")
-    if page.count(SCRIPT) != 1:
-        raise SystemExit("tools/page.py: index.html doesn't run page.js")
-    parts = [held("packed-module", base64.b64encode(module).decode()), held("packed-worker", joined("boruvka.js", "worker.js"))]
-    return page.replace(SCRIPT, "".join(parts) + f'<script type="module">\n{joined("page.js")}</script>')
+    script, style = f"\n{joined('page.js')}", f"\n{read('page.css')}"
+    inside = [held("packed-module", module), held("packed-worker", joined("worker.js").encode()), f"{DATA}\n"]
+    page = replaced(read("index.html"), SCRIPT, "".join(inside) + f'<script type="module">{script}</script>')
+    page = replaced(page, STYLE, f"<style>{style}</style>")
+    (open_policy,) = re.findall(r'http-equiv="Content-Security-Policy" content="([^"]*)"', page)
+    return page.replace(open_policy, policy(script, style=style))
 
 
 def main(module, into):

@@ -8,11 +8,11 @@ const PAGE = 65536; // bytes
 const MOST_WORK = 2 ** 33; // bytes that a call may work in
 const NO_MEMORY = -1n;
 
-// Why there is no forest: the kind of its fault, and the line of a text, from 1, or 0.
+// Why there is no forest: the kind of its fault, the line of a text, from 1, or 0, and perhaps what stands there.
 export class Refusal extends Error {
-  constructor(kind, line = 0) {
+  constructor(kind, line = 0, what = '') {
     super(line ? `line ${line}: ${kind}` : kind);
-    Object.assign(this, { kind, line });
+    Object.assign(this, { kind, line, what });
   }
 }
 

@@ -1,9 +1,13 @@
 """Graphs and places from files, and files that are refused."""
+import base64
+import gzip
 import random
+import re
 
-from browsing.page import Page, clusters_of, forest_by_program, is_same_partition, is_so
+from browsing.page import DROP as DROP_SOON, Page, clusters_of, forest_by_program, is_same_partition, is_so
 from cases.running import ROOT, SMALL_FOREST, SMALL_NET, case, drawn_graph, file_of, forest_of
 
+ENTER, ESCAPE = "\ue007", "\ue00c"
 PLACES = b"c places\np aux sp co 6\n" + b"".join(b"v %d %d %d\n" % (v, 10 * v, v * v) for v in range(1, 7))
 
 
@@ -11,20 +15,22 @@ PLACES = b"c places\np aux sp co 6\n" + b"".join(b"v %d %d %d\n" % (v, 10 * v, v
 def a_dropped_graph(_room):
     page = Page.opened()
     page.drop(("small.gr", SMALL_NET))
-    page.expect(points="6", links="", size="5", total="13", heaviest="10", largest="1 cluster, of 6")
-    is_so(page.saved("saveforest", "forest.gr"), SMALL_FOREST)
+    page.expect(points="6", size="5", total="13", heaviest="10")
+    is_so(page.saved("forest.gr"), SMALL_FOREST)
     is_so(page.text("pointsword"), "Vertices")
     page.set("cut", 3)
-    page.expect(kept="0", largest="3 clusters, of 4, 1, 1")
-    is_so(page.saved("saveclusters", "clusters.csv"), b"vertex,cluster\n1,2\n2,1\n3,1\n4,1\n5,1\n6,3\n")
+    page.expect(kept="0", say="3 clusters, of 4, 1, 1; 2 of fewer than 2 are grey.")
+    is_so(page.saved("clusters.csv"), b"vertex,cluster\n1,2\n2,1\n3,1\n4,1\n5,1\n6,3\n")
     with open(f"{ROOT}/examples/roads.gr", "rb") as it:
         roads = it.read()
     page.drop(("roads.gr", roads))
-    page.expect(points="10", size="8", total="40", heaviest="11", largest="2 clusters, of 8, 2")
-    is_so(page.saved("saveforest", "forest.gr"), forest_by_program(roads))
+    page.expect(points="10", size="8", total="40", heaviest="11")
+    is_so(page.saved("forest.gr"), forest_by_program(roads))
     page.keep("roads")
-    page.browser.click_at("picture", 10, 10)
-    is_so((page.text("fault"), page.text("points")), ("The vertices come from a file. Clear it to set points.", "10"))
+    page.click("pen")
+    page.browser.click_at("picture", 300, 300)
+    page.frames()
+    is_so((page.text("fault"), page.text("points")), ("What is shown comes from a file. Clear it to set points.", "10"))
 
 
 @case
@@ -33,11 +39,12 @@ def files_that_are_chosen(room):
     for name, text in [("small.gr", SMALL_NET), ("places.co", PLACES)]:
         with open(f"{room}/{name}", "wb") as it:
             it.write(text)
+    page.click("open")
     page.browser.write("files", f"{room}/places.co\n{room}/small.gr")
     page.browser.wait("document.getElementById('points').textContent === '6'")
     page.settle()
     page.expect(total="13")
-    is_so(page.saved("saveforest", "forest.gr"), SMALL_FOREST)
+    is_so(page.saved("forest.gr"), SMALL_FOREST)
 
 
 @case
@@ -49,7 +56,7 @@ def weights_of_64_bits(_room):
     page.drop(("wide.gr", source))
     total = sum(it[0] for it in forest)
     page.expect(total=f"{total:,}".replace("-", "−"), heaviest=f"{forest[-1][0]:,}".replace("-", "−"))
-    is_so(page.saved("saveforest", "forest.gr"), forest_by_program(source))
+    is_so(page.saved("forest.gr"), forest_by_program(source))
 
 
 @case
@@ -60,11 +67,11 @@ def graphs_of_many_parts(_room):
         page.drop(("drawn.gr", source))
         trees = n - forest.count(b"\na ")
         page.expect(points=f"{n:,}", size=f"{n - trees:,}")
-        is_so((page.saved("saveforest", "forest.gr") == forest, forest_by_program(source) == forest), (True, True))
+        is_so((page.saved("forest.gr") == forest, forest_by_program(source) == forest), (True, True))
         is_so(page.browser.run("return document.getElementById('cut').min"), str(trees))
         page.keep(f"graph_{n}")
         page.set("clusters", min(n, trees + 5))
-        rows = page.saved("saveclusters", "clusters.csv").decode().splitlines()[1:]
+        rows = page.saved("clusters.csv").decode().splitlines()[1:]
         is_same_partition([int(it.split(",")[1]) for it in rows], clusters_of(forest, min(n, trees + 5)))
 
 
@@ -72,8 +79,9 @@ def graphs_of_many_parts(_room):
 def a_graph_that_is_too_large_to_be_drawn(_room):
     page = Page.opened()
     page.drop(("large.gr", b"p sp 1500000 2\na 1 1500000 7\na 7 1 -3\n"))
-    page.expect(points="1,500,000", size="2", total="4", heaviest="7", largest="1,499,998 clusters, of 3, 1, 1, 1, 1, 1 and 1,499,992 more")
-    is_so(page.saved("saveforest", "forest.gr"), b"p sp 1500000 2\na 1 7 -3\na 1 1500000 7\n")
+    page.set("clusters", 1)
+    page.expect(points="1,500,000", size="2", total="4", heaviest="7", say="1,499,998 clusters, of 3, 1, 1, 1, 1, 1 and 1,499,992 more; 1,499,998 of fewer than 15,000 are grey.")
+    is_so(page.saved("forest.gr"), b"p sp 1500000 2\na 1 7 -3\na 1 1500000 7\n")
 
 
 @case
@@ -81,21 +89,132 @@ def places_of_a_graph(_room):
     page = Page.opened()
     page.drop(("places.co", PLACES), ("small.gr", SMALL_NET))
     page.expect(points="6", total="13")
-    together = page.saved("savepicture", "forest.svg")
+    together = page.saved("picture.svg")
     page.drop(("small.gr", SMALL_NET))
-    is_so(page.saved("savepicture", "forest.svg") == together, False)
+    is_so(page.saved("picture.svg") == together, False)
     page.drop(("places.co", PLACES))
     page.expect(points="6", total="13", size="5")
     page.keep("places")
-    is_so(page.saved("savepicture", "forest.svg"), together)
+    is_so(page.saved("picture.svg"), together)
     # y goes upwards: the vertex 6 is the last, right above
-    marks = together.decode().split('fill="#0072b2" d="M')[1].split('"')[0].split("M")
-    x, y = zip(*(map(float, it.split("a")[0].split()) for it in marks))
-    is_so((sorted(x), sorted(y, reverse=True)), (list(x), list(y)))
+    numbers = re.findall(r'<text x="([0-9.]+)" y="([0-9.]+)"', together.decode())
+    x, y = zip(*((float(one), float(other)) for one, other in numbers))
+    is_so((len(x), sorted(x), sorted(y, reverse=True)), (6, list(x), list(y)))
     # without a graph they are points
     page.click("clear")
     page.drop(("places.co", PLACES))
-    page.expect(points="6", links="15", size="5")
+    page.expect(points="6", size="5")
+
+
+def points_of(text):
+    """The points of a saved table without names: x and y, and the cluster of each."""
+    return [tuple(map(float, it.split(",")[:2])) for it in text.decode().splitlines()[1:]]
+
+
+TOWNS = f"{ROOT}/python/examples/towns.csv"
+FEATURES = b"""{"type": "FeatureCollection", "features": [
+ {"type": "Feature", "properties": {"name": "Horta"}, "geometry": {"type": "Point", "coordinates": [-28.63, 38.53]}},
+ {"type": "Feature", "properties": {}, "geometry": {"type": "MultiPoint", "coordinates": [[-25.67, 37.74], [-27.22, 38.66]]}}]}"""
+
+# what is in a file, and what the page shows of it: how many points, and their total
+TAKEN = [
+    ("crlf.csv", b"x,y\r\n0,0\r\n3,4\r\n\r\n", "2", "5"),
+    ("cr.csv", b"0,0\r3,4\r3,5", "3", "6"),
+    ("cr.csv", b"0,0\r3,4\r", "2", "5"),
+    ("id.csv", b"id,x,y\n100,0,0\n900,3,4\n", "2", "5"),
+    ("turned.csv", b"Y,name,X\n4,a,3\n0,b,0\n", "2", "5"),
+    ("quotes.csv", b'name,x,y\n"a, ""b""\nc",0,0\n"",3,4\n', "2", "5"),
+    ("semicolons.csv", b"1,5;2,5\n4,5;6,5\n", "2", "5"),
+    ("semicolons.csv", b"x;y\n1.5;2.5\n4.5;6.5\n", "2", "5"),
+    ("quoted.csv", b'"0","0"\n"3","4"\n', "2", "5"),
+    ("tabs.txt", b"0\t0\n3\t4\n", "2", "5"),
+    ("spaces.txt", b"  0   0\n 3 4\n", "2", "5"),
+    ("bom.csv", b"\xef\xbb\xbfx,y\n0,0\n3,4\n", "2", "5"),
+    ("utf16.txt", "x\ty\n0\t0\n3\t4\n".encode("utf-16"), "2", "5"),
+    ("signs.csv", b"+1e0,-.5\n1.,-1.5E0\n", "2", "1"),
+    ("packed.csv.gz", gzip.compress(b"0,0\n3,4\n"), "2", "5"),
+    ("packed.gr.gz", gzip.compress(SMALL_NET), "6", "13"),
+    ("unnamed", SMALL_NET, "6", "13"),
+    ("links.csv", b"source,target,weight\na,b,1.5\nb,c,2\nc,a,-1\nc,c,5\n", "3", "0.5"),
+    ("links.csv", b"From;To\na;b\nb;c\n", "3", "2"),
+    # by the haversine formula in Python's floats, with 6371 km
+    ("globe.csv", b"Longitude,LATITUDE\n0,0\n90,0\n0,90\n", "3", "20,015.09 km"),
+    ("globe.csv", b"lat,lon\n0,179.5\n0,-179.5\n", "2", "111.1949 km"),
+    ("points.geojson", FEATURES, "3", "293.1188 km"),
+    ("point.json", b'{"type": "Point", "coordinates": [1, 2, 3]}', "1", "0 km"),
+]
+
+
+@case
+def files_that_are_taken(_room):
+    page = Page.opened()
+    for name, text, points, total in TAKEN:
+        page.drop((name, text))
+        is_so((name, text[:60], page.text("fault"), page.text("points"), page.text("total")), (name, text[:60], "", points, total))
+    page.drop(("semicolons.csv", b"1,5;2,5\n4,5;6,5\n"))
+    is_so(page.text("notes"), "A comma is read as the decimal point: 1,5 is 1.5.")
+    page.drop(("links.csv", b"source,target\nc,c\na,b\n"))
+    is_so(page.text("notes"), "1 of the links join a name with itself, and are left out. No column is a weight: each link weighs 1.")
+    page.expect()
+
+
+@case
+def the_towns_of_the_repository(_room):
+    """Its columns by the header, kilometres on great circles, and their archipelagos as the Python example has them."""
+    page = Page.opened()
+    with open(TOWNS, "rb") as it:
+        towns = it.read()
+    page.drop(("towns.csv", towns))
+    page.expect(points="22", size="21", total="4,501.454 km")
+    page.set("clusters", 4)
+    page.keep("towns")
+    rows = [it.rsplit(",", 2) for it in page.saved("clusters.csv").decode().splitlines()]
+    is_so([",".join(it[:2]) for it in rows], towns.decode().splitlines())
+    is_so(rows[0][2], "cluster")
+    is_so(len({(it[1], it[2]) for it in rows[1:]}), 4)
+
+
+@case
+def columns_that_are_chosen(_room):
+    """A table whose header leaves them open is asked about, by keys too."""
+    page = Page.opened()
+    page.browser.run(DROP_SOON, [("table.csv", base64.b64encode(b"a,b,c\n7,0,0\n8,3,4\n").decode())])
+    page.browser.wait("document.getElementById('columns').open")
+    page.keep("columns")
+    page.set("role-across", 1)
+    page.set("role-up", 2)
+    page.browser.run("document.querySelector('#columns button[value=take]').focus()")
+    page.browser.press(ENTER)
+    page.settle()
+    page.expect(points="2", total="5")
+    page.browser.run(DROP_SOON, [("table.csv", base64.b64encode(b"a b 2\nb c 3\n").decode())])
+    page.browser.wait("document.getElementById('columns').open")
+    page.browser.run("document.querySelector('#columns button[value=take]').click()")
+    page.settle()
+    page.expect(points="3", size="2", total="5")
+    page.browser.run(DROP_SOON, [("table.csv", base64.b64encode(b"1,2,3\n").decode())])
+    page.browser.wait("document.getElementById('columns').open")
+    page.browser.press(ESCAPE)
+    page.settle()
+    is_so((page.text("fault"), page.text("points")), ("table.csv: No columns were chosen.", "3"))
+
+
+@case
+def a_table_that_is_pasted(_room):
+    page = Page.opened()
+    paste = "const data = new DataTransfer(); data.setData('text/plain', arguments[0]); document.body.dispatchEvent(new ClipboardEvent('paste', { clipboardData: data, bubbles: true }))"
+    page.browser.run(paste, "x\ty\n0\t0\n3\t4")
+    page.settle()
+    page.expect(points="2", total="5")
+    page.click("open")
+    page.keep("open")
+    page.browser.write("pasted", "0,0\n1,0\n2,0\n")
+    page.browser.click("take")
+    page.settle()
+    page.expect(points="3", total="2")
+    page.browser.run(paste, "nothing")
+    page.settle()
+    is_so(page.text("fault")[:39], "pasted.csv: line 1: OneColumn (‘nothing")
 
 
 FAULTS = [
@@ -110,12 +229,41 @@ FAULTS = [
     ("bad.gr", b"p sp 2 1\na 1 2 9223372036854775808\n", "line 2: WeightOutOfRange"),
     ("bad.gr", b"", "line 1: MissingProblem"),
     ("bad.gr", b"p sp 2 2\na 1 2 3\n", "line 3: MissingArcs"),
-    ("bad.csv", b"1,2\nthree,4\n", "line 2: BadPoint"),
-    ("bad.csv", b"x,y\nx,y\n", "line 2: BadPoint"),
-    ("bad.csv", b"1\n", "line 1: BadPoint"),
-    ("bad.csv", b"1,inf\n", "line 1: BadPoint"),
+    ("bad.csv", b"1,2\nthree,4\n", "line 2: NoNumber (‘three’)"),
+    ("bad.csv", b"x,y\nx,y\n", "line 2: NoNumber (‘x’)"),
+    ("bad.csv", b"x,y\n1,2\n\n3,\n", "line 4: NoNumber (‘’)"),
+    ("bad.csv", b"1\n", "line 1: OneColumn (‘1’)"),
+    ("bad.csv", b"1,inf\n2,3\n", "line 1: NoNumber (‘inf’)"),
+    ("bad.csv", b"x,y\n1,NaN\n", "line 2: NoNumber (‘NaN’)"),
+    ("bad.csv", b"x,y\n1,1e400\n", "line 2: NoNumber (‘1e400’)"),
+    ("bad.csv", b"x,y\n1,0x10\n", "line 2: NoNumber (‘0x10’)"),
+    ("bad.csv", b"x,y\n1,2,3\n", "line 2: OtherColumns (3 in place of 2)"),
+    ("bad.csv", b"x,y\n" + b"1,2\n" * 9 + b"1\n", "line 11: OtherColumns (1 in place of 2)"),
+    ("bad.csv", b"1,5;2\n1.5;2\n", "line 2: PointAndComma (‘1.5’)"),
+    ("bad.csv", b'x,y\n"1,2\n3,4\n', "line 2: OpenQuote"),
+    ("bad.csv", b"x,y\n1,\xe4\n", "NoUtf8"),
+    ("bad.csv", b"x,y\n1,2\0\n", "line 1: NoText"),
+    ("bad.csv", b"", "NoPoint"),
+    ("bad.csv", b"\n \n\r\n", "NoPoint"),
+    ("bad.csv", b"x,y\n", "NoPoint"),
+    ("bad.csv", b"lon,lat\n0,91\n", "line 2: NoLatitude (91)"),
+    ("bad.csv", b"lon,lat\n400,0\n", "line 2: NoLongitude (400)"),
+    ("bad.csv", b"source,target\n", "NoLink"),
+    ("bad.csv", b"source,target\na,\n", "line 2: NoName"),
+    ("bad.csv", b"source,target,weight\na,b,9007199254740993\n", "line 2: LongWeight (9007199254740993)"),
+    ("bad.csv", b"source,target,weight\na,b,\n", "line 2: NoNumber (‘’)"),
     ("bad.csv", b"0,0\n" * 1000001, "line 1000001: TooManyPoints"),
-    ("far.csv", b"0,0\n1e90,0\n", "DistanceTooLong"),
+    ("bad.png", b"\x89PNG\r\n\x1a\n\0\0", "NoText (a PNG picture)"),
+    ("bad.xlsx", b"PK\x03\x04\0\0", "NoText (a ZIP or Excel file)"),
+    ("bad.csv.gz", gzip.compress(b"1,2\n" * 9999)[:-40], "BadGzip"),
+    ("bad.csv.gz", b"\x1f\x8bnothing", "BadGzip"),
+    ("bad.geojson", b"{", "BadJson"),
+    ("bad.geojson", b'{"type": "FeatureCollection", "features": []}', "NoPoint"),
+    ("bad.geojson", b'{"type": "Polygon", "coordinates": []}', "NoGeoPoint (feature 1: Polygon)"),
+    ("bad.geojson", b'[{"type": "Point", "coordinates": [1, 2]}, {"type": "Point", "coordinates": ["1", 2]}]', "NoGeoPoint (feature 2: no two numbers)"),
+    ("bad.geojson", b'{"type": "Point", "coordinates": [1, 200]}', "NoLatitude (200)"),
+    ("bad.geojson", b"null", "NoGeoPoint (feature 1: nothing)"),
+    ("far.csv", b"0,0\n1e308,1e308\n-1e308,0\n", "TooFarApart"),
     ("bad.co", b"v 1 2 3\n", "line 1: NoProblemYet"),
     ("bad.co", b"p aux sp co 1\np aux sp co 1\n", "line 2: SecondProblem"),
     ("bad.co", b"p sp 2 1\n", "line 1: BadProblem"),
@@ -136,12 +284,13 @@ def refused_files(_room):
     page = Page.opened()
     page.drop(("small.gr", SMALL_NET))
     page.set("cut", 2)
-    before, picture = page.shown(), page.saved("savepicture", "forest.svg")
+    before, picture = page.shown(), page.saved("picture.svg")
     for name, text, told in FAULTS:
         page.drop((name, text))
         found = page.text("fault")
-        is_so((found[: len(name) + len(told) + 4], found.endswith((".", "?"))), (f"{name}: {told}. ", True))
-        is_so((page.shown(), page.saved("savepicture", "forest.svg")), (before, picture))
+        is_so((found[: len(name) + len(told) + 2], found.endswith((".", "?"))), (f"{name}: {told}", True))
+        is_so(page.shown(), before)
+    is_so(page.saved("picture.svg"), picture)
     page.keep("refused")
     is_so(page.browser.complaints(), [])
     page.drop(("small.gr", SMALL_NET))
@@ -150,11 +299,11 @@ def refused_files(_room):
 
 @case
 def a_file_that_is_refused_while_points_are_joined(_room):
+    """The points before them stay: a file ends what was begun."""
     page = Page.opened()
-    page.set("count", 2900)
+    before = page.text("points")
+    page.set("count", 40000)
     page.browser.run("document.getElementById('random').click()")
     page.drop(("bad.csv", b"1\n"))
-    is_so(page.text("fault").startswith("bad.csv: line 1: BadPoint"), True)
-    is_so(page.shown("points", "size"), ["2,900", "2,899"])
-    source = page.saved("savelinks", "links.gr")
-    is_so(page.saved("saveforest", "forest.gr") == forest_by_program(source), True)
+    is_so(page.text("fault").startswith("bad.csv: line 1: OneColumn"), True)
+    is_so(page.text("points"), before)

@@ -9,11 +9,12 @@ import sys
 import tempfile
 import threading
 
-from browsing.driver import Browser
+from browsing.driver import SECONDS, Browser
 from cases.running import ROOT, Components, Program, Skipped, forest_of, forest_text, ran
 
 WEB = f"{ROOT}/web"
-SHOWN = ("points", "links", "size", "total", "heaviest", "kept", "largest")
+HERE = os.path.dirname(os.path.realpath(__file__))
+SHOWN = ("points", "size", "total", "heaviest", "kept", "say")
 
 DROP = """
 const data = new DataTransfer();
@@ -63,7 +64,7 @@ class Page:
             self.browser = Browser(f"{self.folder}/saved")
             shutil.copytree(WEB, f"{self.folder}/web")
             shutil.copy(Page.module, f"{self.folder}/web/boruvka.wasm")
-            shutil.copy(f"{os.path.dirname(os.path.realpath(__file__))}/kruskal.js", f"{self.folder}/web")
+            shutil.copy(f"{HERE}/fast_kruskal.js", f"{self.folder}/web")
             handler = functools.partial(Quiet, directory=f"{self.folder}/web")
             self.server = Server(("127.0.0.1", 0), handler)
         except BaseException:
@@ -73,15 +74,23 @@ class Page:
         self.address = f"http://127.0.0.1:{self.server.server_port}/index.html"
 
     @classmethod
-    def opened(cls):
-        """The page as it begins."""
+    def opened(cls, more="", **looks):
+        """The page as it begins, at its address with `more`. It looks as `look` is told."""
         cls.now = cls.now or cls()
         page = cls.now
         for name in os.listdir(page.browser.downloads):
             os.unlink(f"{page.browser.downloads}/{name}")
-        page.browser.open(page.address)
+        page.look(**looks)
+        page.browser.open("about:blank")
+        page.browser.open(page.address + more)
         page.settle()
         return page
+
+    def look(self, width=1280, height=800, scheme="light", motion="reduce", sharp=1):
+        """Sets the window's size in points, light or dark, and whether much may move."""
+        self.browser.devtools("Emulation.setDeviceMetricsOverride", width=width, height=height, deviceScaleFactor=sharp, mobile=width < 500)
+        features = [{"name": "prefers-color-scheme", "value": scheme}, {"name": "prefers-reduced-motion", "value": motion}]
+        self.browser.devtools("Emulation.setEmulatedMedia", features=features)
 
     @classmethod
     def cleared(cls):
@@ -99,17 +108,18 @@ class Page:
             shutil.rmtree(cls.now.folder)
             cls.now = None
 
-    def settle(self):
-        """Waits until all is done that was begun."""
-        self.browser.wait("document.body?.ariaBusy === 'false'")
+    def settle(self, seconds=SECONDS):
+        """Waits until all is done that was begun, and drawn."""
+        self.browser.wait("document.body?.ariaBusy === 'false'", seconds=seconds)
+        self.browser.wait("document.getElementById('picture').ariaBusy !== 'true'", seconds=seconds)
 
     def click(self, name):
         self.browser.run("document.getElementById(arguments[0]).click()", name)
-        self.settle()
+        self.frames()
 
     def set(self, name, value):
         self.browser.run(SET, name, str(value))
-        self.settle()
+        self.frames()
 
     def value(self, name):
         return self.browser.run("return document.getElementById(arguments[0]).value", name)
@@ -120,16 +130,24 @@ class Page:
     def shown(self, *names):
         return [self.text(it) for it in names or SHOWN]
 
-    def drop(self, *files):
+    def drop(self, *files, seconds=SECONDS):
         """Drops files, each a name and its bytes."""
         self.browser.run(DROP, [(name, base64.b64encode(text).decode()) for name, text in files])
-        self.settle()
+        self.settle(seconds)
 
-    def saved(self, button, name):
+    def saved(self, name):
         """What is saved by a person's click: a page may save ten files by itself."""
-        self.browser.click(button)
+        self.click("save")
+        self.browser.click(f"save-{name.replace('.', '-')}")
         self.settle()
-        return self.browser.downloaded(name)
+        content = self.browser.downloaded(name)
+        self.browser.run("document.getElementById('saving').close()")
+        return content
+
+    def frames(self):
+        """Waits until what was asked for is told and drawn."""
+        self.browser.run("return new Promise(done => requestAnimationFrame(() => requestAnimationFrame(done)))")
+        self.settle()
 
     def keep(self, name):
         """Takes a picture, to look at."""
@@ -139,6 +157,7 @@ class Page:
 
     def expect(self, **wanted):
         """It shows this, and has told of no fault and no error."""
+        self.frames()
         is_so(dict(zip(wanted, self.shown(*wanted))), wanted)
         is_so((self.text("fault"), self.browser.complaints()), ("", []))
 

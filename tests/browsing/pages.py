@@ -1,20 +1,50 @@
-"""How the page begins, over a server and from a file, and where it can't."""
+"""How the page begins, over a server and from a file, what it carries, and where it can't."""
+import base64
+import gzip
+import json
 import os
 import subprocess
 import sys
+import zlib
 
 from browsing.page import Page, forest_by_program, is_so
-from cases.running import ROOT, case
+from cases.running import ROOT, SMALL_FOREST, SMALL_NET, case
+
+MOST_BYTES = 160 * 1024
+TOWNS = f"{ROOT}/python/examples/towns.csv"
+
+
+def packed_page(room, name="boruvka.html", data=None):
+    """The packed page as a file, perhaps with a file's name and bytes inside."""
+    path = f"{room}/a folder/{name}"
+    subprocess.run([sys.executable, f"{ROOT}/tools/page.py", Page.module, path], check=True)
+    if data:
+        inside = json.dumps({"name": data[0], "base64": base64.b64encode(data[1]).decode()}).replace("<", "\\u003c")
+        with open(path, encoding="utf-8") as it:
+            text = it.read()
+        empty = '<script type="application/json" id="data">'
+        is_so(text.count(empty + "</script>"), 1)
+        with open(path, "w", encoding="utf-8") as it:
+            it.write(text.replace(empty, empty + inside))
+    return path
+
+
+def address_of(text):
+    """What follows the page's address to carry this table."""
+    packer = zlib.compressobj(9, zlib.DEFLATED, -15)
+    return "#d=" + base64.urlsafe_b64encode(packer.compress(text) + packer.flush()).decode().rstrip("=")
 
 
 @case
 def the_page_begins_with_an_example(_room):
+    for width, height in [(1280, 800), (390, 844)]:
+        for scheme in ("light", "dark"):
+            page = Page.opened(width=width, height=height, scheme=scheme)
+            page.expect(points="1,500", size="1,499")
+            page.keep(f"begin_{width}_{scheme}")
+            is_so(page.browser.run("return [document.documentElement.scrollHeight, document.documentElement.scrollWidth]"), [height, width])
     page = Page.opened()
-    page.expect(points="1,500", links="1,124,250", size="1,499")
-    page.keep("begin")
-    links = page.saved("savelinks", "links.gr")
-    is_so(page.saved("saveforest", "forest.gr"), forest_by_program(links))
-    page.expect(points="1,500")
+    is_so(page.saved("forest.gr"), forest_by_program(page.saved("links.gr")))
 
 
 @case
@@ -27,45 +57,124 @@ def a_reload_begins_again(_room):
     is_so(page.text("points"), "50")
     page.browser.call("POST", "/refresh")
     page.settle()
-    is_so(page.shown(), before)
     page.expect()
+    is_so(page.shown(), before)
+
+
+FETCHED = """
+const urls = ['http://127.0.0.1:1/x', 'https://example.org/x'], tried = urls.map(it => fetch(it).then(() => 'fetched', () => 'refused'));
+for (const it of urls) {
+    const picture = new Image();
+    tried.push(new Promise(done => { picture.onload = () => done('loaded'); picture.onerror = () => done('refused'); picture.src = it; }));
+}
+const broken = [];
+document.addEventListener('securitypolicyviolation', event => broken.push(event.effectiveDirective));
+const script = document.createElement('script');
+script.textContent = 'window.ran = true';
+document.body.append(script);
+return Promise.all(tried).then(all => [all, window.ran === true, broken.sort()]);
+"""
 
 
 @case
-def nothing_comes_from_elsewhere(_room):
+def nothing_comes_from_elsewhere(room):
+    """Nothing is asked for, and the policy stops what would be."""
     page = Page.opened()
     page.click("random")
     found = page.browser.run("return performance.getEntriesByType('resource').map(it => it.name)")
     here = page.address.rsplit("/", 1)[0]
     is_so({it for it in found if not it.startswith((f"{here}/", "blob:", "data:"))}, set())
     is_so({f"{here}/page.js", f"{here}/worker.js", f"{here}/boruvka.wasm"} <= set(found), True)
+    wanted = ["connect-src", "connect-src", "img-src", "img-src", "script-src-elem"]
+    is_so(page.browser.run(FETCHED), [["refused"] * 4, False, wanted])
+    page.browser.open(f"file://{packed_page(room)}")
+    page.settle()
+    is_so(page.browser.run(FETCHED), [["refused"] * 4, False, wanted])
+    page.browser.complaints()
 
 
 @case
 def the_packed_page_works_from_a_file(room):
     page = Page.opened()
-    before, packed = page.shown(), f"{room}/a folder/boruvka.html"
-    for path in (packed, f"{room}/again.html"):
-        subprocess.run([sys.executable, f"{ROOT}/tools/page.py", Page.module, path], check=True)
-    with open(packed, "rb") as one, open(f"{room}/again.html", "rb") as other:
-        is_so(one.read() == other.read(), True)
+    before, packed = page.shown(), packed_page(room)
+    with open(packed, "rb") as one, open(packed_page(room, "again.html"), "rb") as other:
+        content = one.read()
+        is_so((content == other.read(), len(content) < MOST_BYTES), (True, True))
     page.browser.open(f"file://{packed}")
     page.settle()
-    is_so(page.shown(), before)
-    links = page.saved("savelinks", "links.gr")
-    is_so(page.saved("saveforest", "forest.gr"), forest_by_program(links))
     page.expect()
+    is_so(page.shown(), before)
+    is_so(page.saved("forest.gr"), forest_by_program(page.saved("links.gr")))
+    page.drop(("small.gr", SMALL_NET))
+    is_so(page.saved("forest.gr"), SMALL_FOREST)
+    page.expect(points="6", total="13")
+    return f"{len(content):,} bytes"
 
 
 @case
-def a_browser_without_memory64_is_told_of(_room):
+def data_inside_of_the_page(room):
     page = Page.opened()
+    with open(TOWNS, "rb") as it:
+        towns = it.read()
+    for name, content in [("towns.csv", towns), ("</script><b>.csv.gz", gzip.compress(towns))]:
+        page.browser.open(f"file://{packed_page(room, data=(name, content))}")
+        page.settle()
+        page.expect(points="22", size="21", total="4,501.454 km")
+
+
+@case
+def data_in_the_address(_room):
+    page = Page.opened(address_of(b"name,x,y\none,0,0\ntwo,3,4\n"))
+    page.expect(points="2", total="5")
+    page.click("save")
+    page.click("copylink")
+    page.browser.wait("document.getElementById('copied').value")
+    link = page.value("copied")
+    is_so(link.startswith(f"{page.address}#d="), True)
+    page = Page.opened(link[len(page.address) :])
+    page.expect(points="2", total="5")
+    is_so(page.saved("clusters.csv"), b"name,x,y,cluster\none,0,0,1\ntwo,3,4,1\n")
+
+
+@case
+def addresses_that_are_no_data(_room):
+    for more, told in [
+        ("#d=%%%", "BadAddress"),
+        ("#d=AAAA", "BadAddress"),
+        (address_of(b"1,2\n")[:-3], "BadAddress"),
+        (address_of(b"0" * 50_000_000), "LongAddress"),
+        ("#d=" + "A" * 500_000, "LongAddress"),
+        (address_of(b"<script>alert(1)</script>"), "link.csv: line 1: OneColumn"),
+        (address_of(b"x,y\n"), "link.csv: NoPoint"),
+    ]:
+        page = Page.opened(more)
+        is_so((page.text("fault")[: len(told)], page.text("points")), (told, "0"))
+    page.browser.complaints()
+
+
+@case
+def an_embedded_page_has_no_controls(_room):
+    page = Page.opened("?embed" + address_of(b"x,y\n0,0\n3,4\n6,0\n"))
+    shown = "return ['head', 'side', 'bar'].filter(it => document.getElementById(it).checkVisibility())"
+    is_so((page.browser.run(shown), page.text("points")), ([], "3"))
+    page.keep("embed")
+
+
+@case
+def a_browser_without_memory64(_room):
+    """The same forests by JavaScript, and the page says that this isn't proved."""
+    page = Page.opened()
+    is_so((page.text("by"), page.browser.run("return document.getElementById('unproved').hidden")), ("proved code", True))
+    wanted = page.shown(), page.saved("forest.gr")
     script = page.browser.devtools("Page.addScriptToEvaluateOnNewDocument", source="WebAssembly.validate = () => false")
     try:
-        page.browser.open(page.address)
-        page.settle()
-        is_so(page.text("fault"), "This browser lacks 64-bit WebAssembly memory (Memory64), which this page needs.")
+        page = Page.opened()
+        is_so((page.shown(), page.saved("forest.gr")), wanted)
+        is_so((page.text("by"), page.browser.run("return document.getElementById('unproved').checkVisibility()")), ("JavaScript, not proved", True))
         page.keep("without_memory64")
+        page.drop(("small.gr", SMALL_NET))
+        is_so(page.saved("forest.gr"), SMALL_FOREST)
+        page.expect(points="6", total="13")
     finally:
         page.browser.devtools("Page.removeScriptToEvaluateOnNewDocument", **script)
 
@@ -77,7 +186,7 @@ def a_page_without_its_module_says_so(_room):
     os.rename(module, f"{module}.away")
     try:
         page.browser.open(page.address)
-        page.settle()
+        page.browser.wait("document.body?.ariaBusy === 'false'")
         is_so(page.text("fault"), "boruvka.wasm is missing beside this page.")
     finally:
         os.rename(f"{module}.away", module)

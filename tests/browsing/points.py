@@ -1,167 +1,158 @@
-"""Points: clicked, drawn and read; their links, clusters and pictures."""
+"""Points: set by the pen, drawn and read; their clusters and pictures."""
 import math
+import re
+import struct
 import xml.etree.ElementTree
 
-from browsing.page import Page, clusters_of, drawn_points, forest_by_program, arcs_of, is_same_partition, is_so
+from browsing.page import Page, arcs_of, clusters_of, drawn_points, forest_by_program, is_same_partition, is_so
 from cases.running import case, forest_of
 
-CLICKED = [(100, 100), (110, 100), (100, 112), (500, 500), (512, 500), (700, 90)]
-ENTER, DELETE, LEFT, DOWN, SHIFT = "\ue007", "\ue017", "\ue012", "\ue015", "\ue008"
+CLICKED = [(300, 200), (310, 200), (300, 212), (700, 500), (712, 500), (800, 190)]
+ENTER, DELETE, LEFT, DOWN, SHIFT, CONTROL = "\ue007", "\ue017", "\ue012", "\ue015", "\ue008", "\ue009"
+GREY = "#807b72"
 
 
-def steps(points, step):
-    """The arcs between all pairs of points, from 1 on; each weight is a number of steps."""
+def all_pairs(points):
+    """The arcs between all pairs of points, from 1 on, by their lengths."""
     pairs = [(u, v) for v in range(len(points)) for u in range(v)]
-    return sorted((u + 1, v + 1, math.floor(math.dist(points[u], points[v]) / step + 0.5)) for u, v in pairs)
+    return sorted((u + 1, v + 1, math.dist(points[u], points[v])) for u, v in pairs)
 
 
-@case
-def clicked_points(_room):
+def lengths_in(forest):
+    """The lengths of a forest's text, whose weights are their bits."""
+    return [struct.unpack("d", struct.pack("q", it[2]))[0] for it in arcs_of(forest)[1]]
+
+
+def clicked():
+    """A page with these points, set by the pen."""
     page = Page.cleared()
-    page.expect(points="0", largest="")
+    page.click("pen")
     for number, (x, y) in enumerate(CLICKED, 1):
         page.browser.click_at("picture", x, y)
         page.settle()
         page.expect(points=str(number), size=str(number - 1))
-    weights = [it[0] for it in forest_of(6, steps(CLICKED, 0.01))]
-    total, heaviest = f"{sum(weights) / 100:,.2f}", f"{weights[-1] / 100:,.2f}"
-    page.expect(total=total, heaviest=heaviest, largest="1 cluster, of 6")
-    page.set("cut", 3)
-    page.expect(total=total, kept="12.00", largest="3 clusters, of 3, 2, 1")
+    return page
+
+
+@case
+def clicked_points(_room):
+    page = clicked()
+    weights = [it[0] for it in forest_of(6, all_pairs(CLICKED))]
+    total, heaviest = f"{sum(weights):.7g}", f"{weights[-1]:.7g}"
+    page.set("clusters", 3)
+    page.expect(total=total, heaviest=heaviest, kept="12", say="3 clusters, of 3, 2, 1; 1 of fewer than 2 is grey.")
     page.keep("six_clicks")
-    is_so(arcs_of(page.saved("savelinks", "links.gr"))[1], steps(CLICKED, 0.01))
-    rows = page.saved("saveclusters", "clusters.csv").decode().splitlines()
-    is_so(rows[0], "x,y,cluster")
-    is_so([it.rsplit(",", 1)[1] for it in rows[1:]], ["1", "1", "1", "2", "2", "3"])
+    rows = page.saved("clusters.csv").decode().splitlines()
+    is_so((rows[0], [it.rsplit(",", 1)[1] for it in rows[1:]]), ("x,y,cluster", ["1", "1", "1", "2", "2", "3"]))
+    page.click("undo")
+    page.expect(points="5")
+    page.browser.run("document.getElementById('picture').focus()")
+    page.browser.press((CONTROL, "z"))
+    page.expect(points="4")
+    # the hand sets none
+    page.click("pen")
+    page.browser.click_at("picture", 500, 400)
+    page.expect(points="4")
 
 
 @case
 def points_by_keys(_room):
     page = Page.cleared()
+    page.click("pen")
     page.browser.run("document.getElementById('picture').focus()")
-    page.browser.press(ENTER, LEFT, LEFT, LEFT, ENTER, DOWN, DOWN, DOWN, DOWN, (SHIFT, LEFT), ENTER)
+    page.browser.press(ENTER)
     page.settle()
-    page.expect(points="3", size="2", heaviest="40.01", total="70.01")
+    page.browser.press(LEFT, LEFT, LEFT, ENTER)
+    page.settle()
+    page.browser.press(DOWN, DOWN, DOWN, DOWN, (SHIFT, LEFT), ENTER)
+    page.settle()
+    page.expect(points="3", size="2", heaviest="40.0125", total="70.0125")
     page.keep("keys")
     page.browser.press(DELETE)
     page.settle()
-    page.expect(points="2", size="1", total="30.00")
+    page.expect(points="2", size="1", total="30")
 
 
 @case
-def a_dropped_table(_room):
-    page = Page.opened()
-    page.drop(("points.csv", b"x,y\r\n0,0\r\n3,4\r\n10;0\n\n 10\t1 , 9\n"))
-    page.expect(points="4", links="6", size="3", total="13.62", heaviest="7.62")
-    page.set("step", 1)
-    page.expect(total="14", heaviest="8")
-    page.set("step", "1e-9")
-    page.expect(heaviest="7.615773106")
-    page.set("step", 0.5)
-    page.expect(total="13.5", heaviest="7.5")
-    # what it saves is a table that it reads
-    saved = page.saved("saveclusters", "clusters.csv")
-    is_so(saved, b"x,y,cluster\n0,0,1\n3,4,1\n10,0,1\n10,1,1\n")
-    page.drop(("clusters.csv", saved))
-    page.expect(points="4", total="13.5")
-
-
-@case
-def all_pairs_of_many_points(_room):
-    page, (_, text) = Page.opened(), drawn_points(7, 3000)
-    page.drop(("points.csv", text))
-    page.expect(points="3,000", links="4,498,500", size="2,999")
-    source = page.saved("savelinks", "links.gr")
-    is_so(page.saved("saveforest", "forest.gr") == forest_by_program(source), True)
-    # one more is too many for all pairs: each point is joined to its nearest
-    page.drop(("points.csv", text + b"1,1\n"))
-    page.expect(points="3,001")
-    is_so(page.browser.run("return document.getElementById('nearest').checked"), True)
-
-
-@case
-def the_nearest_points(_room):
-    """Each point has links to k points of which none is farther than any other point; and no further links."""
-    page, (points, text) = Page.opened(), drawn_points(11, 400)
-    page.click("nearest")
-    for k in (1, 3, 10):
-        page.set("near", k)
-        page.drop(("points.csv", text))
-        source = page.saved("savelinks", "links.gr")
-        is_so(page.saved("saveforest", "forest.gr"), forest_by_program(source))
-        arcs = arcs_of(source)[1]
-        is_so((len({it[:2] for it in arcs}), all(u < v for u, v, _ in arcs)), (len(arcs), True))
-        joined = {it: set() for it in range(len(points))}
-        for u, v, weight in arcs:
-            is_so(abs(weight - math.dist(points[u - 1], points[v - 1]) * 100) <= 0.5 + 1e-6, True)
-            joined[u - 1].add(v - 1)
-            joined[v - 1].add(u - 1)
-        far = [sorted(math.dist(it, other) for j, other in enumerate(points) if j != i)[k - 1] for i, it in enumerate(points)]
-        for i, others in joined.items():
-            distances = {j: math.dist(points[i], points[j]) for j in others}
-            # all that are nearer than the k-th, and at least k so near; any other link is one of the other point's nearest
-            nearer = {j for j, it in enumerate(points) if j != i and math.dist(points[i], it) < far[i] - 1e-9}
-            is_so((nearer <= others, sum(it <= far[i] + 1e-9 for it in distances.values()) >= k), (True, True))
-            is_so(all(it <= max(far[i], far[j]) + 1e-9 for j, it in distances.items()), True)
-
-
-@case
-def clusters_by_slider_field_and_dendrogram(_room):
+def clusters_by_slider_field_dendrogram_and_bars(_room):
     page, (_, text) = Page.opened(), drawn_points(3, 300)
     page.drop(("points.csv", text))
-    forest = page.saved("saveforest", "forest.gr")
-    weights = [it[2] for it in arcs_of(forest)[1]]
+    forest = page.saved("forest.gr")
+    weights = lengths_in(forest)
 
     def expect(count):
-        rows = page.saved("saveclusters", "clusters.csv").decode().splitlines()[1:]
+        rows = page.saved("clusters.csv").decode().splitlines()
+        is_so([it.rsplit(",", 1)[0] for it in rows], text.decode().splitlines())
         found = [int(it.rsplit(",", 1)[1]) for it in rows]
         is_same_partition(found, clusters_of(forest, count))
         sizes = [found.count(it) for it in range(1, count + 1)]
         is_so((sorted(sizes, reverse=True), min(sizes) > 0), (sizes, True))
         is_so((page.value("cut"), page.value("clusters")), (str(min(100, count)), str(count)))
-        kept = f"{weights[300 - count - 1] / 100:,.2f}" if count < 300 else ""
-        page.expect(kept=kept, heaviest=f"{weights[-1] / 100:,.2f}")
+        page.expect(kept=f"{weights[300 - count - 1]:.7g}" if count < 300 else "", heaviest=f"{weights[-1]:.7g}")
 
+    # it begins where the thirty greatest leap most
+    last = weights[:-31:-1]
+    leaps = [one - other for one, other in zip(last, last[1:])]
+    expect(2 + leaps.index(max(leaps)))
     for control, count in [("cut", 1), ("cut", 2), ("cut", 9), ("clusters", 40), ("clusters", 299), ("clusters", 300), ("cut", 100)]:
         page.set(control, count)
         expect(count)
     page.set("clusters", 1000)
     expect(300)
-    # a click near the left, where the heaviest merge stands, leaves two clusters
-    page.browser.click_at("dendrogram", 22, 200)
-    page.settle()
-    width = page.browser.run("return document.getElementById('dendrogram').clientWidth") - 40
-    expect(300 - sum(it <= weights[-1] * (1 - 2 / width) for it in weights))
-    page.keep("clusters")
+    # a click near the left, where the heaviest merge stands, leaves two clusters; by root, evenly and by logarithm
+    wide = page.browser.run("return document.getElementById('dendrogram').clientWidth") - 28
+    for scale, cut in [("root", weights[-1] * (1 - 2 / wide) ** 2), ("even", weights[-1] * (1 - 2 / wide)), ("log", None)]:
+        page.set("scale", scale)
+        page.browser.click_at("dendrogram", 16, 200)
+        page.frames()
+        least = next(it for it in weights if it > 0)
+        expect(300 - sum(it <= (cut or least * (weights[-1] / least) ** (1 - 2 / wide)) for it in weights))
+        page.keep(f"clusters_{scale}")
+    # the third bar from the left and all before it are cut
+    step = wide / 30
+    page.browser.click_at("bars", 14 + 2.5 * step, 40)
+    page.frames()
+    expect(4)
+
+
+def drawn_marks(text):
+    """The links and the marks of a saved picture, by ink."""
+    paths = [it.attrib for it in xml.etree.ElementTree.fromstring(text)]
+    count = lambda key: {it[key]: it["d"].count("M") for it in paths if key in it and it[key] != "none"}  # noqa: E731
+    return count("stroke"), count("fill")
 
 
 @case
 def a_saved_picture(_room):
-    page = Page.cleared()
-    for x, y in CLICKED:
-        page.browser.click_at("picture", x, y)
-        page.settle()
-    page.set("cut", 3)
-    root = xml.etree.ElementTree.fromstring(page.saved("savepicture", "forest.svg"))
-    paths = [it.attrib for it in root]
-    strokes = {it["stroke"]: it["d"].count("M") for it in paths if "stroke" in it}
-    marks = {it["fill"]: it["d"].count("M") for it in paths if "stroke" not in it}
+    page = clicked()
+    page.set("clusters", 3)
+    strokes, marks = drawn_marks(page.saved("picture.svg"))
     # two links are cut; the clusters have 3, 2 and 1 points
-    is_so((strokes.pop("#c4c4c4"), sorted(strokes.values()), sorted(marks.values())), (2, [1, 2], [1, 2, 3]))
-    is_so(marks["#5a5a5a"], 1)
-    grey = next(it["d"] for it in paths if it.get("fill") == "#5a5a5a")
-    is_so(grey.startswith("M695.5 90"), True)
+    is_so((strokes.pop("#cfcabf"), sorted(strokes.values()), sorted(marks.values())), (2, [1, 2], [1, 2, 3]))
+    is_so(marks[GREY], 1)
+    left = re.search(GREY + r'" d="M([0-9.]+) ([0-9.]+)', page.saved("picture.svg").decode())
+    is_so((abs(float(left[1]) + 4.5 - 800) < 0.2, abs(float(left[2]) - 190) < 0.2), (True, True))
+
+
+@case
+def small_clusters_are_grey(_room):
+    """Of 1,000 points a cluster of nine has no colour of its own, and one of ten has."""
+    page = Page.opened()
+    rows = [(x, 0) for x in range(981)] + [(5000 + x, 0) for x in range(9)] + [(9000 + x, 0) for x in range(10)]
+    page.drop(("points.csv", "".join(f"{x},{y}\n" for x, y in rows).encode()))
+    page.set("clusters", 3)
+    page.expect(say="3 clusters, of 981, 10, 9; 1 of fewer than 10 is grey.")
+    _, marks = drawn_marks(page.saved("picture.svg"))
+    is_so((marks.pop(GREY), sorted(marks.values())), (9, [10, 981]))
 
 
 @case
 def the_same_place_many_times(_room):
     page = Page.opened()
-    page.click("nearest")
     page.drop(("points.csv", b"5,5\n" * 2000))
-    page.expect(points="2,000", total="0.00", heaviest="0.00")
-    page.click("pairs")
-    page.expect(points="2,000", size="1,999", total="0.00")
+    page.expect(points="2,000", size="1,999", total="0", heaviest="0")
     page.drop(("one.csv", b"1,2\n"))
-    page.expect(points="1", links="0", size="0", total="0.00", heaviest="")
+    page.expect(points="1", size="0", total="0", heaviest="")
     page.drop(("line.csv", b"".join(b"%d,7\n" % it for it in range(100))))
-    page.expect(points="100", total="99.00", heaviest="1.00")
+    page.expect(points="100", total="99", heaviest="1")
+    is_so(page.saved("forest.gr"), forest_by_program(page.saved("links.gr")))

@@ -1,0 +1,46 @@
+// The points of a GeoJSON text: degrees east and north, and a name from the properties.
+
+import { Refusal } from './boruvka.js';
+import { Points } from './tables.js';
+
+const MOST_BYTES = 400_000_000; // a text longer than about 500 million letters can't be in memory
+const NAMES = ['name', 'Name', 'NAME', 'title', 'label', 'id'];
+
+// Each feature of what was parsed, with its number, from 1.
+function featuresOf(parsed) {
+  if (Array.isArray(parsed)) return parsed;
+  if (parsed?.type === 'FeatureCollection' && Array.isArray(parsed.features)) return parsed.features;
+  return [parsed];
+}
+
+// The places of a point or of several.
+function placesOf(feature, number) {
+  const geometry = feature?.type === 'Feature' ? feature.geometry : feature;
+  if (geometry?.type === 'Point') return [geometry.coordinates];
+  if (geometry?.type === 'MultiPoint' && Array.isArray(geometry.coordinates)) return geometry.coordinates;
+  throw new Refusal('NoGeoPoint', 0, `feature ${number}: ${String(geometry?.type ?? 'nothing').slice(0, 40)}`);
+}
+
+function nameOf(feature, number) {
+  const all = feature?.properties ?? {}, key = NAMES.find(it => typeof all[it] === 'string' || typeof all[it] === 'number');
+  return String(all[key] ?? feature?.id ?? number);
+}
+
+function parsed(text) {
+  try {
+    return JSON.parse(text);
+  } catch (error) {
+    throw new Refusal('BadJson', 0, error.message.slice(0, 120));
+  }
+}
+
+export async function readGeoJson(source) {
+  const bytes = await source.whole(MOST_BYTES), points = new Points('globe', true);
+  featuresOf(parsed(new TextDecoder().decode(bytes))).forEach((feature, i) => {
+    for (const [east, north] of placesOf(feature, i + 1).map(it => Array.isArray(it) ? it : [])) {
+      if (!Number.isFinite(east) || !Number.isFinite(north)) throw new Refusal('NoGeoPoint', 0, `feature ${i + 1}: no two numbers`);
+      points.add(east, north, nameOf(feature, i + 1), 0);
+    }
+  });
+  return points.all([]);
+}

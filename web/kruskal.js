@@ -1,0 +1,21 @@
+// Kruskal's algorithm, for browsers that can't run the module. It isn't proved. Its order of links is the module's: by weight,
+// then by the lower end, then by the higher one. So the forest is the same.
+
+// The forest of links between the vertices 1 to n, as boruvka.js has them.
+export function forestByKruskal(n, links) {
+  const high = new Int32Array(links.buffer, links.byteOffset, links.length), parent = Uint32Array.from({ length: n + 1 }, (_, v) => v);
+  const root = v => {
+    while (parent[v] !== v) v = parent[v] = parent[parent[v]];
+    return v;
+  };
+  const order = (a, b) => high[a + 1] - high[b + 1] || links[a] - links[b] || links[a + 2] - links[b + 2] || links[a + 3] - links[b + 3];
+  const forest = new Uint32Array(4 * Math.max(0, n - 1));
+  let count = 0;
+  for (const at of Uint32Array.from({ length: links.length / 4 }, (_, i) => 4 * i).sort(order)) {
+    const one = root(links[at + 2]), other = root(links[at + 3]);
+    if (one === other) continue;
+    parent[one] = other;
+    forest.set(links.subarray(at, at + 4), 4 * count++);
+  }
+  return forest.slice(0, 4 * count);
+}

@@ -1,0 +1,47 @@
+// What a forest's links join, the lightest first: the merges of single linkage.
+
+export const NONE = 0xffffffff; // no number of a colour
+
+// A cluster of fewer points than this has no colour: it is noise.
+export const fewOf = n => Math.max(2, Math.ceil(n / 100));
+
+// Single linkage. The nodes 0 to n - 1 are the vertices, and n + i is what the forest's link at place i joins: `larger` and
+// `smaller`. A node has `size` vertices, and `least` is the least of them. `roots` are the whole trees, the largest first.
+export function mergesOf(n, forest) {
+  const k = forest.length / 4, larger = new Uint32Array(k), smaller = new Uint32Array(k), size = new Uint32Array(n + k).fill(1);
+  const parent = new Uint32Array(n + k).map((_, i) => i), least = parent.slice();
+  const root = node => {
+    while (parent[node] !== node) node = parent[node] = parent[parent[node]];
+    return node;
+  };
+  for (let i = 0; i < k; i++) {
+    const one = root(forest[4 * i + 2] - 1), other = root(forest[4 * i + 3] - 1);
+    [larger[i], smaller[i]] = size[one] < size[other] ? [other, one] : [one, other];
+    parent[one] = parent[other] = n + i;
+    size[n + i] = size[one] + size[other];
+    least[n + i] = Math.min(least[one], least[other]);
+  }
+  const roots = Uint32Array.from(parent.keys()).filter(it => parent[it] === it).sort((a, b) => size[b] - size[a] || least[a] - least[b]);
+  return { roots, larger, smaller, size, least, ...ordered(n, roots, larger, smaller, size) };
+}
+
+// An order of the vertices: those of a node stand together, from its `first` on. `colour` numbers the nodes: what a link
+// cuts off gets the next number, the larger part keeps its own, and what has fewer than `few` vertices has none.
+function ordered(n, roots, larger, smaller, size) {
+  const few = fewOf(n), k = larger.length, first = new Uint32Array(n + k), colour = new Uint32Array(n + k), order = new Uint32Array(n);
+  let begin = 0, colours = 0;
+  for (const it of roots) {
+    first[it] = begin;
+    begin += size[it];
+    colour[it] = size[it] >= few ? colours++ : NONE;
+  }
+  for (let i = k - 1; i >= 0; i--) {
+    const node = n + i, kept = larger[i], cut = smaller[i];
+    first[kept] = first[node];
+    first[cut] = first[node] + size[kept];
+    colour[kept] = size[kept] >= few ? colour[node] : NONE;
+    colour[cut] = size[cut] >= few ? colours++ : NONE;
+  }
+  for (let v = 0; v < n; v++) order[first[v]] = v;
+  return { first, order, colour };
+}

@@ -1,0 +1,28 @@
+// Names of points or vertices, packed into bytes that go from the worker to the page without a copy.
+
+const MOST_IN_NAME = 200; // characters
+
+export class Packer {
+  constructor() {
+    Object.assign(this, { bytes: new Uint8Array(1024), ends: [0], encoder: new TextEncoder() });
+  }
+
+  add(name) {
+    const end = this.ends.at(-1), text = name.slice(0, MOST_IN_NAME);
+    if (this.bytes.length - end < 3 * text.length) {
+      const more = new Uint8Array(2 * this.bytes.length + 3 * text.length);
+      more.set(this.bytes);
+      this.bytes = more;
+    }
+    this.ends.push(end + this.encoder.encodeInto(text, this.bytes.subarray(end)).written);
+  }
+
+  packed() {
+    return { bytes: this.bytes.slice(0, this.ends.at(-1)), ends: Uint32Array.from(this.ends) };
+  }
+}
+
+// The name at this place, or its number if there are no names.
+export function nameAt(names, v) {
+  return names ? new TextDecoder().decode(names.bytes.subarray(names.ends[v], names.ends[v + 1])) : String(v + 1);
+}

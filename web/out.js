@@ -1,0 +1,72 @@
+// Files out that the worker makes, each a Blob. Forests and merges are as worker.js answers them.
+
+import { nameAt } from './names.js';
+
+// A text that grows by pieces.
+class Text {
+  constructor(head = '') {
+    Object.assign(this, { parts: [], piece: head });
+  }
+
+  add(text) {
+    this.piece += text;
+    if (this.piece.length < 2 ** 20) return;
+    this.parts.push(this.piece);
+    this.piece = '';
+  }
+
+  blob(type) {
+    return new Blob([...this.parts, this.piece], { type });
+  }
+}
+
+// A field of CSV. A program that makes formulas of texts gets none.
+const quoted = field => /[",\n\r;]|^[=+@\t]|^-\D/.test(field) ? `"${(/^[=+@\t]|^-\D/.test(field) ? "'" : '') + field.replaceAll('"', '""')}"` : field;
+
+// The .gr text of links: their weights as whole numbers.
+export function grOf(n, links) {
+  const weights = new BigInt64Array(links.buffer, links.byteOffset, links.length / 2), text = new Text(`p sp ${n} ${links.length / 4}\n`);
+  for (let i = 0; i < links.length; i += 4) text.add(`a ${links[i + 2]} ${links[i + 3]} ${weights[i / 2]}\n`);
+  return text.blob('text/plain');
+}
+
+// The points or vertices, with the numbers of their clusters if these are given.
+export function pointsCsv({ n, points, names, kind }, numbers = null) {
+  const hasPoints = kind === 'plane' || kind === 'globe', head = hasPoints ? (kind === 'globe' ? ['longitude', 'latitude'] : ['x', 'y']) : names ? [] : ['vertex'];
+  const text = new Text(`${[...(names ? ['name'] : []), ...head, ...(numbers ? ['cluster'] : [])].join(',')}\n`);
+  for (let v = 0; v < n; v++) {
+    const fields = hasPoints ? [points[2 * v], points[2 * v + 1]] : names ? [] : [v + 1];
+    text.add(`${[...(names ? [quoted(nameAt(names, v))] : []), ...fields, ...(numbers ? [numbers[v]] : [])].join(',')}\n`);
+  }
+  return text.blob('text/csv');
+}
+
+// The forest's links with the names of their ends, the lightest first.
+export function forestCsv({ forest, names, heights, isExact }) {
+  const weights = new BigInt64Array(forest.buffer, forest.byteOffset, forest.length / 2), text = new Text(`from,to,${isExact ? 'weight' : 'length'}\n`);
+  for (let i = 0; i < heights.length; i++) {
+    const [low, high] = [2, 3].map(word => quoted(nameAt(names, forest[4 * i + word] - 1)));
+    text.add(`${low},${high},${isExact ? weights[2 * i] : heights[i]}\n`);
+  }
+  return text.blob('text/csv');
+}
+
+export function forestGeoJson({ forest, names, heights, points }) {
+  const text = new Text('{"type":"FeatureCollection","features":[');
+  for (let i = 0; i < heights.length; i++) {
+    const ends = [2, 3].map(word => forest[4 * i + word] - 1), [from, to] = ends.map(it => nameAt(names, it));
+    const coordinates = ends.map(it => [points[2 * it], points[2 * it + 1]]);
+    text.add(`${i ? ',' : ''}\n${JSON.stringify({ type: 'Feature', properties: { from, to, kilometres: heights[i] }, geometry: { type: 'LineString', coordinates } })}`);
+  }
+  text.add('\n]}\n');
+  return text.blob('application/geo+json');
+}
+
+// The merges as scipy's linkage has them: two nodes, the lower first, the height, and how many points they have together.
+export function linkageCsv({ n, heights, merges: { larger, smaller, size } }) {
+  const text = new Text();
+  for (let i = 0; i < heights.length; i++) {
+    text.add(`${Math.min(larger[i], smaller[i])},${Math.max(larger[i], smaller[i])},${heights[i]},${size[n + i]}\n`);
+  }
+  return text.blob('text/csv');
+}

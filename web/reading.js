@@ -1,0 +1,121 @@
+// Pointer and keys on the picture: zoom, pan, point at, and the pen that sets points.
+
+import { nameAt } from './names.js';
+import { change, state } from './state.js';
+import { lens, moved, viewNow } from './view.js';
+
+const NEAR = 12; // pixels to a point that is pointed at
+const CLICK = 4; // pixels that a pointer may move in a click
+const STEP = 40; // pixels that a key pans
+
+// The vertex whose place is nearest to a pixel, or -1.
+export function vertexAt(x, y) {
+  const { shown } = state, { across, down } = lens();
+  let least = NEAR * NEAR, found = -1;
+  for (let v = 0; v < (shown?.places.length ?? 0) / 2; v++) {
+    const dx = across(shown.places[2 * v]) - x, dy = down(shown.places[2 * v + 1]) - y, square = dx * dx + dy * dy;
+    if (square < least) [least, found] = [square, v];
+  }
+  return found;
+}
+
+// What is said of a vertex: its name, its cluster and its longest link.
+export function vertexTold(v, numbers, told) {
+  const { shown: { forest, heights, names }, clusters } = state;
+  let longest = -1;
+  for (let i = heights.length - 1; i >= 0 && longest < 0; i--) if (forest[4 * i + 2] === v + 1 || forest[4 * i + 3] === v + 1) longest = i;
+  const rows = [nameAt(names, v)];
+  if (clusters) rows.push(`cluster ${numbers()[v].toLocaleString('en')}`);
+  if (longest >= 0) rows.push(`longest link ${told(longest)}`);
+  return rows.join(', ');
+}
+
+// Pointers that are down on the picture: one pans, two zoom.
+class Gesture {
+  constructor(picture, { set }) {
+    Object.assign(this, { picture, set, down: new Map(), far: 0, last: null });
+  }
+
+  begin(event) {
+    this.picture.setPointerCapture(event.pointerId);
+    this.down.set(event.pointerId, { x: event.offsetX, y: event.offsetY });
+    if (this.down.size === 1) this.far = 0;
+    this.last = this.spread();
+  }
+
+  // The middle of the pointers, and how far they are apart.
+  spread() {
+    const all = [...this.down.values()], x = all.reduce((sum, it) => sum + it.x, 0) / all.length, y = all.reduce((sum, it) => sum + it.y, 0) / all.length;
+    return { x, y, apart: all.length > 1 ? Math.hypot(all[0].x - all[1].x, all[0].y - all[1].y) : 0 };
+  }
+
+  move(event) {
+    if (!this.down.has(event.pointerId)) return;
+    this.down.set(event.pointerId, { x: event.offsetX, y: event.offsetY });
+    const { last } = this, now = this.spread();
+    this.far += Math.hypot(now.x - last.x, now.y - last.y) + Math.abs(now.apart - last.apart);
+    this.last = now;
+    if (this.far <= CLICK || (state.tool === 'pen' && this.down.size === 1)) return;
+    change({ view: moved(last.apart ? now.apart / last.apart : 1, last.x, last.y, now.x - last.x, now.y - last.y), picked: -1 });
+  }
+
+  end(event) {
+    if (!this.down.delete(event.pointerId)) return;
+    if (this.down.size) this.last = this.spread();
+    else if (this.far <= CLICK && event.type === 'pointerup') this.click(event);
+  }
+
+  click({ offsetX, offsetY }) {
+    if (state.tool === 'pen') this.set(offsetX, offsetY);
+    else change({ picked: vertexAt(offsetX, offsetY) });
+  }
+}
+
+export function listenToPointer(picture, calls) {
+  const gesture = new Gesture(picture, calls);
+  picture.onpointerdown = event => gesture.begin(event);
+  picture.onpointermove = event => {
+    if (gesture.down.size) gesture.move(event);
+    else if (event.pointerType === 'mouse' && state.tool === 'hand') {
+      const picked = vertexAt(event.offsetX, event.offsetY);
+      if (picked !== state.picked) change({ picked });
+    }
+  };
+  picture.onpointerup = picture.onpointercancel = event => gesture.end(event);
+  picture.onpointerleave = () => state.picked >= 0 && !gesture.down.size && change({ picked: -1 });
+  picture.addEventListener('wheel', event => {
+    event.preventDefault();
+    change({ view: moved(Math.exp(-event.deltaY * (event.deltaMode ? 0.05 : 0.0015)), event.offsetX, event.offsetY) });
+  }, { passive: false });
+  picture.ondblclick = () => state.tool === 'hand' && change({ view: null });
+}
+
+const ARROWS = { ArrowLeft: [-1, 0], ArrowRight: [1, 0], ArrowUp: [0, -1], ArrowDown: [0, 1] };
+
+// The hand pans by arrows, the pen moves a cross by them.
+export function listenToKeys(picture, { set, undo }) {
+  const moveCross = (event, dx, dy) => {
+    const by = event.shiftKey ? 1 : 10, { clientWidth: width, clientHeight: height } = picture, { left, top } = lens(), cross = state.cross ?? { x: Math.round(left), y: Math.round(top) };
+    change({ cross: { x: Math.max(0, Math.min(width, cross.x + dx * by)), y: Math.max(0, Math.min(height, cross.y + dy * by)) } });
+  };
+  picture.onkeydown = event => {
+    const { left, top } = lens(), [dx, dy] = ARROWS[event.key] ?? [0, 0], isPen = state.tool === 'pen';
+    if (isPen && (dx || dy)) moveCross(event, dx, dy);
+    else if (dx || dy) change({ view: moved(1, left, top, -dx * STEP, -dy * STEP) });
+    else if (event.key === '+' || event.key === '=') change({ view: moved(1.25, left, top) });
+    else if (event.key === '-') change({ view: moved(0.8, left, top) });
+    else if (event.key === '0') change({ view: null });
+    else if (event.key === 'Enter' && isPen) set(state.cross?.x ?? Math.round(left), state.cross?.y ?? Math.round(top));
+    else if (event.key === 'Delete' && isPen) undo();
+    else return;
+    event.preventDefault();
+  };
+  picture.onfocus = () => state.tool === 'pen' && moveCross({}, 0, 0);
+  picture.onblur = () => state.cross && change({ cross: null });
+}
+
+// The place at a pixel, to six digits.
+export function placeAt(x, y) {
+  const { placeX, placeY } = lens(viewNow());
+  return [placeX(x), placeY(y)].map(it => Number(it.toPrecision(6)));
+}

@@ -1,0 +1,57 @@
+// The rows of a text that comes in pieces: CSV with quotes, or fields between tabs, semicolons or spaces.
+
+import { Refusal } from './boruvka.js';
+
+const MOST_IN_ROW = 1_000_000; // characters
+const CONTROLS = /[\0-\x08\x0e-\x1f]/; // no text has them
+
+// What parts the fields of a table, by its first row: the first of these that it has outside of quotes, or else spaces.
+export const separatorOf = row => ['\t', ';', ','].find(it => row.replace(/"[^"]*"/g, '').includes(it)) ?? ' ';
+
+// The fields of a row. Quotes round a field are taken off, and two inside of it are one.
+export function fieldsOf(row, separator) {
+  if (separator === ' ') return row.trim().split(/\s+/).map(unquoted);
+  if (!row.includes('"')) return row.split(separator).map(it => it.trim());
+  const fields = [];
+  let begin = 0, isInside = false;
+  for (let at = 0; at <= row.length; at++) {
+    if (row[at] === '"') isInside = !isInside;
+    if (at < row.length && (isInside || row[at] !== separator)) continue;
+    fields.push(unquoted(row.slice(begin, at).trim()));
+    begin = at + 1;
+  }
+  return fields;
+}
+
+const unquoted = field => /^"[^]*"$/.test(field) ? field.slice(1, -1).replaceAll('""', '"') : field;
+
+const isOpen = row => row.includes('"') && row.split('"').length % 2 === 0;
+
+// It calls `take(row, line)` for each row that says something. Lines end in LF, CR or both; within quotes they go on.
+export class Rows {
+  constructor(take) {
+    Object.assign(this, { take, rest: '', held: '', line: 0, first: 0 });
+  }
+
+  push(text) {
+    if (CONTROLS.test(text)) throw new Refusal('NoText', this.line + 1);
+    const lines = (this.rest + text).split(/\r\n|\n|\r(?=[^])/);
+    this.rest = lines.pop();
+    for (const it of lines) this.hear(it);
+    if (this.rest.length > MOST_IN_ROW) throw new Refusal('LongRow', this.line + 1);
+  }
+
+  hear(line) {
+    this.line++;
+    if (!this.held) this.first = this.line;
+    const row = this.held ? `${this.held}\n${line}` : line;
+    this.held = isOpen(row) ? row : '';
+    if (this.held.length > MOST_IN_ROW) throw new Refusal('OpenQuote', this.first);
+    if (!this.held && row.trim() !== '') this.take(row, this.first);
+  }
+
+  end() {
+    if (this.rest.replace(/\r$/, '')) this.hear(this.rest.replace(/\r$/, ''));
+    if (this.held) throw new Refusal('OpenQuote', this.first);
+  }
+}

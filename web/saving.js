@@ -1,0 +1,101 @@
+// Files out: what can be saved of what is shown, and the Python that does the same.
+
+import { MOST_CARRIED, addressOf } from './address.js';
+import { numbersOf } from './clusters.js';
+import { dendrogramSvg } from './dendrogram.js';
+import { pointsCsv } from './out.js';
+import { pictureSvg } from './picture.js';
+import { canPlay, filmed } from './playing.js';
+import { state } from './state.js';
+
+const $ = id => document.getElementById(id);
+
+export function save(name, content) {
+  const link = document.createElement('a');
+  link.href = URL.createObjectURL(content);
+  link.download = name;
+  link.click();
+  setTimeout(() => URL.revokeObjectURL(link.href), 60_000);
+}
+
+const svg = text => new Blob([text], { type: 'image/svg+xml' });
+const png = canvas => new Promise(done => canvas.toBlob(done, 'image/png'));
+const isPoints = () => state.shown?.kind === 'plane' || state.shown?.kind === 'globe';
+
+// A text that the worker makes of what is shown.
+const made = name => async solver => {
+  const { shown: { rounds: _rounds, places: _places, ...it }, clusters, file } = state;
+  const numbers = name === 'clusters.csv' ? numbersOf(state.shown, clusters) : null;
+  return solver.ask({ task: 'save', name, it, file, numbers });
+};
+
+// Of each file whether it can be saved now, and what makes it.
+const FILES = {
+  'picture.png': { make: () => png($('picture')) },
+  'picture.svg': { make: () => svg(pictureSvg($('picture'))) },
+  'dendrogram.png': { can: () => state.clusters, make: () => png($('dendrogram')) },
+  'dendrogram.svg': { can: () => state.clusters, make: () => svg(dendrogramSvg($('dendrogram'))) },
+  'rounds.webm': { can: canPlay, make: () => filmed($('picture')) },
+  'clusters.csv': { can: () => state.clusters, make: made('clusters.csv') },
+  'forest.csv': { make: made('forest.csv') },
+  'forest.geojson': { can: () => state.shown.kind === 'globe', make: made('forest.geojson') },
+  'forest.gr': { make: made('forest.gr') },
+  'links.gr': { can: isPoints, make: made('links.gr') },
+  'linkage.csv': { can: () => state.clusters, make: made('linkage.csv') },
+};
+
+const idOf = name => `save-${name.replace('.', '-')}`;
+
+// Lets each button of a file save it; `fault` hears what fails.
+export function listenToSaving(solver, fault) {
+  for (const [name, { make }] of Object.entries(FILES)) {
+    $(idOf(name)).onclick = async () => {
+      try {
+        if (solver.asked) throw new Error('Wait until the forest is there.');
+        if (name === 'rounds.webm') $('saving').close();
+        const content = await make(solver);
+        if (content) save(name, content);
+      } catch (error) {
+        fault(error);
+      }
+    };
+  }
+  $('copylink').onclick = () => copied(async () => addressOf(await pointsCsv(state.shown).text()), fault);
+  $('copypython').onclick = () => copied(async () => pythonText(), fault);
+}
+
+export function tellSaving() {
+  const { shown } = state;
+  for (const [name, { can }] of Object.entries(FILES)) $(idOf(name)).disabled = !shown || (can ? !can() : false);
+  $('copylink').disabled = !isPoints() || shown.n > MOST_CARRIED;
+  $('copypython').disabled = !shown;
+}
+
+// Copies a text; where the browser doesn't, the text is shown to be copied by hand.
+async function copied(text, fault) {
+  try {
+    $('copied').value = await text();
+    $('copied').hidden = false;
+    $('copied').select();
+    await navigator.clipboard?.writeText($('copied').value).catch(() => {});
+  } catch (error) {
+    fault(error);
+  }
+}
+
+const HEAD = 'import numpy as np\n';
+
+// Python that finds the same forest and clusters of the file, or of clusters.csv as this page saves it.
+function pythonText() {
+  const { shown: { kind, choice, separator, commas }, file, clusters } = state, count = clusters?.count ?? 1;
+  if (kind === 'graph') return `import subprocess\nprint(subprocess.run(["boruvka", "--plain", ${JSON.stringify(file?.name ?? 'forest.gr')}], capture_output=True, text=True).stdout)\n`;
+  const name = JSON.stringify(file && choice ? file.name : 'clusters.csv'), part = JSON.stringify(choice ? separator : ','), hasNames = !choice && state.shown.names;
+  const roles = choice?.roles ?? { across: hasNames ? 1 : 0, up: hasNames ? 2 : 1 };
+  const rows = `import csv\n${HEAD}rows = list(csv.reader(open(${name}, encoding="utf-8-sig"), delimiter=${part}))[${choice?.hasHeader ?? true ? 1 : 0}:]\n`;
+  const number = it => `float(row[${it}]${commas ? '.replace(",", ".")' : ''})`;
+  if (kind === 'links') return `${rows}from boruvka import minimum_spanning_forest\nnames = {}\nu, v, w = [], [], []\nfor row in rows:\n    u.append(names.setdefault(row[${roles.from}].strip(), len(names)))\n    v.append(names.setdefault(row[${roles.to}].strip(), len(names)))\n    w.append(${roles.weight >= 0 ? number(roles.weight) : '1.0'})\nforest = minimum_spanning_forest(len(names), u, v, w)\nprint(np.asarray(w)[forest.index].sum())\n`;
+  const points = `${rows}from boruvka.linkage import labels, spanning_tree\npoints = np.array([[${number(roles.across)}, ${number(roles.up)}] for row in rows])\n`;
+  if (kind === 'plane') return `${points}tree = spanning_tree(points)\nprint(tree.w.sum())\ncluster = labels(len(points), tree, clusters=${count})\n`;
+  const turned = 'east, north = np.radians(points).T\nglobe = np.stack([np.cos(north) * np.cos(east), np.cos(north) * np.sin(east), np.sin(north)], axis=1)\n';
+  return `${points}${turned}tree = spanning_tree(globe)\nprint((2 * 6371 * np.arcsin(tree.w / 2)).sum())\ncluster = labels(len(points), tree, clusters=${count})\n`;
+}

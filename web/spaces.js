@@ -1,0 +1,98 @@
+// Where points lie: in the plane, or on the globe. A space measures between its places, which it keeps in an order of their own.
+//
+// A space has `axes`, a Float64Array of coordinates each, for boxes around places; `square`, which grows with the distance of
+// two places; `within`, the largest square of boxes' gaps that a nearer place can have; and `length`, the distance of a square.
+
+export const KILOMETRES_OF_EARTH = 6371;
+const RADIAN = Math.PI / 180;
+
+// By so much may a chord between two places on the globe be wrong, if it is taken from axes: they are rounded.
+const BLUR = 1e-15;
+
+const picked = (values, order) => Float64Array.from(order, it => values[it]);
+
+// The least and the greatest of some numbers, or nothing where there are none.
+export function boundsOf(values, step = 1, begin = 0) {
+  let low = Infinity, high = -Infinity;
+  for (let i = begin; i < values.length; i += step) {
+    if (values[i] < low) low = values[i];
+    if (values[i] > high) high = values[i];
+  }
+  return { low, high };
+}
+
+// Distances on paper. Coordinates are scaled by a power of two, so that no square of a distance is past what doubles hold.
+export class Plane {
+  constructor(axes, scale) {
+    Object.assign(this, { axes, scale });
+    [this.x, this.y] = axes;
+  }
+
+  static of(points) {
+    const across = boundsOf(points, 2), up = boundsOf(points, 2, 1);
+    const most = Math.max(across.high - across.low, up.high - up.low);
+    if (points.length && !Number.isFinite(Math.hypot(across.high - across.low, up.high - up.low))) return null;
+    const scale = most > 0 ? 2 ** -Math.max(-1022, Math.min(1022, Math.floor(Math.log2(most)))) : 1;
+    const axis = it => Float64Array.from({ length: points.length / 2 }, (_, v) => points[2 * v + it] * scale);
+    return new Plane([axis(0), axis(1)], scale);
+  }
+
+  inOrder(order) {
+    return new Plane(this.axes.map(it => picked(it, order)), this.scale);
+  }
+
+  square(one, other) {
+    const dx = this.x[one] - this.x[other], dy = this.y[one] - this.y[other];
+    return dx * dx + dy * dy;
+  }
+
+  within(square) {
+    return square;
+  }
+
+  length(square) {
+    return Math.sqrt(square) / this.scale;
+  }
+}
+
+// Kilometres on great circles, by the haversine formula. Points are degrees east and north; axes lead out of the earth.
+export class Globe {
+  constructor(axes, east, north) {
+    Object.assign(this, { axes, east, north, shrink: Float64Array.from(north, Math.cos) });
+  }
+
+  static of(points) {
+    const radians = it => Float64Array.from({ length: points.length / 2 }, (_, v) => points[2 * v + it] * RADIAN);
+    const east = radians(0), north = radians(1);
+    const axis = call => Float64Array.from(east, (it, v) => Math.cos(north[v]) * call(it));
+    return new Globe([axis(Math.cos), axis(Math.sin), Float64Array.from(north, Math.sin)], east, north);
+  }
+
+  inOrder(order) {
+    return new Globe(this.axes.map(it => picked(it, order)), picked(this.east, order), picked(this.north, order));
+  }
+
+  // Of the chord through the earth, whose radius is 1.
+  square(one, other) {
+    const up = Math.sin((this.north[one] - this.north[other]) / 2), across = Math.sin((this.east[one] - this.east[other]) / 2);
+    return 4 * (up * up + this.shrink[one] * this.shrink[other] * across * across);
+  }
+
+  within(square) {
+    return (Math.sqrt(square) + BLUR) ** 2;
+  }
+
+  length(square) {
+    return 2 * KILOMETRES_OF_EARTH * Math.asin(Math.min(1, Math.sqrt(square) / 2));
+  }
+}
+
+// Where points of the globe are drawn: each degree up as long as one across in the middle. It is cut open where most degrees
+// east have no point.
+export function drawnGlobe(points) {
+  const n = points.length / 2, east = Float64Array.from({ length: n }, (_, v) => (points[2 * v] % 360 + 360) % 360), sorted = east.slice().sort();
+  let cut = 0, most = n ? sorted[0] + 360 - sorted[n - 1] : 0;
+  for (let i = 1; i < n; i++) if (sorted[i] - sorted[i - 1] > most) [cut, most] = [sorted[i], sorted[i] - sorted[i - 1]];
+  const { low, high } = boundsOf(points, 2, 1), narrow = Math.cos((low + high) / 2 * RADIAN) || 1;
+  return points.map((it, i) => i % 2 ? it : (east[i / 2] < cut ? east[i / 2] + 360 : east[i / 2]) * narrow);
+}
