@@ -312,7 +312,7 @@ MOST_WORDS = {
     "docs/GR_FORMAT.md": 550,
     "docs/PROTOCOL.md": 800,
     "SECURITY.md": 250,
-    "docs/PROMISES.md": 1800,
+    "docs/PROMISES.md": 2000,
     "docs/HEADLINE.md": 500,
     "docs/ARCHITECTURE.md": 1400,
     "docs/DECISIONS.md": 2000,
