@@ -24,7 +24,7 @@ use Rattle.program_words.specs.Messages.{IsWritten, fault_line, unopened_line}
 use Rattle.program_words.specs.Statuses.{status_for}
 use Rattle.program_words.specs.declared.chosen.Options.{Options}
 use Rattle.boruvka.specs.Streams.{Standard, of_run}
-use Rattle.boruvka.specs.Status.{Asked, asked_of, asked_by, EndsAs, EndsOnSource, EndsOn, from_file, with_source, Obeys, EndsWith, EndsOver, EndsOverWorkers, HasNoGraph, IsDone, IsReported, LeavesOutput, IsUntouched, report_of, status_of_run, uncounted}
+use Rattle.boruvka.specs.Status.{Asked, asked_of, asked_by, EndsAs, EndsOnSource, EndsOn, Obeys, EndsWith, EndsOver, EndsOverWorkers, HasNoGraph, IsDone, IsReported, LeavesOutput, IsUntouched, report_of, status_of_run, uncounted}
 
 -- ---- how a run ends
 
@@ -100,27 +100,6 @@ pub unopened_obeys : (chosen : Options) (name : _) (s : SourceState) (a e f : Si
     → Obeys (asked_of chosen) 3 (record { source = s; sink = a; errors = e }) (record { source = s; sink = a; errors = f })
 unopened_obeys chosen name s a e f is written =
     subst (λ o. EndsOn (option_map string_bytes o) (asked_of chosen) 3 (record { source = s; sink = a; errors = e }) (record { source = s; sink = a; errors = f })) (sym is) (inl (refl, took_nothing a, written))
-
--- a run on a source, with or without a word of how much was read
-pub untold : (tells : Bool) (asked : Asked) (status : ℕ) (before after : Standard) → tells ≡ false → EndsAs asked.plain asked status before after
-    → EndsOnSource tells asked status before after
-untold true asked status before after is ends = absurd cc
-untold false asked status before after is ends = ends
-
-pub told : (tells : Bool) (asked : Asked) (status : ℕ) (before after : Standard) (s : SourceState) → tells ≡ true
-    → EndsAs asked.plain asked status before (with_source s after) → EndsOnSource tells asked status before after
-told true asked status before after s is ends = (s, ends)
-told false asked status before after s is ends = absurd cc
-
--- a run that is asked for, on the input or on a FILE
-pub obeys_input : (chosen : Options) (status : ℕ) (before after : Standard) → chosen.file ≡ None
-    → EndsOnSource chosen.progress (asked_of chosen) status before after → Obeys (asked_of chosen) status before after
-obeys_input chosen status before after is ends = subst (λ o. EndsOn (option_map string_bytes o) (asked_of chosen) status before after) (sym is) ends
-
-pub obeys_file : (chosen : Options) (name : _) (status : ℕ) (before after : Standard) → chosen.file ≡ Some name
-    → EndsOnSource chosen.progress (asked_of chosen) status (from_file before) (from_file after) → Obeys (asked_of chosen) status before after
-obeys_file chosen name status before after is ends =
-    subst (λ o. EndsOn (option_map string_bytes o) (asked_of chosen) status before after) (sym is) (inr ends)
 
 -- ---- lines
 

@@ -22,9 +22,9 @@ pub struct Watched<'s, 'p, I, P> {
 impl<'s, 'p, I: Source, P: Sink> Watched<'s, 'p, I, P> {
     /// The source, of which nothing was told yet.
     pub fn new(source: &'s mut I, progress: &'p mut P) -> Watched<'s, 'p, I, P>
-        requires source { I.can_read source.entry.now }
-        requires progress { P.can_write progress.entry.now }
-        ensures source { result.source.now ≡ source.entry.now }
+        requires source { I.can_read source.old }
+        requires progress { P.can_write progress.old }
+        ensures source { result.source.now ≡ source.old }
         ensures progress { IfSome result.progress (λ p. P.can_write p.now) }
     {
         Watched {
