@@ -6,6 +6,7 @@
 //!   lists           links of arcs, labels, offers, forests; the forests of the worked graphs
 //!   components      the components of a forest's links, and cycles, which have none
 //!   forests_by_threads  the solver by threads, beside a simple program, and its memory
+//!   laws            what the laws of `links` say of forests, on a textbook's graph
 //!   drawn_lists     the solver beside a simple program, over drawn lists
 //!   drawn_texts     `.gr` texts in pieces and byte by byte, over drawn texts
 //!   reading         `.gr` texts, their faults, pieces and limits

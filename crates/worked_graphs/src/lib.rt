@@ -148,8 +148,43 @@ pub const WIDE_WEIGHTS: Worked = Worked {
     total: -9223372034707292150,
 };
 
+/// The graph of the chapter on minimum spanning trees in "Introduction to Algorithms" by Cormen, Leiserson, Rivest and
+/// Stein: its vertices a to i are 1 to 9. Of two links of weight 8 either would do; the one with the lesser ends is taken.
+pub const TEXTBOOK: Worked = Worked {
+    n: 9,
+    file: b"p sp 9 14\na 1 2 4\na 2 3 8\na 3 4 7\na 4 5 9\na 5 6 10\na 6 7 2\na 7 8 1\na 8 1 8\na 2 8 11\na 8 9 7\na 9 3 2\na 9 7 6\na 3 6 4\na 4 6 14\n",
+    arcs: &[
+        (1, 2, 4),
+        (2, 3, 8),
+        (3, 4, 7),
+        (4, 5, 9),
+        (5, 6, 10),
+        (6, 7, 2),
+        (7, 8, 1),
+        (8, 1, 8),
+        (2, 8, 11),
+        (8, 9, 7),
+        (9, 3, 2),
+        (9, 7, 6),
+        (3, 6, 4),
+        (4, 6, 14),
+    ],
+    forest: &[
+        (7, 8, 1),
+        (3, 9, 2),
+        (6, 7, 2),
+        (1, 2, 4),
+        (3, 6, 4),
+        (3, 4, 7),
+        (1, 8, 8),
+        (4, 5, 9),
+    ],
+    text: b"p sp 9 8\na 7 8 1\na 3 9 2\na 6 7 2\na 1 2 4\na 3 6 4\na 3 4 7\na 1 8 8\na 4 5 9\n",
+    total: 37,
+};
+
 /// All of them.
-pub const WORKED: [Worked; 8] = [
+pub const WORKED: [Worked; 9] = [
     SMALL_NET,
     NO_VERTICES,
     A_LOOP_ALONE,
@@ -158,6 +193,7 @@ pub const WORKED: [Worked; 8] = [
     A_PATH_OF_EIGHT,
     A_NEGATIVE_WEIGHT,
     WIDE_WEIGHTS,
+    TEXTBOOK,
 ];
 
 /// The links of the arcs, loops left out and repeats kept, in the arcs' order; none where an end of an arc is no

@@ -28,7 +28,7 @@ fn slow_forest(rt: &impl Abort, alloc: Global, n: u32, links: &[Link]) -> Vec<Li
 }
 
 // Gives what has the label `from` the label `to`.
-fn rename(labels: &mut [u32], from: u32, to: u32) {
+pub(crate) fn rename(labels: &mut [u32], from: u32, to: u32) {
     for label in labels.iter_mut() {
         if *label == from {
             *label = to;
