@@ -6,7 +6,7 @@
  * within which the call of libboruvka_within.a has its answer, PEAK how many bytes the call of libboruvka.a had at once
  * from malloc and realloc. Both calls have to find the same, and LEAST is no more than include/boruvka.h calls enough.
  *
- *     least SHAPE N M    of this graph: grid (M counts for nothing), drawn, star, path, ring, late or pair
+ *     least SHAPE N M    of this graph: grid (M counts for nothing), drawn, star, path, ring, pair, or late (N is past 300)
  *
  * What a call takes, where blocks come one below the other, and only the last of them goes back:
  * - 16 bytes a link for the list. That of a text grows to twice its size where it lies: so it has up to 32.
