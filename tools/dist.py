@@ -99,7 +99,7 @@ boruvka ({version}) unstable; urgency=medium
  -- {maintainer}  {date}
 """
 OVERRIDES = """\
-# One small package has program, libraries and headers: they are of one version, and are proved and tested together.
+# One small package has program, libraries and headers, all of one version.
 boruvka: package-name-doesnt-match-sonames libboruvka{major}
 boruvka: link-to-shared-library-in-wrong-package *
 """

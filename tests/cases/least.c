@@ -6,7 +6,7 @@
  * within which the call of libboruvka_within.a has its answer, PEAK how many bytes the call of libboruvka.a had at once
  * from malloc and realloc. Both calls have to find the same, and LEAST is no more than include/boruvka.h calls enough.
  *
- *     least SHAPE N M    of this graph: grid (M counts for nothing), drawn, star, path, ring, late or pair
+ *     least SHAPE N M    of this graph: grid (M counts for nothing), drawn, star, path, ring, pair, or late (N is past 300)
  *
  * What a call takes, where blocks come one below the other, and only the last of them goes back:
  * - 16 bytes a link for the list. That of a text grows to twice its size where it lies: so it has up to 32.
@@ -14,9 +14,9 @@
  * - 4 bytes a vertex for the numbers of the first part, for those of a later part, and for those of its second round.
  * - 4096 bytes for a while, 64 beside, and less than a page at the end.
  * - For a text, once the second and third numbers are given back, the text of the forest, up to twice its length.
- * A line of an arc has 8 bytes at the least, so 45 bytes a link are less than 6 times the length of a text. `late` takes all
- * of it for a list: the first part has nearly all links, between two vertices, and the second needs two rounds. `pair` takes
- * it for a text: two short lines in turn, just more of them than a power of two.
+ * A line of an arc has 8 bytes at the least, so 45 bytes a link are less than 6 times the length of a text; the lines of a
+ * large forest are longer. `late` takes all of it for a list: the first part has nearly all links, between two vertices, and
+ * the second needs two rounds. `pair` takes it for a text: two short lines in turn, just more of them than a power of two.
  *
  * A_LINK, A_VERTEX, A_BYTE and MORE are the figures of include/boruvka.h. It is linked with --wrap=malloc, --wrap=realloc
  * and --wrap=free. */
