@@ -227,7 +227,8 @@ class Rounds:
         """Asks points that don't reach as far as their component's lightest known way, of all components but one."""
         short = np.flatnonzero(self.reach < heights[self.label])
         counts = np.bincount(self.label[short], minlength=self.count)
-        short = short[self.label[short] != counts.argmax()]
+        largest = counts.argmax()
+        short = short[self.label[short] != largest]
         counts, was = counts[self.label[short]], self.asked[short]
         for asked in np.unique(was).tolist():
             now = was == asked
@@ -238,11 +239,9 @@ class Rounds:
             self.ask(short[now & ~apart], 2 * asked)
             self.ask_apart(short[apart], 1 if self.core is None else 2 * asked)
         self.sort_ways()
-        is_changed = np.zeros(self.count, bool)
-        is_changed[self.label[short]] = True
-        (points,) = np.nonzero(is_changed[self.label])
-        self.low[is_changed] = np.inf
-        np.minimum.at(self.low, self.label[points], self.reach[points])
+        # (points that weren't short reach as far as their component's lightest known way)
+        self.low = np.where(np.arange(self.count) == largest, self.low, heights)
+        np.minimum.at(self.low, self.label[short], self.reach[short])
 
     def ask(self, points: Places, count: int) -> None:
         """Asks points for so many neighbours, themselves counted."""

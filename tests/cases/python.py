@@ -23,6 +23,16 @@ USED = ("numpy", "scipy", "networkx", "sklearn", "matplotlib")
 WITHOUT = {it: word for it, word in PLAIN.items() if it != "BORUVKA_LIBRARY"}
 
 
+# the version of a Python, that of its networkx, the folder of this, and the one that describes it
+NETWORKX = """
+import importlib.metadata, networkx, os, sys
+print(*sys.version_info[:2])
+print(*networkx.__version__.split(".")[:2])
+print(os.path.dirname(networkx.__file__))
+print(importlib.metadata.distribution("networkx")._path)
+"""
+
+
 def python():
     """The Python that has numpy and the most of the other packages."""
     code = "import importlib.util, sys; print(*(importlib.util.find_spec(it) is not None for it in sys.argv[1:]))"
@@ -49,11 +59,29 @@ def wheel(room):
     return f"{folder}/{name}"
 
 
-def expect_tests(room, *names):
-    """These of the package's tests pass over the wheel, unpacked. If all of them are skipped, so is the case."""
+def site(room):
+    """The wheel, unpacked into a folder."""
     with zipfile.ZipFile(wheel(room)) as it:
         it.extractall(f"{room}/site")
-    path = os.pathsep.join([f"{room}/site", *filter(None, [os.environ.get("PYTHONPATH")])])
+    return f"{room}/site"
+
+
+def lent_networkx(room, python):
+    """A folder with a networkx that has backends, of any Python of the same version: no part of it is compiled."""
+    wanted = run([python, "-c", "import sys; print(*sys.version_info[:2])"], env=WITHOUT)[1].decode().strip()
+    told = [run([it, "-c", NETWORKX], env=WITHOUT)[1].decode().splitlines() for it in filter(os.path.exists, PYTHONS)]
+    folders = next((it[2:] for it in told if it and it[0] == wanted and tuple(map(int, it[1].split())) >= (3, 2)), None)
+    if not folders:
+        raise Skipped(f"no Python {wanted} has networkx 3.2 or later")
+    os.mkdir(f"{room}/lent")
+    for it in folders:
+        os.symlink(it, f"{room}/lent/{os.path.basename(it)}")
+    return f"{room}/lent"
+
+
+def expect_tests(room, *names, more=()):
+    """These of the package's tests pass over the wheel. If all of them are skipped, so is the case."""
+    path = os.pathsep.join([site(room), *more, *filter(None, [os.environ.get("PYTHONPATH")])])
     env = {**WITHOUT, "PYTHONPATH": path, "PYTHONDONTWRITEBYTECODE": "1", "MPLCONFIGDIR": os.path.dirname(room)}
     status, _, told = run([python(), "-m", "unittest", "-v", *names], env=env, cwd=f"{PACKAGE}/tests", seconds=300)
     shape = re.search(r"^Ran (\d+) tests? in .*\n\nOK(?: \(skipped=(\d+)\))?\s*$", told.decode(), re.M)
@@ -141,6 +169,11 @@ def linkage_and_clusters(room):
 
 
 @case
+def exact_trees_of_points(room):
+    expect_tests(room, "test_linkage.Exact")
+
+
+@case
 def linkage_beside_scipys(room):
     expect_tests(room, "test_linkage.Scipys")
 
@@ -152,12 +185,12 @@ def sparse_matrices_beside_scipys(room):
 
 @case
 def graphs_of_networkx_beside_its_own(room):
-    expect_tests(room, "test_networkx.Functions")
+    expect_tests(room, "test_networkx.Functions", more=[lent_networkx(room, python())])
 
 
 @case
 def networkx_finds_the_backend(room):
-    expect_tests(room, "test_networkx.Found")
+    expect_tests(room, "test_networkx.Found", more=[lent_networkx(room, python())])
 
 
 @case
