@@ -26,7 +26,6 @@ def dropped(page, name, head, text, times):
     """Drops it, and answers how long it took."""
     begun = time.monotonic()
     page.browser.run(LARGE, name, head, text, times)
-    page.browser.wait("document.body.ariaBusy === 'true'")
     page.settle(SECONDS)
     still = page.browser.run("return window.longest")
     is_so((name, still if still > MOST_STILL else "went on"), (name, "went on"))
