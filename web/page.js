@@ -147,11 +147,18 @@ function unitsOf(seed) {
   };
 }
 
+// Nine clouds, each the one of eight drawn that is farthest from those before.
+function drawnClouds(unit) {
+  const clouds = [], place = () => ({ x: 1000 * unit(), y: 640 * unit(), size: 40 + 60 * unit() });
+  const gap = it => Math.min(1e9, ...clouds.map(other => Math.hypot(it.x - other.x, it.y - other.y) - it.size - other.size));
+  while (clouds.length < 9) clouds.push(Array.from({ length: 8 }, place).reduce((best, it) => gap(it) > gap(best) ? it : best));
+  return clouds;
+}
+
 // n points in nine clouds: others at each call, the same at each visit.
 let draws = 0;
 function drawnPoints(n) {
-  const unit = unitsOf(0x2545f491 + 7919 * draws++), points = new Float64Array(2 * n), hundredth = it => Math.round(100 * it) / 100;
-  const clouds = Array.from({ length: 9 }, () => ({ x: 1000 * (0.12 + 0.76 * unit()), y: 700 * (0.1 + 0.8 * unit()), size: 40 + 90 * unit() }));
+  const unit = unitsOf(625769211 + 7919 * draws++), clouds = drawnClouds(unit), points = new Float64Array(2 * n), hundredth = it => Math.round(100 * it) / 100;
   for (let i = 0; i < n; i++) {
     const { x, y, size } = clouds[i % clouds.length], angle = 2 * Math.PI * unit(), far = 0.6 * size * Math.sqrt(-Math.log(unit() + 1e-9));
     points[2 * i] = hundredth(x + far * Math.cos(angle));
@@ -303,7 +310,7 @@ function listenToWindow() {
 function settle() {
   const isWide = innerWidth > 800, isEmbedded = document.body.classList.contains('embed'), gap = 8;
   const right = isWide && !isEmbedded ? $('side').getBoundingClientRect().left : innerWidth, top = isEmbedded ? 0 : $('head').getBoundingClientRect().bottom + gap;
-  const bottom = isEmbedded ? innerHeight : $('bar').getBoundingClientRect().top - gap;
+  const cover = !isWide && document.body.classList.contains('pulled') ? innerHeight * 0.38 : $('bar').getBoundingClientRect().top, bottom = isEmbedded ? innerHeight : cover - gap;
   Object.assign(free, { left: 0, top, width: Math.max(40, right), height: Math.max(40, bottom - top) });
   tellSoon();
 }

@@ -82,7 +82,7 @@ export function listenToPointer(picture, calls) {
     }
   };
   picture.onpointerup = picture.onpointercancel = event => gesture.end(event);
-  picture.onpointerleave = () => state.picked >= 0 && !gesture.down.size && change({ picked: -1 });
+  picture.onpointerleave = event => event.pointerType === 'mouse' && state.picked >= 0 && change({ picked: -1 });
   picture.addEventListener('wheel', event => {
     event.preventDefault();
     change({ view: moved(Math.exp(-event.deltaY * (event.deltaMode ? 0.05 : 0.0015)), event.offsetX, event.offsetY) });

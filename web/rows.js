@@ -3,6 +3,7 @@
 import { Refusal } from './boruvka.js';
 
 const MOST_IN_ROW = 1_000_000; // characters
+const MOST_LINES = 20_000_000;
 const CONTROLS = /[\0-\x08\x0e-\x1f]/; // no text has them
 
 // What parts the fields of a table, by its first row: the first of these that it has outside of quotes, or else spaces.
@@ -37,6 +38,7 @@ export class Rows {
     if (CONTROLS.test(text)) throw new Refusal('NoText', this.line + 1);
     const lines = (this.rest + text).split(/\r\n|\n|\r(?=[^])/);
     this.rest = lines.pop();
+    if (this.line + lines.length > MOST_LINES) throw new Refusal('TooManyLines', MOST_LINES + 1);
     for (const it of lines) this.hear(it);
     if (this.rest.length > MOST_IN_ROW) throw new Refusal('LongRow', this.line + 1);
   }

@@ -87,12 +87,12 @@ const HEAD = 'import numpy as np\n';
 
 // Python that finds the same forest and clusters of the file, or of clusters.csv as this page saves it.
 function pythonText() {
-  const { shown: { kind, choice, separator, commas }, file, clusters } = state, count = clusters?.count ?? 1;
+  const { shown: { kind, choice }, file, clusters } = state, count = clusters?.count ?? 1;
   if (kind === 'graph') return `import subprocess\nprint(subprocess.run(["boruvka", "--plain", ${JSON.stringify(file?.name ?? 'forest.gr')}], capture_output=True, text=True).stdout)\n`;
-  const name = JSON.stringify(file && choice ? file.name : 'clusters.csv'), part = JSON.stringify(choice ? separator : ','), hasNames = !choice && state.shown.names;
+  const name = JSON.stringify(file && choice ? file.name : 'clusters.csv'), part = JSON.stringify(choice?.separator ?? ','), hasNames = !choice && state.shown.names;
   const roles = choice?.roles ?? { across: hasNames ? 1 : 0, up: hasNames ? 2 : 1 };
   const rows = `import csv\n${HEAD}rows = list(csv.reader(open(${name}, encoding="utf-8-sig"), delimiter=${part}))[${choice?.hasHeader ?? true ? 1 : 0}:]\n`;
-  const number = it => `float(row[${it}]${commas ? '.replace(",", ".")' : ''})`;
+  const number = it => `float(row[${it}]${choice?.commas ? '.replace(",", ".")' : ''})`;
   if (kind === 'links') return `${rows}from boruvka import minimum_spanning_forest\nnames = {}\nu, v, w = [], [], []\nfor row in rows:\n    u.append(names.setdefault(row[${roles.from}].strip(), len(names)))\n    v.append(names.setdefault(row[${roles.to}].strip(), len(names)))\n    w.append(${roles.weight >= 0 ? number(roles.weight) : '1.0'})\nforest = minimum_spanning_forest(len(names), u, v, w)\nprint(np.asarray(w)[forest.index].sum())\n`;
   const points = `${rows}from boruvka.linkage import labels, spanning_tree\npoints = np.array([[${number(roles.across)}, ${number(roles.up)}] for row in rows])\n`;
   if (kind === 'plane') return `${points}tree = spanning_tree(points)\nprint(tree.w.sum())\ncluster = labels(len(points), tree, clusters=${count})\n`;

@@ -25,6 +25,7 @@ const CAUSES = {
   BadGzip: 'It can’t be unpacked. Was the file cut off?',
   TooLong: 'A text of this kind may have a gigabyte at most. The program takes more.',
   LongRow: 'A row has a million letters at most. Is this a table?',
+  TooManyLines: 'A table has 20 million lines at most.',
   OpenQuote: 'A quotation mark opens here, and none closes.',
   OtherColumns: 'It has another number of fields than the first row.',
   OneColumn: 'A table needs two columns at least, between commas, semicolons, tabs or spaces.',

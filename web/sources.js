@@ -30,7 +30,7 @@ export class Source {
       for (let it = await reader.read(); !it.done; it = await reader.read()) yield it.value;
     } catch (error) {
       if (this.isPacked && error instanceof TypeError) throw new Refusal('BadGzip');
-      throw error instanceof DOMException ? new Refusal('Unreadable') : error;
+      throw error;
     } finally {
       reader.cancel().catch(() => {});
     }
@@ -102,7 +102,8 @@ export function kindOf(name, head) {
   if (magic) throw new Refusal('NoText', 0, MAGIC[magic]);
   const text = new TextDecoder('latin1').decode(head), ending = name.split('.').at(-1);
   if (ending === 'gr' || ending === 'co') return ending;
-  if (/^(c[ \t].*\n|c?\s*\n)*p sp /.test(text)) return 'gr';
-  if (/^(c[ \t].*\n|c?\s*\n)*p aux sp co /.test(text)) return 'co';
+  const first = text.split('\n').find(it => it.trim() && !/^c(\s|$)/.test(it)) ?? '';
+  if (first.startsWith('p sp ')) return 'gr';
+  if (first.startsWith('p aux sp co ')) return 'co';
   return ending === 'geojson' || ending === 'json' || /^(\xef\xbb\xbf)?\s*[{[]/.test(text) ? 'geojson' : 'table';
 }

@@ -123,6 +123,7 @@ function memoryOf(answer) {
 
 function refused(error) {
   if (error instanceof Refusal) return { kind: error.kind, line: error.line, what: error.what };
+  if (error instanceof DOMException) return { kind: 'Unreadable', line: 0, what: '' };
   return error instanceof RangeError ? { kind: 'no memory', line: 0, what: '' } : null;
 }
 

@@ -6,14 +6,18 @@ import random
 import shutil
 import subprocess
 
+from browsing.exact import modules
 from browsing.files import FAULTS
-from browsing.page import WEB, Page, arcs_of, forest_by_program, is_so
+from browsing.page import Page, arcs_of, forest_by_program, is_so
 from cases.running import ROOT, SMALL_FOREST, SMALL_NET, Skipped, case, drawn_graph, file_of, forest_text
 
 # It reads { n, links: [[u, v, weight as text], ..], text: base64 } on each line, and answers both forests or refusals.
 SCRIPT = """
 import { readFileSync } from 'node:fs';
-import { forestOfLinks, forestOfText } from './boruvka.mjs';
+import { forestOfLinks, forestOfText } from './boruvka.js';
+import { linksOfGraph } from './graphs.js';
+import { forestByKruskal } from './kruskal.js';
+import { grOf } from './out.js';
 const module = await WebAssembly.compile(readFileSync(process.argv[2]));
 const told = call => { try { return call(); } catch (error) { return error.message; } };
 for (const line of readFileSync(0, 'utf8').split('\\n').filter(Boolean)) {
@@ -25,33 +29,37 @@ for (const line of readFileSync(0, 'utf8').split('\\n').filter(Boolean)) {
         return Array.from({ length: found.length / 4 }, (_, i) => [String(weight[2 * i]), found[4 * i + 2], found[4 * i + 3]]);
     });
     const byText = told(() => Buffer.from(forestOfText(module, Buffer.from(text, 'base64'))).toString('base64'));
-    console.log(JSON.stringify({ byLinks, byText }));
+    const read = told(() => linksOfGraph(Buffer.from(text, 'base64')));
+    const unproved = read.links ? Buffer.from(await grOf(read.n, forestByKruskal(read.n, read.links)).text()).toString('base64') : read;
+    console.log(JSON.stringify({ byLinks, byText, unproved }));
 }
 """
 
 
 def answers(room, rows):
-    """What the module answers: of each row (n, arcs, text) the forest of its arcs and that of its text, or their refusals."""
+    """What the module answers: of each row (n, arcs, text) the forest of its arcs and that of its text, or their refusals.
+    And what the scripts answer that stand in for it where a browser can't run it."""
     node = shutil.which("node")
     if not node:
         raise Skipped("there is no node")
     if not os.path.exists(Page.module):
         raise Skipped("the module isn't built: `make wasm` builds it")
-    shutil.copy(f"{WEB}/boruvka.js", f"{room}/boruvka.mjs")
-    with open(f"{room}/run.mjs", "w", encoding="utf-8") as it:
+    folder = modules(room)
+    with open(f"{folder}/run.js", "w", encoding="utf-8") as it:
         it.write(SCRIPT)
     lines = [json.dumps({"n": n, "links": [[u, v, str(w)] for u, v, w in arcs], "text": base64.b64encode(text).decode()}) for n, arcs, text in rows]
-    ended = subprocess.run([node, "--experimental-wasm-memory64", f"{room}/run.mjs", Page.module], input="\n".join(lines), capture_output=True, text=True, timeout=600, check=False)
+    ended = subprocess.run([node, "--experimental-wasm-memory64", f"{folder}/run.js", Page.module], input="\n".join(lines), capture_output=True, text=True, timeout=600, check=False)
     if ended.returncode:
         raise AssertionError(ended.stderr[-2000:])
     found = [json.loads(it) for it in ended.stdout.splitlines()]
     for it in found:
         if isinstance(it["byLinks"], list):
             it["byLinks"] = [(int(weight), low, high) for weight, low, high in it["byLinks"]]
-        try:
-            it["byText"] = base64.b64decode(it["byText"], validate=True)
-        except ValueError:
-            pass
+        for key in ("byText", "unproved"):
+            try:
+                it[key] = base64.b64decode(it[key], validate=True)
+            except ValueError:
+                pass
     return found
 
 
@@ -72,7 +80,7 @@ def forests_in_node(room):
     rows = [(*arcs_of(it), it) for it in texts]
     for (n, _, text), found in zip(rows, answers(room, rows), strict=True):
         wanted = forest_by_program(text)
-        is_so(found["byText"] == wanted, True)
+        is_so((found["byText"] == wanted, found["unproved"] == wanted), (True, True))
         is_so(forest_text(n, found["byLinks"]) == wanted, True)
     return f"{len(texts)} graphs"
 
@@ -87,5 +95,6 @@ def refusals_in_node(room):
     ]
     rows = [(1, [], text) for text, _ in faults] + [(n, arcs, b"") for n, arcs, _ in links]
     found = answers(room, rows)
-    is_so([it["byText"] for it in found[: len(faults)]], [told for _, told in faults])
+    for key in ("byText", "unproved"):
+        is_so([it[key] for it in found[: len(faults)]], [told for _, told in faults])
     is_so([it["byLinks"] for it in found[len(faults) :]], [told for *_, told in links])

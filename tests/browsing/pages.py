@@ -8,9 +8,11 @@ import sys
 import zlib
 
 from browsing.page import Page, forest_by_program, is_so
-from cases.running import ROOT, SMALL_FOREST, SMALL_NET, case
+from cases.running import ROOT, SMALL_FOREST, SMALL_NET, Skipped, case
 
-MOST_BYTES = 160 * 1024
+MOST_BYTES = 160_000
+# one that has numpy, if there is one
+PYTHON = "/usr/bin/python3" if os.path.exists("/usr/bin/python3") else sys.executable
 TOWNS = f"{ROOT}/python/examples/towns.csv"
 
 
@@ -120,6 +122,23 @@ def data_inside_of_the_page(room):
         page.browser.open(f"file://{packed_page(room, data=(name, content))}")
         page.settle()
         page.expect(points="22", size="21", total="4,501.454 km")
+
+
+@case
+def points_that_python_shows(room):
+    """The file that the Python package writes is the page with the points, their names and kilometres."""
+    page, packed = Page.opened(), packed_page(room)
+    for more, total in [({}, "12.81025"), ({"globe": True}, "1,420.811 km")]:
+        given = {"points": [[0, 0], [3, 4], [9, 9]], "names": ["</script>", "b", 'c"']}
+        script = "import json, sys; sys.path.insert(0, sys.argv[1]); import importlib.util as u; s = u.spec_from_file_location('page', sys.argv[1] + '/boruvka/_page.py'); m = u.module_from_spec(s); s.loader.exec_module(m); m.show(**json.load(sys.stdin))"
+        words = json.dumps({**given, **more, "into": f"{room}/shown.html", "page": packed})
+        ended = subprocess.run([PYTHON, "-c", script, f"{ROOT}/python"], input=words, capture_output=True, text=True, check=False)
+        if "No module named 'numpy'" in ended.stderr:
+            raise Skipped("there is no numpy")
+        is_so((ended.returncode, ended.stderr), (0, ""))
+        page.browser.open(f"file://{room}/shown.html")
+        page.settle()
+        page.expect(points="3", total=total)
 
 
 @case

@@ -117,7 +117,7 @@ def clusters_by_slider_field_dendrogram_and_bars(_room):
 
 def drawn_marks(text):
     """The links and the marks of a saved picture, by ink."""
-    paths = [it.attrib for it in xml.etree.ElementTree.fromstring(text)]
+    paths = [it.attrib for it in xml.etree.ElementTree.fromstring(text) if "d" in it.attrib]
     count = lambda key: {it[key]: it["d"].count("M") for it in paths if key in it and it[key] != "none"}  # noqa: E731
     return count("stroke"), count("fill")
 

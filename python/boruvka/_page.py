@@ -1,0 +1,117 @@
+"""Points in the page that draws them: one HTML file, which a browser opens from any folder, without a network.
+
+The page is `share/boruvka/boruvka.html` of a package, or `dist/boruvka.html` of the repository, which `make page` makes.
+"""
+
+from __future__ import annotations
+
+import base64
+import gzip
+import json
+import os
+import sys
+import tempfile
+import webbrowser
+from collections.abc import Sequence
+
+import numpy as np
+from numpy.typing import ArrayLike
+
+_MOST_POINTS = 1_000_000
+_EMPTY = '<script type="application/json" id="data"></script>'
+_HERE = os.path.dirname(os.path.abspath(__file__))
+_SHARES = [sys.prefix, os.path.expanduser("~/.local"), "/usr/local", "/usr"]
+_PAGES = [f"{_HERE}/boruvka.html", f"{_HERE}/../../dist/boruvka.html", *(f"{it}/share/boruvka/boruvka.html" for it in _SHARES)]
+
+
+def show(
+    points: ArrayLike, names: Sequence[str] | None = None, *, globe: bool = False, into: str | os.PathLike[str] | None = None, page: str | os.PathLike[str] | None = None
+) -> str:
+    """Write points into the page that draws their shortest net and its clusters, and open it in the browser.
+
+    Parameters
+    ----------
+    points : array_like, shape (n, 2)
+        x and y of each point, 1 to 1,000,000 of them.
+    names : sequence of str, optional
+        A name for each point.
+    globe : bool
+        Whether they are degrees east and north: lengths are then kilometres on great circles.
+    into : path, optional
+        Where the file is written. It is then not opened. By default it is a temporary file, which stays.
+    page : path, optional
+        The page. By default it is the one that BORUVKA_PAGE names, or that of a package or of the repository.
+
+    Returns
+    -------
+    str
+        The path of the file.
+
+    Raises
+    ------
+    ValueError
+        If there is no point, or there are too many; a coordinate isn't finite, or none of the globe; names aren't one for
+        each point; or the file isn't such a page.
+    FileNotFoundError
+        If no page is found.
+
+    Examples
+    --------
+    >>> from boruvka import show  # doctest: +SKIP
+    >>> show([[0, 0], [3, 4], [9, 9]], ["a", "b", "c"])  # doctest: +SKIP
+    '/tmp/boruvka-n1fe9a8w.html'
+    """
+    text = _filled(_page(page), _table(points, names, globe))
+    if into is None:
+        handle, path = tempfile.mkstemp(prefix="boruvka-", suffix=".html")
+    else:
+        path = os.fspath(into)
+        handle = os.open(path, os.O_WRONLY | os.O_CREAT | os.O_TRUNC, 0o666)
+    with open(handle, "w", encoding="utf-8") as it:
+        it.write(text)
+    if into is None:
+        webbrowser.open(f"file://{os.path.abspath(path)}")
+    return path
+
+
+def _page(path: str | os.PathLike[str] | None) -> str:
+    """The text of the page."""
+    path = path or os.environ.get("BORUVKA_PAGE") or next(filter(os.path.exists, _PAGES), None)
+    if path is None:
+        raise FileNotFoundError("there is no boruvka.html: `make page` packs it, and BORUVKA_PAGE may name one")
+    with open(path, encoding="utf-8") as it:
+        return it.read()
+
+
+def _filled(page: str, table: str) -> str:
+    """The page with this table inside."""
+    if page.count(_EMPTY) != 1:
+        raise ValueError("the page has no empty place for data: is it boruvka.html, as `make page` packs it?")
+    packed = base64.b64encode(gzip.compress(table.encode(), mtime=0)).decode()
+    inside = json.dumps({"name": "points.csv.gz", "base64": packed}).replace("<", "\\u003c")
+    return page.replace(_EMPTY, _EMPTY.replace("></", f">{inside}</"))
+
+
+def _table(points: ArrayLike, names: Sequence[str] | None, globe: bool) -> str:
+    """The points as the text of a table."""
+    given = np.asarray(points, dtype=np.float64)
+    if given.ndim != 2 or given.shape[1] != 2:
+        raise ValueError(f"points has the shape {given.shape}: it must be (n, 2), x and y of each")
+    if not 1 <= len(given) <= _MOST_POINTS:
+        raise ValueError(f"there are {len(given)} points: the page takes 1 to {_MOST_POINTS:,}")
+    are_wrong = ~np.isfinite(given) | (np.abs(given) > [360.0, 90.0] if globe else False)
+    if are_wrong.any():
+        row, column = np.argwhere(are_wrong)[0].tolist()
+        raise ValueError(f"points[{row}, {column}] is {given[row, column]}: it must be {'degrees east, or north' if globe else 'finite'}")
+    if names is not None and len(names) != len(given):
+        raise ValueError(f"there are {len(names)} names for {len(given)} points")
+    head = ["longitude", "latitude"] if globe else ["x", "y"]
+    rows = [[repr(x), repr(y)] for x, y in given.tolist()]
+    if names is not None:
+        head, rows = ["name", *head], [[_quoted(str(name)), *row] for name, row in zip(names, rows)]
+    return "".join(f"{','.join(row)}\n" for row in [head, *rows])
+
+
+def _quoted(name: str) -> str:
+    text = "".join(it if it.isprintable() else " " for it in name)
+    return '"' + text.replace('"', '""') + '"'

@@ -1,0 +1,84 @@
+"""The page with points inside: what stands in the file is read back, as the page reads it."""
+
+import base64
+import csv
+import gzip
+import io
+import json
+import os
+import tempfile
+import unittest
+from unittest import mock
+
+import numpy as np
+
+from boruvka._page import show
+
+PAGE = '<body>\n<script type="application/json" id="data"></script>\n<p>end'
+HEAD, FOOT = '<body>\n<script type="application/json" id="data">', "</script>\n<p>end"
+
+
+def table_in(text):
+    """The rows of the table in a page."""
+    assert text.startswith(HEAD) and text.endswith(FOOT), text
+    inside = text[len(HEAD) : -len(FOOT)]
+    assert "<" not in inside, inside
+    data = json.loads(inside)
+    assert data["name"] == "points.csv.gz"
+    return list(csv.reader(io.StringIO(gzip.decompress(base64.b64decode(data["base64"])).decode())))
+
+
+class Shown(unittest.TestCase):
+    def setUp(self):
+        folder = tempfile.TemporaryDirectory()
+        self.addCleanup(folder.cleanup)
+        self.page, self.into = f"{folder.name}/page.html", f"{folder.name}/made.html"
+        with open(self.page, "w", encoding="utf-8") as it:
+            it.write(PAGE)
+
+    def made(self, *given, **more):
+        self.assertEqual(show(*given, into=self.into, page=self.page, **more), self.into)
+        with open(self.into, encoding="utf-8") as it:
+            return table_in(it.read())
+
+    def test_points(self):
+        self.assertEqual(self.made([[0, 1.5], [-1e-9, 1 / 3]]), [["x", "y"], ["0.0", "1.5"], ["-1e-09", "0.3333333333333333"]])
+        self.assertEqual(self.made(np.float32([[1, 2]]), globe=True), [["longitude", "latitude"], ["1.0", "2.0"]])
+
+    def test_names(self):
+        names = ['a "b", c', "</script><b>", "ů\n;"]
+        self.assertEqual(self.made([[0, 0]] * 3, names)[1:], [[it, "0.0", "0.0"] for it in [*names[:2], "ů ;"]])
+
+    def test_what_is_refused(self):
+        for points, more, told in [
+            ([], {}, r"shape \(0,\)"),
+            ([1, 2], {}, r"shape \(2,\)"),
+            ([[1, 2, 3]], {}, r"shape \(1, 3\)"),
+            (np.empty((0, 2)), {}, "0 points"),
+            (np.zeros((1_000_001, 2)), {}, "1000001 points"),
+            ([[0, 0], [1, np.nan]], {}, r"points\[1, 1\] is nan"),
+            ([[np.inf, 0]], {}, r"points\[0, 0\] is inf"),
+            ([[0, 91]], {"globe": True}, r"points\[0, 1\] is 91.0: it must be degrees"),
+            ([[0, 0]], {"names": ["a", "b"]}, "2 names for 1 points"),
+        ]:
+            with self.subTest(told=told), self.assertRaisesRegex(ValueError, told):
+                show(points, into=self.into, page=self.page, **more)
+        self.assertFalse(os.path.exists(self.into))
+        with self.assertRaisesRegex(ValueError, "no empty place"):
+            show([[0, 0]], into=self.into, page=np.__file__)
+
+    def test_no_page(self):
+        with mock.patch("boruvka._page._PAGES", []), mock.patch.dict(os.environ, clear=True), self.assertRaises(FileNotFoundError):
+            show([[0, 0]], into=self.into)
+
+    def test_the_browser_is_opened(self):
+        with mock.patch("webbrowser.open") as opened, mock.patch.dict(os.environ, {"BORUVKA_PAGE": self.page}):
+            path = show([[1, 2]])
+        self.addCleanup(os.unlink, path)
+        opened.assert_called_once_with(f"file://{path}")
+        with open(path, encoding="utf-8") as it:
+            self.assertEqual(table_in(it.read()), [["x", "y"], ["1.0", "2.0"]])
+
+
+if __name__ == "__main__":
+    unittest.main()

@@ -1,0 +1,148 @@
+"""Input made to hurt: it is answered in time, or refused with its reason, and the page's thread goes on."""
+import gzip
+import os
+import time
+
+from browsing.page import Page, is_so
+from browsing.points import drawn_marks
+from cases.running import case
+
+# drops a file of a text so many times, without its going through the driver
+LARGE = """
+const [name, head, text, times] = arguments, each = Math.max(1, Math.floor(2 ** 20 / text.length)), parts = [head];
+for (let left = times; left > 0; left -= each) parts.push(text.repeat(Math.min(left, each)));
+const data = new DataTransfer();
+data.items.add(new File(parts, name));
+window.watch?.disconnect();
+window.longest = 0;
+window.watch = new PerformanceObserver(list => { for (const it of list.getEntries()) window.longest = Math.max(window.longest, it.duration); });
+setTimeout(() => window.watch.observe({ type: 'longtask' }));
+for (const kind of ['dragover', 'drop']) document.body.dispatchEvent(new DragEvent(kind, { dataTransfer: data, bubbles: true, cancelable: true }));
+"""
+SECONDS = 240
+# milliseconds that a task of the page's thread may last, on a machine that has other work
+MOST_STILL = 2500
+
+
+def dropped(page, name, head, text, times):
+    """Drops it, and answers how long it took."""
+    begun = time.monotonic()
+    page.browser.run(LARGE, name, head, text, times)
+    page.settle(SECONDS)
+    still = page.browser.run("return window.longest")
+    is_so((name, still if still > MOST_STILL else "went on"), (name, "went on"))
+    return time.monotonic() - begun
+
+
+@case
+def large_files(_room):
+    """Each was read as empty, was not done after minutes, or ended the tab, before it was refused or shown."""
+    page, told = Page.opened(), []
+    before = page.shown()
+    for name, head, text, times, fault in [
+        ("commas.csv", "", ",", 150_000_000, "commas.csv: line 1: LongRow"),
+        ("letters.csv", "", "x", 100_000_000, "letters.csv: line 1: LongRow"),
+        ("long.csv", "", "0,0\n", 5_000_000, "long.csv: line 1000001: TooManyPoints"),
+        ("quote.csv", 'x,y\n"', "1,2\n", 1_000_000, "quote.csv: line 2: OpenQuote"),
+        ("lines.csv", "", "\n", 100_000_000, "lines.csv: line 20000001: TooManyLines"),
+        ("deep.json", "", "[", 30_000_000, "deep.json: BadJson"),
+    ]:
+        told.append(f"{name} {dropped(page, name, head, text, times):.0f} s")
+        is_so((page.text("fault")[: len(fault)], page.shown()), (fault, before))
+    return ", ".join(told)
+
+
+@case
+def a_table_past_what_a_text_may_hold(room):
+    """536,870,888 letters are the most that the browser puts into one text."""
+    path = f"{room}/long.csv"
+    with open(path, "w", encoding="utf-8") as it:
+        it.write("x,y,note\n")
+        for x in range(200):
+            it.writelines(f"{x},{y},{'n' * 2800}\n" for y in range(1000))
+    is_so(os.path.getsize(path) > 536_870_888, True)
+    page, begun = Page.opened(), time.monotonic()
+    page.click("open")
+    page.browser.write("files", path)
+    page.browser.wait("document.getElementById('points').textContent === '200,000'", seconds=SECONDS)
+    page.settle(SECONDS)
+    page.expect(points="200,000", size="199,999", total="199,999")
+    os.unlink(path)
+    return f"{time.monotonic() - begun:.0f} s"
+
+
+@case
+def a_gzip_that_expands_without_end(_room):
+    page = Page.opened()
+    for name, content, fault in [("bomb.csv.gz", b"0" * 300_000_000, "LongRow"), ("bomb.csv.gz", b"\n" * 300_000_000, "TooManyLines")]:
+        page.drop((name, gzip.compress(content, 1)), seconds=SECONDS)
+        is_so(fault in page.text("fault"), True)
+
+
+@case
+def large_graphs(_room):
+    page = Page.opened()
+    seconds = [dropped(page, "empty.gr", "p sp 67108864 0", "\n", 1)]
+    page.expect(points="67,108,864", size="0", total="0", say="This graph is too large to be cut here. Its forest can be saved.")
+    star = "".join(f"a 1 {it} {it}\n" for it in range(2, 1_000_001))
+    seconds.append(dropped(page, "star.gr", "p sp 1000000 999999\n", star, 1))
+    page.expect(points="1,000,000", size="999,999", total="500,000,499,999")
+    page.keep("star")
+    page.browser.run("window.longest = 0")
+    for count in (2, 50, 3):
+        page.set("clusters", count)
+    page.browser.run("document.getElementById('picture').dispatchEvent(new WheelEvent('wheel', { deltaY: -300, clientX: 500, clientY: 300, cancelable: true }))")
+    page.settle(SECONDS)
+    is_so(page.browser.run("return window.longest") < MOST_STILL, True)
+    return ", ".join(f"{it:.0f} s" for it in seconds)
+
+
+@case
+def a_million_points(_room):
+    """In clouds, in a line, all at one place: each is shown, with a bar and a stop, and no frame takes long."""
+    page, told = Page.opened(), []
+    for name, line, total in [("line.csv", "{0},7\n", "999,999"), ("equal.csv", "3,3\n", "0"), ("hundred.csv", "{1},{2}\n", "99")]:
+        text = "".join(line.format(it, it * 7919 % 10, it * 104729 // 10 % 10) for it in range(10**6))
+        told.append(f"{name} {dropped(page, name, '', text, 1):.0f} s")
+        page.expect(points="1,000,000", size="999,999", total=total)
+    begun = time.monotonic()
+    page.browser.run("document.getElementById('count').value = 1000000; document.getElementById('random').click()")
+    page.browser.wait("document.getElementById('stop').checkVisibility()")
+    page.settle(SECONDS)
+    page.expect(points="1,000,000", size="999,999")
+    page.keep("million")
+    told.append(f"clouds {time.monotonic() - begun:.0f} s")
+    return ", ".join(told)
+
+
+HURTING = [b"<img src=x onerror=alert(1)>", b"<script>alert(1)</script>", b"]]>&amp;'\"", "\u202e\u0007"[:1].encode(), b"javascript:alert(1)"]
+
+
+@case
+def names_with_markup(_room):
+    """They are text wherever they are shown, and in all that is saved."""
+    page = Page.opened()
+    rows = b"".join(b'"%s",%d,%d\n' % (it.replace(b'"', b'""'), i, i * i) for i, it in enumerate(HURTING))
+    page.drop(("</script><b>.csv", b"name,x,y\n" + rows))
+    page.expect(points="5")
+    drawn_marks(page.saved("picture.svg"))
+    drawn_marks(page.saved("dendrogram.svg"))
+    saved = page.saved("clusters.csv").decode()
+    is_so(all(it.decode().replace('"', '""') in saved for it in HURTING), True)
+    page.drop(("<b>.csv", b"<i>\n"))
+    is_so((page.text("fault")[:19], page.browser.run("return document.querySelectorAll('#fault *, #notes *, b, i, img').length")), ("<b>.csv: line 1: On", 0))
+    is_so(page.browser.complaints(), [])
+
+
+@case
+def bytes_at_random(_room):
+    """Whatever they are, they are refused or shown, and the page goes on."""
+    page = Page.opened()
+    for turn in range(40):
+        content = os.urandom(1 + 37 * turn)
+        for name in ("random.csv", "random.gr", "random.co", "random.json", "random.csv.gz"):
+            page.drop((name, (b"\x1f\x8b" if turn % 2 else b"") + content))
+            page.browser.run("document.getElementById('columns').close()")
+            is_so((page.text("fault").startswith(f"{name}: "), "Broken" in page.text("fault")), (True, False))
+    page.drop(("points.csv", b"0,0\n3,4\n"))
+    page.expect(total="5")

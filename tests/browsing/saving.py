@@ -1,0 +1,109 @@
+"""Files out: each is read again, by what it is for."""
+import csv
+import io
+import json
+import math
+import os
+import subprocess
+import sys
+import xml.etree.ElementTree
+
+from browsing.page import Page, drawn_points, is_same_partition, is_so
+from browsing.points import lengths_in
+from cases.running import ROOT, SMALL_NET, Skipped, case
+
+TOWNS = f"{ROOT}/python/examples/towns.csv"
+
+
+def opened_towns():
+    page = Page.opened()
+    with open(TOWNS, "rb") as it:
+        page.drop(("towns.csv", it.read()))
+    return page
+
+
+@case
+def pictures_of_both(_room):
+    page = opened_towns()
+    for name in ("picture", "dendrogram"):
+        is_so(page.saved(f"{name}.png")[:8], b"\x89PNG\r\n\x1a\n")
+        root = xml.etree.ElementTree.fromstring(page.saved(f"{name}.svg"))
+        is_so((root.tag, len(root) > 3), ("{http://www.w3.org/2000/svg}svg", True))
+
+
+@case
+def the_forest_as_csv_and_geojson(_room):
+    page = opened_towns()
+    with open(TOWNS, encoding="utf-8") as it:
+        places = {row["town"]: [float(row["longitude"]), float(row["latitude"])] for row in csv.DictReader(it)}
+    rows = list(csv.DictReader(io.StringIO(page.saved("forest.csv").decode())))
+    lengths = [float(it["length"]) for it in rows]
+    is_so((len(rows), lengths, {it for row in rows for it in (row["from"], row["to"])}), (21, lengths_in(page.saved("forest.gr")), set(places)))
+    features = json.loads(page.saved("forest.geojson"))["features"]
+    for row, it in zip(rows, features, strict=True):
+        is_so(it["properties"], {"from": row["from"], "to": row["to"], "kilometres": float(row["length"])})
+        is_so(it["geometry"], {"type": "LineString", "coordinates": [places[row["from"]], places[row["to"]]]})
+    page.drop(("small.gr", SMALL_NET))
+    is_so(page.saved("forest.csv"), b"from,to,weight\n2,5,0\n3,4,0\n3,5,0\n4,6,3\n1,3,10\n")
+
+
+@case
+def names_that_are_formulas(_room):
+    """A name that a spreadsheet would run begins with an apostrophe, and separators are quoted."""
+    page = Page.opened()
+    page.drop(("links.csv", b'source,target,weight\n=1+1,"a,b",1\n"a,b",@x,2\n-1,@x,3\n'))
+    is_so(page.saved("forest.csv"), b"from,to,length\n\"'=1+1\",\"a,b\",1\n\"a,b\",\"'@x\",2\n\"'@x\",-1,3\n")
+
+
+@case
+def merges_as_scipy_has_them(_room):
+    page, (points, text) = Page.opened(), drawn_points(4, 300)
+    page.drop(("points.csv", text))
+    rows = [[float(it) for it in row.split(",")] for row in page.saved("linkage.csv").decode().splitlines()]
+    script = "import json, sys; from scipy.cluster.hierarchy import fcluster, is_valid_linkage, linkage; import numpy as np; p, z = map(np.array, json.load(sys.stdin)); print(json.dumps([bool(is_valid_linkage(z)), linkage(p, 'single')[:, 2].tolist(), fcluster(z, 7, 'maxclust').tolist(), fcluster(linkage(p, 'single'), 7, 'maxclust').tolist()]))"
+    python = "/usr/bin/python3" if os.path.exists("/usr/bin/python3") else sys.executable
+    ended = subprocess.run([python, "-c", script], input=json.dumps([points, rows]), capture_output=True, text=True, check=False)
+    if "No module named" in ended.stderr:
+        raise Skipped("there is no scipy")
+    is_valid, heights, ours, scipys = json.loads(ended.stdout)
+    is_so((is_valid, all(math.isclose(a[2], b, rel_tol=1e-12) for a, b in zip(rows, heights, strict=True))), (True, True))
+    is_same_partition(ours, scipys)
+
+
+@case
+def the_rounds_as_a_film(_room):
+    page = opened_towns()
+    page.click("save")
+    page.browser.click("save-rounds-webm")
+    content = page.browser.downloaded("rounds.webm")
+    is_so((content[:4], b"webm" in content[:64], len(content) > 10_000), (b"\x1a\x45\xdf\xa3", True, True))
+    page.settle()
+
+
+@case
+def python_that_does_the_same(room):
+    """It runs, with the package of this repository, and finds the same total."""
+    library = f"{ROOT}/crates/boruvka_c/out/libboruvka.so"
+    page, made = opened_towns(), []
+    for name, content, total in [
+        ("towns.csv", open(TOWNS, "rb").read(), 4501.454),
+        ("points.csv", b"a;b\n1,5;2,5\n4,5;6,5\n", 5),
+        ("links.csv", b"source,target,weight\na,b,1.5\nb,c,2\nc,a,-1\n", 0.5),
+    ]:
+        page.drop((name, content))
+        page.click("save")
+        page.click("copypython")
+        page.browser.wait("document.getElementById('copied').value")
+        text = page.value("copied")
+        page.browser.run("document.getElementById('saving').close(); document.getElementById('copied').value = ''")
+        compile(text, name, "exec")
+        with open(f"{room}/{name}", "wb") as it:
+            it.write(content)
+        made.append((text, total))
+    if not os.path.exists(library):
+        raise Skipped("the Python package has no library: `make lib` builds it")
+    for text, total in made:
+        env = {**os.environ, "PYTHONPATH": f"{ROOT}/python", "BORUVKA_LIBRARY": library}
+        ended = subprocess.run(["/usr/bin/python3", "-c", text], cwd=room, env=env, capture_output=True, text=True, check=False)
+        is_so((ended.returncode, ended.stderr[-300:]), (0, ""))
+        is_so(abs(float(ended.stdout.split()[0]) / total - 1) < 1e-6, True)
