@@ -4,9 +4,8 @@ ghost use Rattle.wires.specs.Lines.{HasRoom};
 ghost use Rattle.wires.specs.Testing.{line_of_script};
 
 use crate::command::{command, run_over, without_words};
-use crate::progress::Watched;
 use crate::standard::{StandardStreams, workers_beside};
-use byte_streams::{FusedSink, FusedSource, Source, Uncounted};
+use byte_streams::{FusedSink, FusedSource, Uncounted};
 use forest_run::{Report, RunFault};
 use gr_text::{GrFault, GrKind, ReadFault};
 use links::{CutFault, Link};
@@ -553,41 +552,7 @@ fn prints_a_help_that_cannot_be_written(rt: HostRuntime) {
     );
 }
 
-// A source of 33 million bytes is read by 5 million at a time, and found to end: at 20 and at 33 million the step of 16
-// million was passed.
-#[test]
-fn tells_how_much_was_read(rt: HostRuntime) {
-    let bytes = vec![in rt.alloc(); 10_u8; 33_000_000].expect(&rt, "memory");
-    let mut buffer = vec![in rt.alloc(); 0_u8; 5_000_000].expect(&rt, "memory");
-    let mut source = bytes.as_slice();
-    let mut told = Vec::new(rt.alloc());
-    let mut watched = Watched::new(&mut source, &mut told);
-    for wanted in [5_000_000, 5_000_000, 5_000_000, 5_000_000, 5_000_000, 5_000_000, 3_000_000, 0] {
-        let found = watched.read(buffer.as_mut_slice()).expect(&rt, "bytes");
-        expect_same(&rt, found, wanted);
-    }
-    drop(watched);
-    let lines = b"read 20 MB\rread 33 MB\rread 33 MB\n".as_slice();
-    expect_same(&rt, told.as_slice(), lines);
-}
-
-// The sink takes nine bytes, and then fails: the run goes on, and tells it nothing more.
-#[test]
-fn tells_nothing_after_a_setback(rt: HostRuntime) {
-    let bytes = vec![in rt.alloc(); 10_u8; 48_000_000].expect(&rt, "memory");
-    let mut buffer = vec![in rt.alloc(); 0_u8; 16_000_000].expect(&rt, "memory");
-    let mut source = bytes.as_slice();
-    let mut told = FusedSink::new(rt.alloc(), 9, 9).expect(&rt, "memory");
-    let mut watched = Watched::new(&mut source, &mut told);
-    for wanted in [16_000_000, 16_000_000, 16_000_000, 0] {
-        let found = watched.read(buffer.as_mut_slice()).expect(&rt, "bytes");
-        expect_same(&rt, found, wanted);
-    }
-    drop(watched);
-    expect_same(&rt, told.held(), b"read 16 M".as_slice());
-}
-
-// A short file has no such line.
+// What longer files get is tried over the built program.
 #[test]
 fn tells_nothing_of_a_short_file(rt: HostRuntime) {
     let words = ["boruvka", "--plain", "--progress"];
