@@ -129,7 +129,8 @@ fn links_and_components(rt: HostRuntime) {
         assert!(rt; graph.n <= 1 << 26);
         let links = links_between(&rt, rt.alloc(), graph.n, graph.arcs);
         let forest = plain_forest(rt.alloc(), graph.n, links.as_slice()).expect(&rt, "memory");
-        expect_same(&rt, forest.links().len() + components, graph.n as usize);
+        let sum = forest.links().len().checked_add(components);
+        expect_same(&rt, sum, Some(graph.n as usize));
     }
 }
 
