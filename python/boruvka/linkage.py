@@ -11,25 +11,28 @@ import numbers
 import operator
 import sys
 import warnings
-from typing import SupportsIndex
+from typing import Any, SupportsIndex
 
 import numpy as np
 from numpy.typing import ArrayLike, NDArray
 
 from boruvka import _library
 from boruvka._forest import Forest, minimum_spanning_forest, vertices
+from boruvka._metrics import Metric, metric_of
 from boruvka._points import tree_of_points
 
 __all__ = ["labels", "merges", "single_linkage", "spanning_tree"]
 
 
-def single_linkage(y: ArrayLike) -> NDArray[np.float64]:
+def single_linkage(y: ArrayLike, *, metric: str = "euclidean", p: float = 2, min_samples: int | None = None) -> NDArray[np.float64]:
     """Cluster points by single linkage, as `scipy.cluster.hierarchy.linkage(y, "single")` does.
 
     Parameters
     ----------
     y : array_like, shape (n, d) or (n (n - 1) / 2,)
         Points, a row each, or the distances between all pairs: those of vertex 0 to 1, 2, .., then those of 1 to 2, ..
+    metric, p, min_samples
+        As `spanning_tree` takes them.
 
     Returns
     -------
@@ -63,24 +66,36 @@ def single_linkage(y: ArrayLike) -> NDArray[np.float64]:
     return merges(len(tree.w) + 1, tree)
 
 
-def spanning_tree(y: ArrayLike) -> Forest:
-    """Find the minimum spanning tree of points, by their Euclidean distances, or of given distances.
+def spanning_tree(y: ArrayLike, *, metric: str = "euclidean", p: float = 2, min_samples: int | None = None) -> Forest:
+    """Find the minimum spanning tree of points, or of given distances.
 
     Parameters
     ----------
-    y : array_like, shape (n, d) or (n (n - 1) / 2,)
-        Points or distances, as `single_linkage` takes them.
+    y : array_like, shape (n, d) or (n (n - 1) / 2,), or sparse matrix, shape (n, n)
+        Points or distances, as `single_linkage` takes them. The entries of a sparse matrix are distances; pairs without
+        an entry have no edge, so that there may be several components. Of (i, j) and (j, i) the lesser counts.
+    metric : str, optional
+        How far points are apart: "euclidean", "manhattan", "chebyshev", "minkowski", "haversine" (rows are latitude and
+        longitude in radians, lengths are radians) or "cosine".
+    p : float, optional
+        The exponent of "minkowski", at least 1.
+    min_samples : int, optional
+        If it is given, points are as far apart as HDBSCAN has it: at the greatest of their distance and of the distance
+        of each to the so many nearest of all points, itself counted (Campello and others, 2013).
 
     Returns
     -------
     Forest
         n - 1 edges between the vertices 0 to n - 1, in ascending order of their lengths. `index` is the place of each
-        among the distances between all pairs.
+        among the distances between all pairs; of a sparse matrix, among its entries.
 
     Raises
     ------
-    ValueError, TypeError
-        As `single_linkage` does.
+    ValueError
+        As `single_linkage` does; or if the metric isn't one of these, p is less than 1, min_samples isn't from 1 to n, or
+        a row has no place in the metric.
+    TypeError
+        As `single_linkage` does; or if min_samples or a metric is given with distances.
 
     Notes
     -----
@@ -96,8 +111,12 @@ def spanning_tree(y: ArrayLike) -> Forest:
     >>> spanning_tree([[0, 0], [3, 4], [0, 1]]).w
     array([1.        , 4.24264069])
     """
+    if hasattr(y, "tocoo"):
+        _expect_points(metric, min_samples, "a sparse matrix")
+        return _of_entries(y)
     given = _numbers(y)
     if given.ndim == 1:
+        _expect_points(metric, min_samples, "one dimension")
         return _of_distances(given)
     if given.ndim != 2:
         raise ValueError(f"y has the shape {given.shape}: points are rows, and distances have one dimension")
@@ -108,7 +127,7 @@ def spanning_tree(y: ArrayLike) -> Forest:
         raise ValueError(f"a coordinate of the point {are_finite.argmin()} isn't finite")
     if _are_distances(given):
         _warn("y is square, symmetric and 0 on its diagonal: its rows are taken as points, not as distances")
-    return _of_points(given)
+    return _of_points(given, metric_of(metric, p), min_samples)
 
 
 def merges(n: SupportsIndex, forest: Forest) -> NDArray[np.float64]:
@@ -296,9 +315,27 @@ def _of_distances(distances: NDArray[np.float64]) -> Forest:
     return minimum_spanning_forest(n, *_pairs(n), distances)
 
 
-def _of_points(points: NDArray[np.float64]) -> Forest:
+def _expect_points(metric: str, min_samples: int | None, given: str) -> None:
+    if metric != "euclidean" or min_samples is not None:
+        raise TypeError(f"y is distances, as {given} says: a metric and min_samples want points, a row each; of one dimension y[:, None]")
+
+
+def _of_entries(matrix: Any) -> Forest:
+    entries = matrix.tocoo()
+    if entries.shape[0] != entries.shape[1]:
+        raise ValueError(f"y has the shape {entries.shape}, and a matrix of distances is square")
+    distances = _numbers(entries.data)
+    if not np.isfinite(distances).all() or (distances < 0).any():
+        raise ValueError("a distance isn't finite, or is negative")
+    return minimum_spanning_forest(entries.shape[0], entries.row, entries.col, distances)
+
+
+def _of_points(points: NDArray[np.float64], metric: Metric, min_samples: int | None) -> Forest:
     n = len(points)
-    one, other, lengths = tree_of_points(points, 2.0, None)
+    if min_samples is not None and not 1 <= operator.index(min_samples) <= n:
+        raise ValueError(f"min_samples is {min_samples}, and has to be from 1 to {n}, the number of points")
+    one, other, lengths = tree_of_points(metric.placed(points), metric.p, min_samples)
+    lengths = metric.told(lengths)
     if not np.isfinite(lengths).all():
         place = np.flatnonzero(~np.isfinite(lengths))[0]
         raise ValueError(f"points {one[place]} and {other[place]} are so far apart that doubles don't hold their distance")

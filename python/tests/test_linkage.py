@@ -12,6 +12,16 @@ from graphs import Components, Graph, kruskal
 from boruvka import Forest, minimum_spanning_forest
 from boruvka.linkage import labels, merges, single_linkage, spanning_tree
 
+
+def there(name):
+    """Whether a package is there."""
+    try:
+        __import__(name)
+    except ImportError:
+        return False
+    return True
+
+
 try:
     from scipy.cluster import hierarchy
     from scipy.spatial.distance import pdist
@@ -247,6 +257,74 @@ class Exact(unittest.TestCase):
                     np.testing.assert_allclose(spanning_tree(points).w, wanted, rtol=1e-12, atol=0)
 
 
+METRICS = {
+    "euclidean": math.dist,
+    "manhattan": lambda a, b: math.fsum(abs(x - y) for x, y in zip(a, b)),
+    "chebyshev": lambda a, b: max(abs(x - y) for x, y in zip(a, b)),
+    "minkowski": lambda a, b: math.fsum(abs(x - y) ** 3 for x, y in zip(a, b)) ** (1 / 3),
+    "haversine": lambda a, b: 2 * math.asin(math.sqrt(math.sin((a[0] - b[0]) / 2) ** 2 + math.cos(a[0]) * math.cos(b[0]) * math.sin((a[1] - b[1]) / 2) ** 2)),
+    "cosine": lambda a, b: 1 - math.fsum(x * y for x, y in zip(a, b)) / math.hypot(*a) / math.hypot(*b),
+}
+
+
+class Metrics(unittest.TestCase):
+    def heights(self, points, metric, nearest=1):
+        """The lengths of the tree of mutual reachability by Kruskal's algorithm over all pairs."""
+        rows = points.tolist()
+        lengths = [[METRICS[metric](a, b) if a is not b else 0.0 for b in rows] for a in rows]
+        core = [sorted(it)[nearest - 1] for it in lengths]
+        pairs = list(combinations(range(len(rows)), 2))
+        heights = [max(lengths[i][j], core[i], core[j]) for i, j in pairs]
+        order = sorted(range(len(pairs)), key=heights.__getitem__)
+        return [heights[it] for it in kruskal(len(rows), [it[0] for it in pairs], [it[1] for it in pairs], order)]
+
+    def test_each_metric_and_mutual_reachability(self):
+        draw = np.random.default_rng(18)
+        for metric in METRICS:
+            for dimensions in (2, 12):
+                if metric == "haversine" and dimensions > 2:
+                    continue
+                points = draw.normal(size=(50, dimensions)) * 0.4
+                points[40:] = points[:10]
+                for nearest in (1, 4, 50):
+                    with self.subTest(metric=metric, dimensions=dimensions, nearest=nearest):
+                        found = spanning_tree(points, metric=metric, p=3, min_samples=nearest).w
+                        np.testing.assert_allclose(found, self.heights(points, metric, nearest), rtol=1e-7, atol=1e-12)
+                plain = spanning_tree(points, metric=metric, p=3)
+                np.testing.assert_allclose(plain.w, self.heights(points, metric), rtol=1e-7, atol=1e-12)
+                self.assertEqual(single_linkage(points, metric=metric, p=3)[:, 2].tolist(), plain.w.tolist())
+
+    def test_mutual_reachability_of_points_of_all_kinds(self):
+        draw = np.random.default_rng(19)
+        for dimensions in (1, 3, 10):
+            for kind, points in enumerate(clouds(draw, 60, dimensions)):
+                with self.subTest(dimensions=dimensions, kind=kind):
+                    found = spanning_tree(points, min_samples=4).w
+                    np.testing.assert_allclose(found, self.heights(np.asarray(points, float), "euclidean", 4), rtol=1e-13)
+
+    def test_refused(self):
+        points = np.zeros((4, 3))
+        for words, given in [
+            ("^there is no metric 'euclid': it is one of euclidean, ", {"metric": "euclid"}),
+            ("^p is 0.5, ", {"metric": "minkowski", "p": 0.5}),
+            ("^p is nan, ", {"metric": "minkowski", "p": math.nan}),
+            ("^min_samples is 0, and has to be from 1 to 4", {"min_samples": 0}),
+            ("^min_samples is 5, ", {"min_samples": 5}),
+            ("^y has 3 columns: haversine takes two", {"metric": "haversine"}),
+            ("^the point 0 is 0, and has no direction", {"metric": "cosine"}),
+        ]:
+            for call in (spanning_tree, single_linkage):
+                with self.assertRaisesRegex(ValueError, words):
+                    call(points, **given)
+        with self.assertRaisesRegex(ValueError, "^the latitude of the point 1 is 51.5, .*radians"):
+            spanning_tree([[0, 0], [51.5, 0.1]], metric="haversine")
+        for given in ({"metric": "cosine"}, {"min_samples": 2}):
+            with self.assertRaisesRegex(TypeError, "^y is distances, "):
+                spanning_tree([1.0, 2.0, 3.0], **given)
+        with self.assertRaises(TypeError):
+            spanning_tree(points, min_samples=2.5)
+
+
 class Drawn(unittest.TestCase):
     def test_labels_of_drawn_forests(self):
         for seed in range(200):
@@ -290,6 +368,45 @@ class Scipys(unittest.TestCase):
         if is_exact:
             self.assertEqual(found[:, [0, 1, 3]].tolist(), wanted[:, [0, 1, 3]].tolist())
         np.testing.assert_allclose(hierarchy.cophenet(found), hierarchy.cophenet(wanted), rtol=1e-9, atol=1e-9)
+
+    def test_distances_of_a_sparse_matrix(self):
+        from scipy.sparse import coo_matrix
+        from scipy.sparse.csgraph import connected_components
+
+        draw = np.random.default_rng(20)
+        for form in ("csr", "coo", "lil"):
+            rows, columns, lengths = draw.integers(0, 60, 90), draw.integers(0, 60, 90), draw.random(90)
+            forest = spanning_tree(coo_matrix((lengths, (rows, columns)), shape=(60, 60)).asformat(form))
+            matrix = np.full((60, 60), np.inf)
+            # (entries at one place are added up, as scipy does)
+            summed = coo_matrix((lengths, (rows, columns)), shape=(60, 60)).toarray()
+            matrix[summed > 0] = summed[summed > 0]
+            parts = connected_components(np.isfinite(matrix), directed=False)[0]
+            self.assertEqual(len(forest.w), 60 - parts)
+            if form != "coo":
+                low, high = np.triu_indices(60, 1)
+                lightest = np.minimum(matrix, matrix.T)[low, high]
+                order = [int(it) for it in np.argsort(lightest) if np.isfinite(lightest[it])]
+                self.assertEqual(forest.w.tolist(), [lightest[it] for it in kruskal(60, low.tolist(), high.tolist(), order)])
+        for wrong, words in [(coo_matrix((2, 3)), "square"), (coo_matrix(([-1.0], ([0], [1])), shape=(2, 2)), "negative"), (coo_matrix(([np.nan], ([0], [1])), shape=(2, 2)), "finite")]:
+            with self.assertRaisesRegex(ValueError, words):
+                spanning_tree(wrong)
+        with self.assertRaisesRegex(TypeError, "^y is distances, as a sparse matrix says"):
+            spanning_tree(coo_matrix((3, 3)), min_samples=2)
+
+    @unittest.skipUnless(there("sklearn"), "there is no scikit-learn")
+    def test_cuts_of_mutual_reachability_are_dbscans_core_points(self):
+        from sklearn.cluster import DBSCAN
+
+        draw = np.random.default_rng(21)
+        for dimensions in (2, 6, 15):
+            points = np.concatenate([draw.normal(size=(200, dimensions)), draw.normal(3, 0.5, (150, dimensions)), draw.uniform(-6, 6, (100, dimensions))])
+            for nearest in (2, 5, 12):
+                tree = spanning_tree(points, min_samples=nearest)
+                for height in np.quantile(tree.w, [0.2, 0.5, 0.8, 0.95]) * (1 + 1e-9):
+                    found = DBSCAN(eps=height, min_samples=nearest).fit(points)
+                    core = found.core_sample_indices_
+                    self.expect_same_parts(labels(len(points), tree, height=height)[core], found.labels_[core])
 
     def test_clusters_of_points(self):
         draw = np.random.default_rng(5)

@@ -170,7 +170,7 @@ def linkage_and_clusters(room):
 
 @case
 def exact_trees_of_points(room):
-    expect_tests(room, "test_linkage.Exact")
+    expect_tests(room, "test_linkage.Exact", "test_linkage.Metrics")
 
 
 @case

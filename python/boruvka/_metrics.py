@@ -1,0 +1,60 @@
+"""Metrics by their names, each as a Minkowski distance of places that points are put to."""
+
+from __future__ import annotations
+
+from collections.abc import Callable
+from typing import NamedTuple
+
+import numpy as np
+from numpy.typing import NDArray
+
+Numbers = NDArray[np.float64]
+
+
+class Metric(NamedTuple):
+    """Points are put to places, whose distances of the exponent p are in the order of those told."""
+
+    p: float
+    placed: Callable[[Numbers], Numbers] = lambda points: points
+    told: Callable[[Numbers], Numbers] = lambda lengths: lengths
+
+
+def metric_of(name: str, p: float) -> Metric:
+    """The metric of this name; p is the exponent of "minkowski"."""
+    if name == "minkowski":
+        if not p >= 1:
+            raise ValueError(f"p is {p}, and a distance needs at least 1")
+        return Metric(float(p))
+    if name not in _METRICS:
+        raise ValueError(f"there is no metric {name!r}: it is one of {', '.join([*_METRICS, 'minkowski'])}")
+    return _METRICS[name]
+
+
+def _on_sphere(points: Numbers) -> Numbers:
+    """Latitudes and longitudes in radians as points of the sphere."""
+    if points.shape[1] != 2:
+        raise ValueError(f"y has {points.shape[1]} columns: haversine takes two, latitude and longitude in radians")
+    latitude, longitude = points.T
+    is_beyond = np.abs(latitude) > np.pi / 2 + 1e-9
+    if is_beyond.any():
+        row = is_beyond.argmax()
+        raise ValueError(f"the latitude of the point {row} is {latitude[row]}, past a right angle: numpy.radians makes radians of degrees")
+    return np.column_stack([np.cos(latitude) * np.cos(longitude), np.cos(latitude) * np.sin(longitude), np.sin(latitude)])
+
+
+def _directions(points: Numbers) -> Numbers:
+    """Points at the distance 1 from the origin, in their directions."""
+    greatest = np.abs(points).max(axis=1, initial=0.0, keepdims=True)
+    if not greatest.all():
+        raise ValueError(f"the point {greatest.ravel().argmin()} is 0, and has no direction")
+    points = points / greatest
+    return points / np.sqrt((points * points).sum(axis=1, keepdims=True))
+
+
+_METRICS = {
+    "euclidean": Metric(2.0),
+    "manhattan": Metric(1.0),
+    "chebyshev": Metric(np.inf),
+    "haversine": Metric(2.0, _on_sphere, lambda chords: 2 * np.arcsin(np.minimum(chords / 2, 1))),
+    "cosine": Metric(2.0, _directions, lambda chords: chords * chords / 2),
+}
