@@ -183,7 +183,7 @@ def both_kinds_of_answers_in_one_program(room):
         written(f"{room}/{name}.cpp", KINDS[name])
         for of, standard in ways:
             words = [of, standard, "-O0", "-Wall", "-Wextra", "-Werror", INCLUDE, "-c", "-o", f"{room}/{name}.{of}.o", f"{room}/{name}.cpp"]
-            expect(run(words), 0, b"", b"")
+            expect(run(words, seconds=300), 0, b"", b"")
     for of, _ in files["thrown"]:
         for other in expecting:
             objects = [f"{room}/thrown.{of}.o", f"{room}/expected.{other}.o"]

@@ -102,7 +102,7 @@ def least(room, shape, vertices, arcs):
         wrapped = [f"-Wl,--wrap={it}" for it in ("malloc", "realloc", "free")]
         words = [compiler(), "-O1", "-Wall", "-Wextra", "-Werror", INCLUDE, *enough(), *wrapped, "-o", made, f"{ROOT}/tests/cases/least.c"]
         expect(run([*words, library(), libraries()[0]]), 0, b"", b"")
-    status, output, errors = run([made, shape, str(vertices), str(arcs)])
+    status, output, errors = run([made, shape, str(vertices), str(arcs)], seconds=300)
     expect((status, b"", errors), 0, b"", b"")
     *_, of_list, list_by_malloc, of_text, text_by_malloc = map(int, output.split()[1:])
     return (of_list, list_by_malloc), (of_text, text_by_malloc)
