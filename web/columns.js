@@ -14,8 +14,11 @@ const NAMES = ['name', 'label', 'town', 'city', 'title', 'place', 'station', 'id
 const NUMBER = /^[-+]?(\d+\.?\d*|\.\d+)(e[-+]?\d+)?$/i;
 const WITH_COMMA = /^[-+]?\d+,\d+$/;
 
+const MOST_IN_NUMBER = 1000; // characters; no double needs more
+
 // A field's number, or NaN. Where commas don't part fields, one may stand for the point.
 export function numberOf(field, commas) {
+  if (field.length > MOST_IN_NUMBER) return NaN;
   if (NUMBER.test(field)) return Number(field);
   return commas && WITH_COMMA.test(field) ? Number(field.replace(',', '.')) : NaN;
 }
@@ -31,7 +34,7 @@ function byHeader(header) {
     const [across, up] = [WORDS[kind].across, WORDS[kind].up].map(it => found(header, it));
     if (across >= 0 && up >= 0) return { kind, roles: { across, up, name }, hasHeader: true };
   }
-  const { from, to, weight } = WORDS.links, roles = { from: found(header, from), to: found(header, to), weight: found(header, weight) };
+  const [from, to, weight] = [WORDS.links.from, WORDS.links.to, WORDS.links.weight].map(it => found(header, it)), roles = { from, to, weight };
   return roles.from >= 0 && roles.to >= 0 ? { kind: 'links', roles, hasHeader: true } : null;
 }
 
@@ -41,7 +44,8 @@ export function chosenBy(rows, commas) {
   const data = hasHeader ? rows.slice(1) : rows, numbers = [...header.keys()].filter(i => data.some(row => isNumber(row[i])));
   const choice = hasHeader ? byHeader(header) : null;
   if (choice) return { choice };
-  const text = [...header.keys()].find(i => !numbers.includes(i)), plain = { kind: 'plane', roles: { across: numbers[0], up: numbers[1], name: text }, hasHeader };
+  const name = [...header.keys()].find(i => !numbers.includes(i)), [across, up] = numbers;
+  const plain = { kind: 'plane', roles: { across, up, name }, hasHeader };
   if (header.length === 2 && numbers.length === 2) return { choice: plain };
   if (numbers.length > 1) return { guess: plain };
   return { guess: { kind: 'links', roles: { from: 0, to: Math.min(1, header.length - 1), weight: numbers[0] ?? -1 }, hasHeader } };

@@ -30,7 +30,8 @@ class Graph {
     if (4 * this.count === this.words.length) throw fault('TooManyArcs');
     if (!DIGITS.test(u) || !DIGITS.test(v) || !/^-?\d+$/.test(weight) || rest.length) throw fault('BadArc');
     for (const it of [u, v]) if (!(Number(it) >= 1 && Number(it) <= this.n)) throw fault('EndOutOfRange');
-    const exact = BigInt(weight);
+    const digits = weight.replace(/^(-?)0+(?=\d)/, '$1');
+    const exact = digits.length > 20 ? MOST_WEIGHT + 1n : BigInt(digits);
     if (exact < LEAST_WEIGHT || exact > MOST_WEIGHT) throw fault('WeightOutOfRange');
     this.weights[2 * this.count] = exact;
     this.words[4 * this.count + 2] = Math.min(u, v);

@@ -1,6 +1,7 @@
 // Files out that the worker makes, each a Blob. Forests and merges are as worker.js answers them.
 
 import { nameAt } from './names.js';
+import { bitsOf } from './weights.js';
 
 // A text that grows by pieces.
 class Text {
@@ -21,11 +22,14 @@ class Text {
 }
 
 // A field of CSV. A program that makes formulas of texts gets none.
-const quoted = field => /[",\n\r;]|^[=+@\t]|^-\D/.test(field) ? `"${(/^[=+@\t]|^-\D/.test(field) ? "'" : '') + field.replaceAll('"', '""')}"` : field;
+function quoted(field) {
+  const text = /^[=+@\t]|^-\D/.test(field) ? `'${field}` : field;
+  return text !== field || /[",\n\r;]/.test(text) ? `"${text.replaceAll('"', '""')}"` : text;
+}
 
 // The .gr text of links: their weights as whole numbers.
 export function grOf(n, links) {
-  const weights = new BigInt64Array(links.buffer, links.byteOffset, links.length / 2), text = new Text(`p sp ${n} ${links.length / 4}\n`);
+  const weights = bitsOf(links), text = new Text(`p sp ${n} ${links.length / 4}\n`);
   for (let i = 0; i < links.length; i += 4) text.add(`a ${links[i + 2]} ${links[i + 3]} ${weights[i / 2]}\n`);
   return text.blob('text/plain');
 }
@@ -43,7 +47,7 @@ export function pointsCsv({ n, points, names, kind }, numbers = null) {
 
 // The forest's links with the names of their ends, the lightest first.
 export function forestCsv({ forest, names, heights, isExact }) {
-  const weights = new BigInt64Array(forest.buffer, forest.byteOffset, forest.length / 2), text = new Text(`from,to,${isExact ? 'weight' : 'length'}\n`);
+  const weights = bitsOf(forest), text = new Text(`from,to,${isExact ? 'weight' : 'length'}\n`);
   for (let i = 0; i < heights.length; i++) {
     const [low, high] = [2, 3].map(word => quoted(nameAt(names, forest[4 * i + word] - 1)));
     text.add(`${low},${high},${isExact ? weights[2 * i] : heights[i]}\n`);
@@ -55,8 +59,8 @@ export function forestGeoJson({ forest, names, heights, points }) {
   const text = new Text('{"type":"FeatureCollection","features":[');
   for (let i = 0; i < heights.length; i++) {
     const ends = [2, 3].map(word => forest[4 * i + word] - 1), [from, to] = ends.map(it => nameAt(names, it));
-    const coordinates = ends.map(it => [points[2 * it], points[2 * it + 1]]);
-    text.add(`${i ? ',' : ''}\n${JSON.stringify({ type: 'Feature', properties: { from, to, kilometres: heights[i] }, geometry: { type: 'LineString', coordinates } })}`);
+    const geometry = { type: 'LineString', coordinates: ends.map(it => [points[2 * it], points[2 * it + 1]]) };
+    text.add(`${i ? ',' : ''}\n${JSON.stringify({ type: 'Feature', properties: { from, to, kilometres: heights[i] }, geometry })}`);
   }
   text.add('\n]}\n');
   return text.blob('application/geo+json');

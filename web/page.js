@@ -29,7 +29,11 @@ let solver;
 const counted = it => it.toLocaleString('en').replace('-', '−');
 
 // A weight: a whole number exactly, a length to seven digits.
-const measured = it => typeof it === 'bigint' || !Number.isFinite(it) ? counted(it) : it.toLocaleString('en', { maximumSignificantDigits: 7, notation: it && (Math.abs(it) >= 1e15 || Math.abs(it) < 1e-6) ? 'scientific' : 'standard' }).replace('-', '−');
+function measured(it) {
+  if (typeof it === 'bigint' || !Number.isFinite(it)) return counted(it);
+  const notation = it && (Math.abs(it) >= 1e15 || Math.abs(it) < 1e-6) ? 'scientific' : 'standard';
+  return it.toLocaleString('en', { maximumSignificantDigits: 7, notation }).replace('-', '−');
+}
 
 // The weight of a forest's link.
 function weightAt(i) {
@@ -105,12 +109,13 @@ function tellSoon() {
 }
 
 function tell() {
-  const { shown, clusters, scale } = state, isSame = drawn.shown === shown && drawn.clusters === clusters && drawn.scale === scale && drawn.width === innerWidth && drawn.height === innerHeight;
+  const { shown, clusters, scale } = state, now = { shown, clusters, scale, width: innerWidth, height: innerHeight };
+  const isSame = Object.keys(now).every(it => now[it] === drawn[it]);
   $('say').textContent = caption();
   tellControls();
   tellPicked();
   if (isSame) return;
-  drawn = { shown, clusters, scale, width: innerWidth, height: innerHeight };
+  drawn = now;
   tellFigures();
   tellSaving();
   $('dendrogram').ariaLabel = dendrogramTold();
@@ -265,17 +270,18 @@ function listenToBar() {
 
 // A drag moves the dashed line; without a button the branch under the pointer is shown.
 function listenToDendrogram() {
-  const canvas = $('dendrogram'), cut = event => state.clusters && state.shown.heights.length && cutTo(countAt(state.shown, event.offsetX, canvas.clientWidth));
+  const canvas = $('dendrogram'), canCut = () => state.clusters && state.shown.heights.length;
+  const cut = event => canCut() && cutTo(countAt(state.shown, event.offsetX, canvas.clientWidth));
   canvas.onpointerdown = event => {
     canvas.setPointerCapture(event.pointerId);
     cut(event);
   };
   canvas.onpointermove = event => {
     if (event.buttons) cut(event);
-    else if (state.clusters) change({ branch: branchAt(state.shown, event.offsetX, event.offsetY, canvas.clientWidth, canvas.clientHeight) });
+    else if (canCut()) change({ branch: branchAt(state.shown, event.offsetX, event.offsetY, canvas.clientWidth, canvas.clientHeight) });
   };
   canvas.onpointerleave = () => change({ branch: null });
-  $('bars').onpointerdown = event => state.clusters && state.shown.heights.length && cutTo(countAtBar(state.shown, event.offsetX, $('bars').clientWidth));
+  $('bars').onpointerdown = event => canCut() && cutTo(countAtBar(state.shown, event.offsetX, $('bars').clientWidth));
 }
 
 function listenToWindow() {
@@ -308,9 +314,10 @@ function listenToWindow() {
 
 // Measures what part of the picture nothing covers.
 function settle() {
-  const isWide = innerWidth > 800, isEmbedded = document.body.classList.contains('embed'), gap = 8;
-  const right = isWide && !isEmbedded ? $('side').getBoundingClientRect().left : innerWidth, top = isEmbedded ? 0 : $('head').getBoundingClientRect().bottom + gap;
-  const cover = !isWide && document.body.classList.contains('pulled') ? innerHeight * 0.38 : $('bar').getBoundingClientRect().top, bottom = isEmbedded ? innerHeight : cover - gap;
+  const isWide = innerWidth > 800, isEmbedded = document.body.classList.contains('embed'), isPulled = document.body.classList.contains('pulled');
+  const box = id => $(id).getBoundingClientRect(), gap = 8;
+  const right = isWide && !isEmbedded ? box('side').left : innerWidth, top = isEmbedded ? 0 : box('head').bottom + gap;
+  const bottom = isEmbedded ? innerHeight : (!isWide && isPulled ? innerHeight - $('side').offsetHeight : box('bar').top) - gap;
   Object.assign(free, { left: 0, top, width: Math.max(40, right), height: Math.max(40, bottom - top) });
   tellSoon();
 }

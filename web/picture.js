@@ -1,4 +1,4 @@
-// The picture: places and links. A few thousand are drawn as shapes; more are drawn pixel by pixel, a part in each frame, and
+// The picture: places and links. A few thousand are drawn as shapes; more are drawn pixel by pixel, part by part, and
 // until that is done the last picture is moved with the view.
 
 import { inks, wordOf } from './inks.js';
@@ -11,7 +11,7 @@ import { lens, viewNow } from './view.js';
 const MOST_SHAPES = 4000; // more places are drawn pixel by pixel
 const MOST_NUMBERED = 100; // vertices of a graph
 const MOST_SVG = 100_000; // places
-const SLICE = 6; // milliseconds of a frame
+const SLICE = 6; // milliseconds that a part takes
 
 // ---- as shapes
 
@@ -122,11 +122,11 @@ function* pixelled(scene, pixels, { left, top, x: middleX, y: middleY, zoom }, s
   }
 }
 
-// One picture that is drawn over several frames, for the view that was then.
+// One picture that is drawn in several parts, for the view that was then.
 class Job {
   constructor(canvas, sharp) {
-    this.view = viewNow();
-    this.through = lens(this.view);
+    this.of = state.shown;
+    this.through = lens(viewNow());
     this.pixels = new Pixels(canvas.width, canvas.height);
     this.steps = pixelled(sceneNow(), this.pixels, this.through, sharp);
   }
@@ -155,8 +155,7 @@ export class Picture {
     this.awaited ||= requestAnimationFrame(() => {
       this.awaited = 0;
       this.draw();
-      if (this.job || this.isOld) this.await();
-      else this.canvas.ariaBusy = 'false';
+      this.canvas.ariaBusy = String(Boolean(this.job));
     });
   }
 
@@ -171,17 +170,31 @@ export class Picture {
   }
 
   drawPixels(pen, sharp) {
-    const { canvas, last } = this;
     if (this.isOld && !this.job) {
-      this.job = new Job(canvas, sharp);
+      this.job = new Job(this.canvas, sharp);
       this.isOld = false;
-    }
-    if (this.job?.run()) {
-      [last.width, last.height] = [canvas.width, canvas.height];
-      last.getContext('2d').putImageData(this.job.pixels.image, 0, 0);
-      [this.lens, this.of, this.job] = [this.job.through, state.shown, null];
+      if (!this.finish()) this.work(this.job);
     }
     if (this.of === state.shown) this.drawMoved(pen, sharp);
+  }
+
+  // Draws on between the frames, a part at a time.
+  work(job) {
+    setTimeout(() => {
+      if (this.job !== job) return;
+      if (this.finish()) this.await();
+      else this.work(job);
+    });
+  }
+
+  // A part of the job; whether it is done, and is the last picture now.
+  finish() {
+    const { job, last } = this;
+    if (!job.run()) return false;
+    [last.width, last.height] = [job.pixels.width, job.pixels.height];
+    last.getContext('2d').putImageData(job.pixels.image, 0, 0);
+    [this.lens, this.of, this.job] = [job.through, job.of, null];
+    return true;
   }
 
   // The last picture, moved from its view to that of now.

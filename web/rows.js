@@ -26,12 +26,13 @@ export function fieldsOf(row, separator) {
 
 const unquoted = field => /^"[^]*"$/.test(field) ? field.slice(1, -1).replaceAll('""', '"') : field;
 
-const isOpen = row => row.includes('"') && row.split('"').length % 2 === 0;
+// Whether a line opens a quote that it doesn't close, or closes one that was open.
+const turnsQuotes = line => line.includes('"') && line.split('"').length % 2 === 0;
 
 // It calls `take(row, line)` for each row that says something. Lines end in LF, CR or both; within quotes they go on.
 export class Rows {
   constructor(take) {
-    Object.assign(this, { take, rest: '', held: '', line: 0, first: 0 });
+    Object.assign(this, { take, rest: '', held: [], length: 0, line: 0, first: 0 });
   }
 
   push(text) {
@@ -45,15 +46,22 @@ export class Rows {
 
   hear(line) {
     this.line++;
-    if (!this.held) this.first = this.line;
-    const row = this.held ? `${this.held}\n${line}` : line;
-    this.held = isOpen(row) ? row : '';
-    if (this.held.length > MOST_IN_ROW) throw new Refusal('OpenQuote', this.first);
-    if (!this.held && row.trim() !== '') this.take(row, this.first);
+    const isWithin = this.held.length > 0;
+    if (!isWithin) [this.first, this.length] = [this.line, 0];
+    if (isWithin !== turnsQuotes(line)) this.hold(line);
+    else if (isWithin) this.take([...this.held.splice(0), line].join('\n'), this.first);
+    else if (line.trim() !== '') this.take(line, this.first);
+  }
+
+  // Keeps a line of a row that goes on.
+  hold(line) {
+    this.length += line.length + 1;
+    if (this.length > MOST_IN_ROW) throw new Refusal('OpenQuote', this.first);
+    this.held.push(line);
   }
 
   end() {
     if (this.rest.replace(/\r$/, '')) this.hear(this.rest.replace(/\r$/, ''));
-    if (this.held) throw new Refusal('OpenQuote', this.first);
+    if (this.held.length) throw new Refusal('OpenQuote', this.first);
   }
 }

@@ -83,19 +83,52 @@ async function copied(text, fault) {
   }
 }
 
-const HEAD = 'import numpy as np\n';
+// ---- Python
 
-// Python that finds the same forest and clusters of the file, or of clusters.csv as this page saves it.
+const number = ({ commas }, column) => `float(row[${column}]${commas ? '.replace(",", ".")' : ''})`;
+
+// Lines that read the rows of the file, or of clusters.csv as this page saves it.
+function rowsInPython(choice, file) {
+  const [name, part] = [file?.name ?? 'clusters.csv', choice.separator].map(it => JSON.stringify(it));
+  const split = choice.separator === ' ' ? `line.split() for line in open(${name}, encoding="utf-8-sig")` : `*csv.reader(open(${name}, encoding="utf-8-sig"), delimiter=${part})`;
+  return ['import csv', 'import numpy as np', `rows = [row for row in [${split}] if row][${choice.hasHeader ? 1 : 0}:]`];
+}
+
+const linksInPython = ({ roles, ...choice }) => [
+  'from boruvka import minimum_spanning_forest',
+  'names, u, v, w = {}, [], [], []',
+  'for row in rows:',
+  `    u.append(names.setdefault(row[${roles.from}].strip(), len(names)))`,
+  `    v.append(names.setdefault(row[${roles.to}].strip(), len(names)))`,
+  `    w.append(${roles.weight >= 0 ? number(choice, roles.weight) : '1.0'})`,
+  'forest = minimum_spanning_forest(len(names), u, v, w)',
+  'print(np.asarray(w)[forest.index].sum())',
+];
+
+const GLOBE = [
+  'east, north = np.radians(points).T',
+  'points = np.stack([np.cos(north) * np.cos(east), np.cos(north) * np.sin(east), np.sin(north)], axis=1)',
+];
+
+function pointsInPython({ roles, ...choice }, kind, count) {
+  return [
+    'from boruvka.linkage import labels, spanning_tree',
+    `points = np.array([[${number(choice, roles.across)}, ${number(choice, roles.up)}] for row in rows])`,
+    ...(kind === 'globe' ? GLOBE : []),
+    'tree = spanning_tree(points)',
+    kind === 'globe' ? 'print((2 * 6371 * np.arcsin(tree.w / 2)).sum())' : 'print(tree.w.sum())',
+    `cluster = labels(len(points), tree, clusters=${count})`,
+  ];
+}
+
+// Python that finds the same forest and clusters, by the package.
 function pythonText() {
-  const { shown: { kind, choice }, file, clusters } = state, count = clusters?.count ?? 1;
-  if (kind === 'graph') return `import subprocess\nprint(subprocess.run(["boruvka", "--plain", ${JSON.stringify(file?.name ?? 'forest.gr')}], capture_output=True, text=True).stdout)\n`;
-  const name = JSON.stringify(file && choice ? file.name : 'clusters.csv'), part = JSON.stringify(choice?.separator ?? ','), hasNames = !choice && state.shown.names;
-  const roles = choice?.roles ?? { across: hasNames ? 1 : 0, up: hasNames ? 2 : 1 };
-  const rows = `import csv\n${HEAD}rows = list(csv.reader(open(${name}, encoding="utf-8-sig"), delimiter=${part}))[${choice?.hasHeader ?? true ? 1 : 0}:]\n`;
-  const number = it => `float(row[${it}]${choice?.commas ? '.replace(",", ".")' : ''})`;
-  if (kind === 'links') return `${rows}from boruvka import minimum_spanning_forest\nnames = {}\nu, v, w = [], [], []\nfor row in rows:\n    u.append(names.setdefault(row[${roles.from}].strip(), len(names)))\n    v.append(names.setdefault(row[${roles.to}].strip(), len(names)))\n    w.append(${roles.weight >= 0 ? number(roles.weight) : '1.0'})\nforest = minimum_spanning_forest(len(names), u, v, w)\nprint(np.asarray(w)[forest.index].sum())\n`;
-  const points = `${rows}from boruvka.linkage import labels, spanning_tree\npoints = np.array([[${number(roles.across)}, ${number(roles.up)}] for row in rows])\n`;
-  if (kind === 'plane') return `${points}tree = spanning_tree(points)\nprint(tree.w.sum())\ncluster = labels(len(points), tree, clusters=${count})\n`;
-  const turned = 'east, north = np.radians(points).T\nglobe = np.stack([np.cos(north) * np.cos(east), np.cos(north) * np.sin(east), np.sin(north)], axis=1)\n';
-  return `${points}${turned}tree = spanning_tree(globe)\nprint((2 * 6371 * np.arcsin(tree.w / 2)).sum())\ncluster = labels(len(points), tree, clusters=${count})\n`;
+  const { shown: { kind, choice, names }, file, clusters } = state, first = names ? 1 : 0;
+  if (kind === 'graph') {
+    const words = JSON.stringify(['boruvka', '--plain', file?.name ?? 'forest.gr']);
+    return `import subprocess\nprint(subprocess.run(${words}, capture_output=True, text=True).stdout)\n`;
+  }
+  const read = choice ?? { separator: ',', hasHeader: true, roles: { across: first, up: first + 1 } };
+  const lines = kind === 'links' ? linksInPython(read) : pointsInPython(read, kind, clusters.count);
+  return [...rowsInPython(read, choice && file), ...lines, ''].join('\n');
 }

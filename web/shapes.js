@@ -15,14 +15,19 @@ export function paint(pen, shapes) {
 
 const escaped = text => text.replaceAll('&', '&amp;').replaceAll('<', '&lt;');
 
+const ANCHORS = { right: 'end', center: 'middle' };
+
 function written({ path, stroke, width, dash, fill, text, x, y, anchor }) {
-  if (text !== undefined) return `<text x="${x.toFixed(1)}" y="${y.toFixed(1)}" fill="${fill}" text-anchor="${anchor === 'right' ? 'end' : anchor === 'center' ? 'middle' : 'start'}">${escaped(text)}</text>`;
+  if (text !== undefined) {
+    return `<text x="${x.toFixed(1)}" y="${y.toFixed(1)}" fill="${fill}" text-anchor="${ANCHORS[anchor] ?? 'start'}">${escaped(text)}</text>`;
+  }
   if (!stroke) return `<path fill="${fill}" d="${path}"/>`;
   return `<path fill="none" stroke="${stroke}" stroke-width="${width}"${dash ? ` stroke-dasharray="${dash.join(' ')}"` : ''} d="${path}"/>`;
 }
 
 export function svgOf(shapes, width, height, paper) {
-  const head = `<svg xmlns="http://www.w3.org/2000/svg" viewBox="0 0 ${width} ${height}" width="${width}" height="${height}" stroke-linecap="round" style="font: ${FONT}; background: ${paper}">`;
+  const size = `viewBox="0 0 ${width} ${height}" width="${width}" height="${height}"`;
+  const head = `<svg xmlns="http://www.w3.org/2000/svg" ${size} stroke-linecap="round" style="font: ${FONT}; background: ${paper}">`;
   return [head, ...shapes.map(written), '</svg>', ''].join('\n');
 }
 

@@ -28,6 +28,7 @@ const CAUSES = {
   TooManyLines: 'A table has 20 million lines at most.',
   OpenQuote: 'A quotation mark opens here, and none closes.',
   OtherColumns: 'It has another number of fields than the first row.',
+  TooManyColumns: 'A table has 1,000 columns at most.',
   OneColumn: 'A table needs two columns at least, between commas, semicolons, tabs or spaces.',
   NoNumber: 'A coordinate or a weight must be a finite number. Correct it, or leave the row out.',
   PointAndComma: 'Some numbers have a decimal point and some a comma. Save them with one of these.',

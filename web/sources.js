@@ -8,7 +8,18 @@ const MOST_BYTES = 2 ** 30; // of a text that has to be in memory whole
 const HEAD = 4096; // bytes that are looked at first
 
 // The first bytes of what isn't text, and what it is.
-const MAGIC = { '89504e47': 'a PNG picture', 'ffd8ff': 'a JPEG picture', '47494638': 'a GIF picture', '504b0304': 'a ZIP or Excel file', '25504446': 'a PDF', '28b52ffd': 'packed by zstd', 'fd377a58': 'packed by xz', '425a68': 'packed by bzip2', '53514c69': 'an SQLite file', '7f454c46': 'a program' };
+const MAGIC = {
+  '89504e47': 'a PNG picture',
+  'ffd8ff': 'a JPEG picture',
+  '47494638': 'a GIF picture',
+  '504b0304': 'a ZIP or Excel file',
+  '25504446': 'a PDF',
+  '28b52ffd': 'packed by zstd',
+  'fd377a58': 'packed by xz',
+  '425a68': 'packed by bzip2',
+  '53514c69': 'an SQLite file',
+  '7f454c46': 'a program',
+};
 
 const hex = bytes => Array.from(bytes, it => it.toString(16).padStart(2, '0')).join('');
 

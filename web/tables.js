@@ -7,6 +7,7 @@ import { fieldsOf, separatorOf } from './rows.js';
 
 export const MOST_POINTS = 1_000_000;
 const MOST_LINKS = 16_000_000;
+const MOST_COLUMNS = 1000;
 const SAMPLE = 6; // rows that are looked at before columns are chosen
 
 // Reads fields of one table, and refuses those that it can't read.
@@ -17,6 +18,7 @@ class Reader {
 
   fields(row, line, count) {
     const fields = fieldsOf(row, this.separator);
+    if (fields.length > MOST_COLUMNS) throw new Refusal('TooManyColumns', line, String(fields.length));
     if (count && fields.length !== count) throw new Refusal('OtherColumns', line, `${fields.length} in place of ${count}`);
     return fields;
   }
@@ -114,7 +116,7 @@ async function sampleOf(source) {
 // The points or links of a table; or { ask } with its first rows, where its columns have to be chosen.
 export async function readTable(source, choice) {
   const sample = await sampleOf(source), separator = separatorOf(sample[0].row), reader = new Reader(separator);
-  const count = reader.fields(sample[0].row).length, rows = sample.map(it => reader.fields(it.row, it.line, count));
+  const count = reader.fields(sample[0].row, sample[0].line).length, rows = sample.map(it => reader.fields(it.row, it.line, count));
   if (!choice) {
     const { choice: plain, guess } = chosenBy(rows, reader.commas);
     if (!plain && count < 2) throw new Refusal('OneColumn', sample[0].line, `‘${sample[0].row.slice(0, 40)}’`);

@@ -4,9 +4,12 @@
 
 const MOST = 2n ** 63n - 1n;
 
+// The weights of links as whole numbers, at the even places.
+export const bitsOf = links => new BigInt64Array(links.buffer, links.byteOffset, links.length / 2);
+
 // Puts the links' weights, doubles, as whole numbers into the words of links.
 export function putWeights(links, weights) {
-  const doubles = new Float64Array(links.buffer, links.byteOffset, links.length / 2), bits = new BigInt64Array(doubles.buffer, doubles.byteOffset, doubles.length);
+  const doubles = new Float64Array(links.buffer, links.byteOffset, links.length / 2), bits = bitsOf(links);
   for (let i = 0; i < weights.length; i++) {
     doubles[2 * i] = weights[i] + 0;
     if (weights[i] < 0) bits[2 * i] ^= MOST;
@@ -15,7 +18,7 @@ export function putWeights(links, weights) {
 
 // The weights of links as doubles: of `exact` ones, whole numbers that they are; of others those that were put.
 export function weightsOf(links, isExact) {
-  const bits = new BigInt64Array(links.buffer, links.byteOffset, links.length / 2), weights = new Float64Array(links.length / 4), word = new BigInt64Array(weights.buffer);
+  const bits = bitsOf(links), weights = new Float64Array(links.length / 4), word = new BigInt64Array(weights.buffer);
   for (let i = 0; i < weights.length; i++) {
     if (isExact) weights[i] = Number(bits[2 * i]);
     else word[i] = bits[2 * i] < 0n ? bits[2 * i] ^ MOST : bits[2 * i];
@@ -23,10 +26,10 @@ export function weightsOf(links, isExact) {
   return weights;
 }
 
-// The sum of a forest's weights, as a text: of whole numbers exactly.
+// The sum of a forest's weights; of whole numbers it is exact, a BigInt.
 export function totalOf(links, isExact) {
   if (!isExact) return weightsOf(links, false).reduce((sum, it) => sum + it, 0);
-  const bits = new BigInt64Array(links.buffer, links.byteOffset, links.length / 2);
+  const bits = bitsOf(links);
   let total = 0n;
   for (let i = 0; i < bits.length; i += 2) total += bits[i];
   return total;

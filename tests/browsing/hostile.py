@@ -45,6 +45,8 @@ def large_files(_room):
         ("long.csv", "", "0,0\n", 5_000_000, "long.csv: line 1000001: TooManyPoints"),
         ("quote.csv", 'x,y\n"', "1,2\n", 1_000_000, "quote.csv: line 2: OpenQuote"),
         ("lines.csv", "", "\n", 100_000_000, "lines.csv: line 20000001: TooManyLines"),
+        ("digits.csv", "0,0\n0,", "1", 900_000, "digits.csv: line 2: NoNumber"),
+        ("fields.csv", "x", ",y", 400_000, "fields.csv: line 1: TooManyColumns (400001)"),
         ("deep.json", "", "[", 30_000_000, "deep.json: BadJson"),
     ]:
         told.append(f"{name} {dropped(page, name, head, text, times):.0f} s")

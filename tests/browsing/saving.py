@@ -107,3 +107,15 @@ def python_that_does_the_same(room):
         ended = subprocess.run(["/usr/bin/python3", "-c", text], cwd=room, env=env, capture_output=True, text=True, check=False)
         is_so((ended.returncode, ended.stderr[-300:]), (0, ""))
         is_so(abs(float(ended.stdout.split()[0]) / total - 1) < 1e-6, True)
+
+
+@case
+def the_picture_of_the_rounds(room):
+    """docs/rounds.svg is what its script draws: each round halves the pieces at least, and the last leaves one."""
+    subprocess.run([sys.executable, f"{ROOT}/tools/rounds.py", f"{room}/rounds.svg"], check=True)
+    with open(f"{room}/rounds.svg", "rb") as one, open(f"{ROOT}/docs/rounds.svg", "rb") as other:
+        text = one.read()
+        is_so(text == other.read(), True)
+    told = [it.text for it in xml.etree.ElementTree.fromstring(text).iter("{http://www.w3.org/2000/svg}text")]
+    counts = [int(it.split()[-2]) for it in told]
+    is_so((counts[0], counts[-1], all(2 * b <= a for a, b in zip(counts, counts[1:]))), (180, 1, True))
