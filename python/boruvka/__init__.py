@@ -3,25 +3,43 @@
 `minimum_spanning_forest` answers which edges are in the forest. It calls libboruvka, which is proved to answer just
 these. The package itself is tested, not proved.
 
-Three modules are imported by their names:
+These modules are loaded when they are first used:
 
 - `boruvka.linkage` finds the tree of points, cuts trees into clusters, and lists single linkage. Numpy is all it needs.
 - `boruvka.sparse` stands in for scipy's function over sparse matrices, and needs scipy.
 - `boruvka.networkx_backend` is what networkx calls if you write `backend="boruvka"`.
 """
 
+from typing import TYPE_CHECKING
+
 from boruvka._forest import Forest, minimum_spanning_forest
 
 __all__ = ["Forest", "minimum_spanning_forest"]
 
+_MODULES = ("linkage", "networkx_backend", "sparse")
 
-def __getattr__(name: str) -> str:
-    """The version of the package that is installed, as `__version__`."""
-    if name == "__version__":
+if TYPE_CHECKING:
+    from boruvka import linkage as linkage
+    from boruvka import networkx_backend as networkx_backend
+    from boruvka import sparse as sparse
+
+    __version__: str
+else:
+
+    def __getattr__(name):
+        """A module of the package, or as `__version__` the version that is installed."""
+        from importlib import import_module
         from importlib.metadata import PackageNotFoundError, version
 
-        try:
-            return version("boruvka")
-        except PackageNotFoundError:
-            pass
-    raise AttributeError(f"module 'boruvka' has no attribute {name!r}")
+        if name in _MODULES:
+            return import_module(f"boruvka.{name}")
+        if name == "__version__":
+            try:
+                return version("boruvka")
+            except PackageNotFoundError:
+                pass
+        raise AttributeError(f"module 'boruvka' has no attribute {name!r}")
+
+
+def __dir__() -> list[str]:
+    return [*__all__, *_MODULES, "__version__"]

@@ -2,8 +2,13 @@
 
 from __future__ import annotations
 
+import math
+import numbers
 import operator
-from typing import NamedTuple, SupportsIndex
+from collections.abc import Iterator, Sequence
+from dataclasses import dataclass, replace
+from html import escape
+from typing import TYPE_CHECKING, Any, SupportsIndex
 
 import numpy as np
 from numpy.typing import ArrayLike, NDArray
@@ -11,11 +16,21 @@ from numpy.typing import ArrayLike, NDArray
 from boruvka import _library
 from boruvka._weights import ordered
 
+if TYPE_CHECKING:
+    import networkx
+    import pandas
+    import scipy.sparse
 
-class Forest(NamedTuple):
-    """The k edges of a forest, in ascending order of (w, u, v): four arrays of the shape (k,).
+# how many edges a notebook shows
+_SHOWN = 10
 
-    A graph of n vertices and c components has a forest of k = n - c edges.
+
+@dataclass(frozen=True, eq=False, repr=False)
+class Forest:
+    """The k edges of a forest of n vertices: four arrays of the shape (k,), lightest first, or heaviest first of a maximum.
+
+    A graph of n vertices and c components has a forest of k = n - c edges. `len` is k, `==` compares all that it holds,
+    and to iterate gives u, v, w and index.
 
     Attributes
     ----------
@@ -25,25 +40,182 @@ class Forest(NamedTuple):
         The weight of each edge, in the dtype of the weights given.
     index : ndarray of intp
         The place of each edge among the edges given.
+    n : int
+        How many vertices there are: 0 to n - 1. If it is left out, as many as the edges need.
+    maximum : bool
+        Whether the total weight is the greatest, not the least.
     """
 
     u: NDArray[np.intp]
     v: NDArray[np.intp]
     w: np.ndarray
-    # (it hides the method of tuples that looks for a value, which arrays can't be asked for)
-    index: NDArray[np.intp]  # type: ignore[assignment]
+    index: NDArray[np.intp]
+    n: int = -1
+    maximum: bool = False
+
+    def __post_init__(self) -> None:
+        arrays = [np.asarray(it) for it in self]
+        for name, it in zip(("u", "v", "w", "index"), arrays):
+            object.__setattr__(self, name, it)
+        if len({it.shape for it in arrays}) > 1 or self.w.ndim != 1:
+            raise ValueError(f"the arrays of the forest have the shapes {', '.join(str(it.shape) for it in arrays)}")
+        if self.n < 0:
+            object.__setattr__(self, "n", int(max(self.u.max(), self.v.max())) + 1 if len(self) else 0)
+
+    def __iter__(self) -> Iterator[np.ndarray]:
+        return iter((self.u, self.v, self.w, self.index))
+
+    def __len__(self) -> int:
+        return len(self.w)
+
+    def __eq__(self, other: object) -> bool:
+        if not isinstance(other, Forest):
+            return NotImplemented
+        is_like = (self.n, self.maximum) == (other.n, other.maximum)
+        return is_like and all(np.array_equal(one, another) for one, another in zip(self, other))
+
+    __hash__ = None  # type: ignore[assignment]
+
+    def __repr__(self) -> str:
+        kind = ", maximum=True" if self.maximum else ""
+        return f"<Forest of {self.n} vertices, {len(self)} edges, {self.components} components, total {self.total}{kind}>"
+
+    def _repr_html_(self) -> str:
+        """What a notebook shows: the first edges, and the line that `repr` is."""
+        shown = zip(*(it[:_SHOWN].tolist() for it in self))
+        rows = "".join("<tr>" + "".join(f"<td>{it}</td>" for it in row) + "</tr>" for row in shown)
+        more = f"<tr><td colspan=4>and {len(self) - _SHOWN} more</td></tr>" if len(self) > _SHOWN else ""
+        head = "<tr><th>u</th><th>v</th><th>w</th><th>index</th></tr>"
+        return f"<table><caption>{escape(repr(self))}</caption>{head}{rows}{more}</table>"
+
+    def _replace(self, **words: Any) -> Forest:
+        """The same with other words, as named tuples have it."""
+        return replace(self, **words)
+
+    @property
+    def components(self) -> int:
+        """How many components the graph has."""
+        return self.n - len(self)
+
+    @property
+    def total(self) -> int | float:
+        """The sum of the weights: exact if they are whole numbers, and rounded once if not."""
+        if self.w.dtype.kind in "biu":
+            high, low = np.divmod(self.w.astype(np.int64), 1 << 32)
+            return (int(high.sum()) << 32) + int(low.sum())
+        try:
+            return math.fsum(self.w.tolist())
+        except (OverflowError, ValueError):
+            with np.errstate(invalid="ignore", over="ignore"):
+                return float(self.w.sum())
+
+    def labels(self, *, clusters: SupportsIndex | None = None, height: float | None = None, min_size: int = 1) -> NDArray[np.intp]:
+        """The cluster of each vertex: `boruvka.linkage.labels` of this forest."""
+        from boruvka.linkage import labels
+
+        return labels(self.n, self, clusters=clusters, height=height, min_size=min_size)
+
+    def linkage(self) -> NDArray[np.float64]:
+        """The linkage matrix of scipy: `boruvka.linkage.merges` of this forest."""
+        from boruvka.linkage import merges
+
+        return merges(self.n, self)
+
+    def path(self, a: SupportsIndex, b: SupportsIndex) -> list[int]:
+        """The vertices on the way from a to b, both with it; a ValueError if there is none."""
+        ways = self._ways(operator.index(a), operator.index(b))
+        return [operator.index(a), *(int(self.u[it] if is_back else self.v[it]) for it, is_back in ways)]
+
+    def bottleneck(self, a: SupportsIndex, b: SupportsIndex) -> int:
+        """The place, in this forest, of the heaviest edge on the way from a to b; of the lightest in a maximum forest.
+
+        No way in the graph has a better one. A ValueError if there is no way, or no edge on it.
+        """
+        ways = [it for it, _ in self._ways(operator.index(a), operator.index(b))]
+        if not ways:
+            raise ValueError(f"from {a} to itself there is no edge")
+        best = min if self.maximum else max
+        return best(ways, key=lambda it: self.w[it])
+
+    def _ways(self, a: int, b: int) -> list[tuple[int, bool]]:
+        """The edges on the way, each with whether it leads from its higher end to its lower."""
+        for it in (a, b):
+            if not 0 <= it < self.n:
+                raise ValueError(f"{it} is no vertex: they are 0 to {self.n - 1}")
+        ends = np.concatenate([self.u, self.v])
+        order = np.argsort(ends, kind="stable")
+        starts = np.searchsorted(ends[order], np.arange(self.n + 1))
+        came: dict[int, tuple[int, int, bool]] = {a: (a, -1, False)}
+        waiting = [a]
+        while waiting and b not in came:
+            here = waiting.pop()
+            for it in order[starts[here] : starts[here + 1]].tolist():
+                place, is_back = it % len(self), it >= len(self)
+                there = int(self.u[place] if is_back else self.v[place])
+                if there not in came:
+                    came[there] = (here, place, is_back)
+                    waiting.append(there)
+        if b not in came:
+            raise ValueError(f"{a} and {b} are in different components")
+        found = []
+        while b != a:
+            b, place, is_back = came[b]
+            found.append((place, is_back))
+        return found[::-1]
+
+    def to_frame(self) -> pandas.DataFrame:
+        """A frame of pandas with the columns u, v, w and index."""
+        import pandas
+
+        return pandas.DataFrame(dict(zip(("u", "v", "w", "index"), self)))
+
+    def to_csr(self) -> scipy.sparse.csr_matrix:
+        """A sparse matrix of scipy with each edge at (u, v)."""
+        from scipy.sparse import csr_matrix
+
+        return csr_matrix((self.w, (self.u, self.v)), shape=(self.n, self.n))
+
+    def to_networkx(self, names: Sequence | None = None) -> networkx.Graph:
+        """A graph of networkx, whose vertices are called so, or by their numbers."""
+        import networkx
+
+        names = range(self.n) if names is None else names
+        if len(names) != self.n:
+            raise ValueError(f"there are {len(names)} names, and {self.n} vertices")
+        graph = networkx.Graph()
+        graph.add_nodes_from(names)
+        ends = ([names[i] for i in it.tolist()] for it in (self.u, self.v))
+        graph.add_weighted_edges_from(zip(*ends, self.w.tolist()))
+        return graph
+
+    def plot(self, points: ArrayLike, *, labels: ArrayLike | None = None, ax: Any = None) -> Any:
+        """Draws the edges between points of a plane by matplotlib, each cluster in a colour; answers the axes."""
+        from matplotlib import pyplot
+        from matplotlib.collections import LineCollection
+
+        places = np.asarray(points)
+        if places.shape != (self.n, 2):
+            raise ValueError(f"points has the shape {places.shape}, and {self.n} points of a plane are drawn")
+        axes = pyplot.gca() if ax is None else ax
+        axes.add_collection(LineCollection(np.stack([places[self.u], places[self.v]], axis=1), colors="silver", zorder=1))
+        colours = None if labels is None else np.asarray(labels)
+        axes.scatter(*places.T, c=colours, cmap=None if labels is None else "tab10", s=12, zorder=2)
+        axes.set_aspect("equal")
+        return axes
 
 
-def minimum_spanning_forest(n: SupportsIndex, u: ArrayLike, v: ArrayLike, w: ArrayLike, *, maximum: bool = False) -> Forest:
+def minimum_spanning_forest(n: Any = None, u: Any = None, v: Any = None, w: Any = None, *, maximum: bool = False) -> Forest:
     """Find the minimum spanning forest of an undirected graph, or the maximum one.
 
     It is the edges that connect all that the graph connects, at the least total weight. Edge i of the m edges joins the
     vertices u[i] and v[i] with the weight w[i]. It may be a loop, and there may be others between the same vertices.
 
+    It is called by (n, u, v, w), (u, v, w), (n, edges, w) or (edges, w), where `edges` has u and v as its two columns.
+
     Parameters
     ----------
-    n : int
-        The number of vertices, at most 2^26. They are 0 to n - 1.
+    n : int, optional
+        The number of vertices, at most 2^26. They are 0 to n - 1. Without n, as many as the ends need.
     u, v : array_like of whole numbers, shape (m,)
         The ends of each edge, in either order. m is at most 2^30.
     w : array_like of whole numbers or floats of up to 64 bits, shape (m,)
@@ -54,8 +226,8 @@ def minimum_spanning_forest(n: SupportsIndex, u: ArrayLike, v: ArrayLike, w: Arr
     Returns
     -------
     Forest
-        A named tuple of arrays u, v, w and index, in ascending order of (w, u, v), with u < v. `index` is the place of
-        each edge among those given: `w[index]` are the weights of the forest.
+        The edges in ascending order of (w, u, v), with u < v, as arrays u, v, w and index. `index` is the place of each
+        edge among those given: `w[index]` are the weights of the forest.
 
     Raises
     ------
@@ -73,7 +245,7 @@ def minimum_spanning_forest(n: SupportsIndex, u: ArrayLike, v: ArrayLike, w: Arr
     Ties: of edges that are equally heavy the one with the lower (u, v) comes first, and of edges that are equal in all
     three the first given. So the forest is the only one of least weight in that order.
 
-    Components: `boruvka.linkage.labels(n, forest, height=np.inf)` numbers them.
+    Components: `forest.labels(clusters=forest.components)` numbers them.
 
     Cost: time about that of sorting the weights once. Somebody who chooses the edges for it can make it the square of
     that: strangers' graphs want a limit of time. Memory is about 20 bytes an edge beside the arrays given and the
@@ -95,13 +267,40 @@ def minimum_spanning_forest(n: SupportsIndex, u: ArrayLike, v: ArrayLike, w: Arr
     >>> forest.index
     array([1, 4, 2])
     """
-    count = operator.index(n)
+    n, u, v, w = _arguments([u, v, w] if n is None else [it for it in (n, u, v, w) if it is not None])
     tails, heads, weights = _column(u, "u"), _column(v, "v"), _column(w, "w")
+    if n is not None and not hasattr(n, "__index__"):
+        raise TypeError(f"n is {n!r}, and has to be a whole number: the number of vertices")
+    count = _as_many_as_needed(tails, heads) if n is None else operator.index(n)
     if not len(tails) == len(heads) == len(weights):
         raise ValueError(f"u, v and w differ in length: {len(tails)}, {len(heads)} and {len(weights)}")
     index = places(count, tails, heads, weights, maximum)
     one, other = tails.take(index).astype(np.intp), heads.take(index).astype(np.intp)
-    return Forest(np.minimum(one, other), np.maximum(one, other), weights.take(index), index)
+    return Forest(np.minimum(one, other), np.maximum(one, other), weights.take(index), index, count, maximum)
+
+
+def _arguments(given: list) -> list:
+    """n, which may be None, u, v and w, of what a call was given."""
+    if given and hasattr(given[0], "adjacency"):
+        raise TypeError('a graph of networkx is for networkx.minimum_spanning_tree(G, backend="boruvka")')
+    if given and hasattr(given[0], "tocsr"):
+        raise TypeError("a sparse matrix is for boruvka.sparse.minimum_spanning_tree")
+    n = given.pop(0) if len(given) == 4 or given and isinstance(given[0], numbers.Number) else None
+    if len(given) == 2:
+        edges = np.asarray(given[0])
+        if edges.ndim != 2 or edges.shape[1] != 2:
+            raise TypeError(f"edges have the shape {edges.shape}, and need two columns; or give n, u, v and w")
+        given = [edges[:, 0], edges[:, 1], given[1]]
+    if len(given) != 3 or any(it is None for it in given):
+        raise TypeError("a forest needs n, u, v and w; n may be left out, and u and v be the two columns of one array")
+    return [n, *given]
+
+
+def _as_many_as_needed(tails: np.ndarray, heads: np.ndarray) -> int:
+    """How many vertices there are at least, if these are ends of edges; what is wrong with them is told elsewhere."""
+    if not len(tails) or not len(heads) or tails.dtype.kind not in "iu" or heads.dtype.kind not in "iu":
+        return 0 if not len(tails) else _library.MAX_VERTICES
+    return max(int(tails.max()), int(heads.max()), -1) + 1
 
 
 def places(n: int, tails: np.ndarray, heads: np.ndarray, weights: np.ndarray, maximum: bool = False) -> NDArray[np.intp]:
@@ -142,11 +341,12 @@ def vertices(n: int, ends: np.ndarray, name: str) -> NDArray[np.uint32]:
         # (an empty list has the dtype of floats)
         return np.empty(0, np.uint32)
     if ends.dtype.kind not in "iu":
-        how = ": .astype(int) makes them" if ends.dtype.kind == "f" else ""
-        raise TypeError(f"{name} has the dtype {ends.dtype}, and vertices are whole numbers{how}")
+        how = ".astype(int) makes them" if ends.dtype.kind in "fb" else "pandas.factorize numbers names"
+        raise TypeError(f"{name} has the dtype {ends.dtype}, and vertices are whole numbers: {how}")
     if ends.min() < 0 or ends.max() >= n:
         place = np.flatnonzero((ends < 0) | (ends >= n))[0]
-        raise ValueError(f"{name}[{place}] is {ends[place]}, and a vertex is at least 0 and below n = {n}")
+        how = ": are they numbered from 1?" if ends.min() >= 1 and ends.max() == n else ""
+        raise ValueError(f"{name}[{place}] is {ends[place]}, and a vertex is at least 0 and below n = {n}{how}")
     if ends.dtype == np.int32:
         ends = ends.view(np.uint32)
     return np.require(ends, np.uint32, ["C_CONTIGUOUS", "ALIGNED"])

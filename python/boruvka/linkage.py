@@ -62,8 +62,8 @@ def single_linkage(y: ArrayLike, *, metric: str = "euclidean", p: float = 2, min
            [2., 3., 2., 2.],
            [4., 5., 4., 4.]])
     """
-    tree = spanning_tree(y)
-    return merges(len(tree.w) + 1, tree)
+    tree = spanning_tree(y, metric=metric, p=p, min_samples=min_samples)
+    return merges(tree.n, tree)
 
 
 def spanning_tree(y: ArrayLike, *, metric: str = "euclidean", p: float = 2, min_samples: int | None = None) -> Forest:
@@ -160,7 +160,9 @@ def merges(n: SupportsIndex, forest: Forest) -> NDArray[np.float64]:
     array([[1., 2., 3., 2.],
            [0., 3., 4., 3.]])
     """
-    forest = _lightest_first(forest)
+    forest = _best_first(forest)
+    if forest.maximum:
+        raise ValueError("the edges of a maximum forest are no merges: their heights would fall")
     count = operator.index(n)
     if len(forest.w) != count - 1:
         raise ValueError(f"{len(forest.w)} edges don't make one tree of {count} vertices")
@@ -180,9 +182,16 @@ def merges(n: SupportsIndex, forest: Forest) -> NDArray[np.float64]:
 
 
 def labels(
-    n: SupportsIndex, forest: Forest, *, clusters: SupportsIndex | None = None, height: float | None = None
+    n: SupportsIndex,
+    forest: Forest,
+    *,
+    clusters: SupportsIndex | None = None,
+    height: float | None = None,
+    min_size: SupportsIndex = 1,
 ) -> NDArray[np.intp]:
     """Cut a forest into clusters: leave its heaviest edges out, and number what still hangs together.
+
+    Of a maximum forest the lightest are left out.
 
     Parameters
     ----------
@@ -193,12 +202,14 @@ def labels(
     clusters : int, optional
         How many clusters there shall be: from the number of the forest's components to n.
     height : float, optional
-        Edges count for which numpy says `forest.w <= height`. Give either this or `clusters`.
+        Edges count for which numpy says `forest.w <= height`, or `>=` of a maximum forest. Give either this or `clusters`.
+    min_size : int, optional
+        Clusters of fewer vertices are noise.
 
     Returns
     -------
     ndarray of intp, shape (n,)
-        The number of the cluster of each vertex, from 0. Clusters are numbered by their least vertices.
+        The number of the cluster of each vertex, from 0, or -1 for noise. Clusters are numbered by their least vertices.
 
     Raises
     ------
@@ -211,7 +222,7 @@ def labels(
 
     Notes
     -----
-    The components of the graph are its clusters at `height=np.inf`.
+    The components of the graph are its clusters at `height=np.inf`, of a maximum forest at -np.inf.
 
     How many clusters there are is often seen in the last weights, `forest.w[-10:]`: where they leap, clusters lie apart.
     Of equally heavy edges `clusters` leaves out those that come last in the forest. `height` treats them alike.
@@ -227,7 +238,7 @@ def labels(
     >>> labels(4, tree, height=0.5)
     array([0, 1, 2, 3])
     """
-    forest = _lightest_first(forest)
+    forest = _best_first(forest)
     count = operator.index(n)
     if not 0 <= count <= _library.MAX_VERTICES:
         raise ValueError(f"n is {count}, and has to be from 0 to 2^26")
@@ -246,29 +257,29 @@ def labels(
     links["low"], links["high"] = low[:kept] + 1, high[:kept] + 1
     least = _library.labels(count, links) - 1
     is_first = least == np.arange(count)
-    return (np.cumsum(is_first) - 1)[least]
+    is_kept = is_first & (np.bincount(least, minlength=count) >= operator.index(min_size))
+    return np.where(is_kept, np.cumsum(is_kept) - 1, -1)[least]
 
 
-def _lightest_first(given: object) -> Forest:
-    """The forest, its edges in ascending order of their weights: so are those that this package answers."""
+def _best_first(given: object) -> Forest:
+    """The forest, its edges in the order in which they count: so are those that this package answers."""
     if not isinstance(given, Forest):
         raise TypeError(f"a {type(given).__name__} is no Forest, as `spanning_tree` or `minimum_spanning_forest` answers it")
-    forest = Forest(*map(np.asarray, given))
-    if len({it.shape for it in forest}) > 1 or forest.w.ndim != 1:
-        raise ValueError(f"the arrays of the forest have the shapes {', '.join(str(it.shape) for it in forest)}")
-    if (forest.w[1:] >= forest.w[:-1]).all():
-        return forest
-    order = np.argsort(forest.w, kind="stable")
-    return Forest(*(it[order] for it in forest))
+    w = given.w[::-1] if given.maximum else given.w
+    if (w[1:] >= w[:-1]).all():
+        return given
+    order = np.argsort(w, kind="stable")
+    order = len(w) - 1 - order[::-1] if given.maximum else order
+    return given._replace(u=given.u[order], v=given.v[order], w=given.w[order], index=given.index[order])
 
 
 def _up_to(forest: Forest, height: float) -> int:
-    """How many edges weigh at most so much, as numpy compares them."""
+    """How many edges weigh at most so much, or of a maximum forest at least, as numpy compares them."""
     if not isinstance(height, numbers.Real):
         raise TypeError(f"the height is a {type(height).__name__}, and has to be a real number")
     if height != height:
         raise ValueError("the height is NaN")
-    return int(np.count_nonzero(forest.w <= height))
+    return int(np.count_nonzero(forest.w >= height if forest.maximum else forest.w <= height))
 
 
 def _newest(taker: list[int], cluster: int) -> int:

@@ -13,8 +13,8 @@ from collections import deque
 import numpy as np
 
 import boruvka
-from boruvka import minimum_spanning_forest
-from graphs import KINDS, Graph, by_key
+from boruvka import Forest, minimum_spanning_forest
+from graphs import KINDS, Components, Graph, by_key
 
 try:
     from scipy import sparse
@@ -50,7 +50,6 @@ class Documented(unittest.TestCase):
     def test_the_small_net(self):
         forest = minimum_spanning_forest(6, *SMALL)
         self.assertEqual(listed(forest), SMALL_FOREST)
-        self.assertEqual(forest._fields, ("u", "v", "w", "index"))
         self.assertEqual([it.dtype for it in forest], [np.intp, np.intp, np.int64, np.intp])
 
     def test_ties_go_by_the_ends_and_then_by_the_place(self):
@@ -64,6 +63,174 @@ class Documented(unittest.TestCase):
     def test_components_stay_apart(self):
         forest = minimum_spanning_forest(6, [0, 5, 3], [1, 4, 4], [2.5, 1.5, 0.5])
         self.assertEqual(listed(forest), [[3, 4, 0], [4, 5, 1], [0.5, 1.5, 2.5], [2, 1, 0]])
+
+
+class Knowing(unittest.TestCase):
+    """What a forest tells of itself."""
+
+    def setUp(self):
+        self.forest = minimum_spanning_forest(7, *SMALL)
+
+    def test_what_it_holds(self):
+        forest = self.forest
+        self.assertEqual((forest.n, len(forest), forest.components, forest.total, forest.maximum), (7, 5, 2, 13, False))
+        u, v, w, index = forest
+        self.assertEqual([u.tolist(), v.tolist(), w.tolist(), index.tolist()], SMALL_FOREST)
+        self.assertEqual(repr(forest), "<Forest of 7 vertices, 5 edges, 2 components, total 13>")
+        self.assertIn("<td>4</td>", forest._repr_html_())
+        self.assertNotIn("more", forest._repr_html_())
+        path = minimum_spanning_forest(range(40), range(1, 41), [1.5] * 40)
+        self.assertIn("and 30 more", path._repr_html_())
+        self.assertEqual(Forest([0, 4], [1, 2], [5, 6], [0, 1]).n, 5)
+        with self.assertRaisesRegex(ValueError, r"shapes \(2,\), \(1,\), "):
+            Forest([0, 4], [1], [5, 6], [0, 1])
+
+    def test_equal_forests(self):
+        self.assertEqual(self.forest, minimum_spanning_forest(7, *SMALL))
+        self.assertNotEqual(self.forest, minimum_spanning_forest(6, *SMALL))
+        self.assertNotEqual(self.forest, minimum_spanning_forest(7, *SMALL, maximum=True))
+        self.assertNotEqual(self.forest, self.forest._replace(w=self.forest.w + 1))
+        self.assertFalse(self.forest == 5)
+        with self.assertRaises(TypeError):
+            hash(self.forest)
+        with self.assertRaises(AttributeError):
+            self.forest.n = 9
+
+    def test_totals_are_exact(self):
+        for w in ([2**63 - 1] * 3, [-(2**63)] * 3, [2**62 + 1, -(2**63), 7], np.array([2**63 - 1] * 3, np.uint64), [True, False, True]):
+            forest = minimum_spanning_forest(4, [0, 1, 2], [1, 2, 3], w)
+            self.assertEqual(forest.total, sum(map(int, w)))
+        for w in ([0.1] * 3, [1e308, 1e308, -1e308], [1e16, 1.0, -1e16]):
+            forest = minimum_spanning_forest(4, [0, 1, 2], [1, 2, 3], w)
+            self.assertEqual(forest.total, float(sum(map(fractions.Fraction, w))))
+        self.assertEqual(minimum_spanning_forest(3, [0, 1], [1, 2], [1e308, 1e308]).total, math.inf)
+        self.assertTrue(math.isnan(minimum_spanning_forest(3, [0, 1], [1, 2], [-math.inf, math.inf]).total))
+        self.assertEqual(minimum_spanning_forest(3, [], [], []).total, 0)
+
+    def test_ways_and_their_bottlenecks(self):
+        # (as README.md draws the small net)
+        self.assertEqual(self.forest.path(0, 5), [0, 2, 4, 3, 5][:1] + self.forest.path(2, 5))
+        for seed in range(60):
+            graph = Graph(seed)
+            for maximum in (False, True):
+                forest = minimum_spanning_forest(graph.n, *graph.held, maximum=maximum)
+                beside = {frozenset(it[:2]): i for i, it in enumerate(zip(forest.u.tolist(), forest.v.tolist()))}
+                components = Components(graph.n)
+                for it in beside:
+                    components.join(*it)
+                for a, b in [(0, graph.n - 1), (graph.n // 2, 0), (0, 0)]:
+                    if components.root(a) != components.root(b):
+                        for call in (forest.path, forest.bottleneck):
+                            with self.assertRaisesRegex(ValueError, "different components"):
+                                call(a, b)
+                        continue
+                    way = forest.path(a, b)
+                    self.assertEqual((way[0], way[-1], len(set(way))), (a, b, len(way)))
+                    places = [beside[frozenset(it)] for it in zip(way, way[1:])]
+                    if places:
+                        best = min if maximum else max
+                        self.assertEqual(forest.w[forest.bottleneck(a, b)], best(forest.w[places]))
+                    else:
+                        with self.assertRaisesRegex(ValueError, "no edge"):
+                            forest.bottleneck(a, b)
+        for call in (self.forest.path, self.forest.bottleneck):
+            for wrong in (-1, 7):
+                with self.assertRaisesRegex(ValueError, f"^{wrong} is no vertex"):
+                    call(0, wrong)
+
+    def test_clusters(self):
+        self.assertEqual(self.forest.labels(clusters=2).tolist(), [0, 0, 0, 0, 0, 0, 1])
+        self.assertEqual(self.forest.labels(height=0).tolist(), [0, 1, 1, 1, 1, 2, 3])
+        self.assertEqual(self.forest.labels(height=0, min_size=2).tolist(), [-1, 0, 0, 0, 0, -1, -1])
+        self.assertEqual(self.forest.labels(clusters=4, min_size=9).tolist(), [-1] * 7)
+        # likes, of which the strongest count
+        likes = minimum_spanning_forest(5, [0, 1, 2, 3, 0], [1, 2, 3, 4, 4], [9, 1, 8, 7, 2], maximum=True)
+        self.assertEqual(likes.w.tolist(), [9, 8, 7, 2])
+        self.assertEqual(likes.labels(clusters=2).tolist(), [0, 0, 1, 1, 1])
+        self.assertEqual(likes.labels(height=8).tolist(), [0, 0, 1, 1, 2])
+        self.assertEqual(likes._replace(u=likes.u[::-1], v=likes.v[::-1], w=likes.w[::-1]).labels(height=8).tolist(), [0, 0, 1, 1, 2])
+        with self.assertRaisesRegex(ValueError, "maximum forest"):
+            likes.linkage()
+
+    @unittest.skipUnless(sparse, "there is no scipy")
+    def test_as_a_matrix(self):
+        matrix = self.forest.to_csr()
+        self.assertEqual((matrix.shape, matrix.nnz, matrix[0, 2], matrix[3, 5]), ((7, 7), 5, 10, 3))
+        self.assertEqual(csgraph.connected_components(matrix, directed=False)[0], 2)
+
+    def test_as_a_frame(self):
+        try:
+            import pandas
+        except ImportError:
+            self.skipTest("there is no pandas")
+        frame = self.forest.to_frame()
+        self.assertEqual([frame[it].tolist() for it in ("u", "v", "w", "index")], SMALL_FOREST)
+        self.assertEqual(minimum_spanning_forest(7, *(pandas.Series(it) for it in SMALL)), self.forest)
+
+    def test_as_a_graph_of_networkx(self):
+        try:
+            import networkx as nx
+        except ImportError:
+            self.skipTest("there is no networkx")
+        graph = self.forest.to_networkx("abcdefg")
+        self.assertEqual(list(graph), list("abcdefg"))
+        self.assertEqual(sorted(graph.edges(data="weight")), [("a", "c", 10), ("b", "e", 0), ("c", "d", 0), ("c", "e", 0), ("d", "f", 3)])
+        self.assertEqual(nx.number_connected_components(self.forest.to_networkx()), 2)
+        with self.assertRaisesRegex(ValueError, "^there are 2 names, and 7 vertices"):
+            self.forest.to_networkx("ab")
+
+    def test_as_a_picture(self):
+        try:
+            import matplotlib
+        except ImportError:
+            self.skipTest("there is no matplotlib")
+        matplotlib.use("Agg")
+        points = np.random.default_rng(1).random((7, 2))
+        axes = self.forest.plot(points, labels=self.forest.labels(clusters=3))
+        self.assertEqual((len(axes.collections[0].get_segments()), len(axes.collections[1].get_offsets())), (5, 7))
+        with self.assertRaisesRegex(ValueError, "shape"):
+            self.forest.plot(points[:3])
+
+
+class Called(unittest.TestCase):
+    def test_in_each_way(self):
+        wanted = minimum_spanning_forest(6, *SMALL)
+        edges = np.array(SMALL[:2]).T
+        u, v, w = SMALL
+        for found in [
+            minimum_spanning_forest(u, v, w),
+            minimum_spanning_forest(u=u, v=v, w=w),
+            minimum_spanning_forest(None, u, v, w),
+            minimum_spanning_forest(edges, w),
+            minimum_spanning_forest(edges.tolist(), w),
+            minimum_spanning_forest(6, edges, w),
+            minimum_spanning_forest(np.int8(6), edges, np.array(w)),
+        ]:
+            self.assertEqual(found, wanted)
+        self.assertEqual(minimum_spanning_forest([], [], []).n, 0)
+        self.assertEqual(minimum_spanning_forest(9, edges, w).n, 9)
+        self.assertEqual(minimum_spanning_forest(np.empty((0, 2), int), []).n, 0)
+
+    def test_wrongly(self):
+        for given, words in [
+            ((), "n may be left out"),
+            (([0, 1],), "n may be left out"),
+            ((3, [0, 1], [1, 2]), r"^edges have the shape \(2,\)"),
+            (([[0, 1, 2]], [1]), r"^edges have the shape \(1, 3\)"),
+            ((3.0, [0], [1], [1]), "^n is 3.0, and has to be a whole number"),
+            (("3", [0], [1], [1]), "^n is '3', "),
+        ]:
+            with self.assertRaisesRegex(TypeError, words):
+                minimum_spanning_forest(*given)
+        with self.assertRaisesRegex(ValueError, "^u\\[1\\] is -1, "):
+            minimum_spanning_forest([0, -1], [1, 1], [1, 2])
+        with self.assertRaisesRegex(ValueError, "^v\\[1\\] is 3, .*n = 3: are they numbered from 1\\?$"):
+            minimum_spanning_forest(3, [1, 2], [2, 3], [1, 2])
+        with self.assertRaisesRegex(TypeError, "pandas.factorize"):
+            minimum_spanning_forest(["a"], ["b"], [1])
+        if sparse:
+            with self.assertRaisesRegex(TypeError, "boruvka.sparse"):
+                minimum_spanning_forest(sparse.csr_matrix((2, 2)))
 
 
 class Limits(unittest.TestCase):
@@ -115,8 +282,6 @@ class Refused(unittest.TestCase):
         for n in (-1, 2**26 + 1, 2**32, 2**32 + 3, 2**64 + 3):
             self.expect(ValueError, f"^n is {n}, ", n, [0], [1], [1])
             self.expect(ValueError, f"^n is {n}, ", n, [], [], [])
-        for n in (3.0, "3", None):
-            self.expect(TypeError, "integer", n, [0], [1], [1])
 
     def test_weights_without_an_order(self):
         for dtype in (np.float16, np.float32, np.float64):
