@@ -1,9 +1,9 @@
-"""Times the package beside scipy and networkx, and prints the table of README.md.
+"""Times the package beside scipy, scikit-learn and networkx, and prints the table of README.md.
 
 usage: python3 bench.py
 
 Each time is processor time of this process, the least of five calls in turns with the other's. The machine should do
-nothing else. It takes some minutes and 4 GB, and needs scipy and networkx.
+nothing else. It takes a minute and 1 GB, and needs scipy, scikit-learn and networkx.
 """
 
 import gc
@@ -14,12 +14,13 @@ import numpy as np
 from scipy.cluster.hierarchy import linkage
 from scipy.sparse import coo_matrix, csgraph
 from scipy.spatial.distance import pdist
+from sklearn.cluster import AgglomerativeClustering
 
 from boruvka import minimum_spanning_forest, networkx_backend
 from boruvka.linkage import single_linkage
 from boruvka.sparse import minimum_spanning_tree
 
-EDGES = [10_000, 100_000, 1_000_000, 4_000_000]
+EDGES = 1_000_000
 TURNS = 5
 
 
@@ -81,9 +82,10 @@ def graphs(m):
     row(["networkx, first call", "networkx, later"], f"{m:,}", "its own Kruskal", times)
 
 
-def points(n):
-    given = np.random.default_rng(n).random((n, 2))
-    row(["points of a plane"], f"{n:,}", "scipy's linkage", least(lambda: single_linkage(given), lambda: linkage(given, "single")))
+def points(n, dimensions):
+    given = np.random.default_rng(n).random((n, dimensions))
+    times = least(lambda: single_linkage(given), lambda: AgglomerativeClustering(2, linkage="single").fit(given))
+    row([f"points in {dimensions} dimensions"], f"{n:,}", "scikit-learn", times)
 
 
 def distances(n):
@@ -94,10 +96,10 @@ def distances(n):
 def main():
     print("| What | Size | ms | Beside | ms | Ratio |")
     print("|---|---|---|---|---|---|")
-    for m in EDGES:
-        arrays(m)
+    arrays(EDGES)
     graphs(100_000)
-    points(10_000)
+    for dimensions in (2, 5, 10):
+        points(10_000, dimensions)
     distances(2_000)
 
 

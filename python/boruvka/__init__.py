@@ -1,11 +1,12 @@
 """Minimum spanning forests of numpy arrays.
 
-`minimum_spanning_forest` answers which edges are in the forest. It calls libboruvka, which is proved to answer just
-these. The package itself is tested, not proved.
+`minimum_spanning_forest` answers which edges are in the forest, and `from_edges` does for edges in a frame. They call
+libboruvka, which is proved to answer just these. The package itself is tested, not proved.
 
 These modules are loaded when they are first used:
 
 - `boruvka.linkage` finds the tree of points, cuts trees into clusters, and lists single linkage. Numpy is all it needs.
+- `boruvka.cluster` has single linkage and HDBSCAN as estimators of scikit-learn, and needs that.
 - `boruvka.sparse` stands in for scipy's function over sparse matrices, and needs scipy.
 - `boruvka.networkx_backend` is what networkx calls if you write `backend="boruvka"`.
 """
@@ -13,12 +14,14 @@ These modules are loaded when they are first used:
 from typing import TYPE_CHECKING
 
 from boruvka._forest import Forest, minimum_spanning_forest
+from boruvka._frames import from_edges
 
-__all__ = ["Forest", "minimum_spanning_forest"]
+__all__ = ["Forest", "from_edges", "minimum_spanning_forest"]
 
-_MODULES = ("linkage", "networkx_backend", "sparse")
+_MODULES = ("cluster", "linkage", "networkx_backend", "sparse")
 
 if TYPE_CHECKING:
+    from boruvka import cluster as cluster
     from boruvka import linkage as linkage
     from boruvka import networkx_backend as networkx_backend
     from boruvka import sparse as sparse

@@ -44,6 +44,8 @@ class Forest:
         How many vertices there are: 0 to n - 1. If it is left out, as many as the edges need.
     maximum : bool
         Whether the total weight is the greatest, not the least.
+    names : list, optional
+        What the vertices are called, in the order of their numbers.
     """
 
     u: NDArray[np.intp]
@@ -52,6 +54,7 @@ class Forest:
     index: NDArray[np.intp]
     n: int = -1
     maximum: bool = False
+    names: Sequence | None = None
 
     def __post_init__(self) -> None:
         arrays = [np.asarray(it) for it in self]
@@ -61,6 +64,8 @@ class Forest:
             raise ValueError(f"the arrays of the forest have the shapes {', '.join(str(it.shape) for it in arrays)}")
         if self.n < 0:
             object.__setattr__(self, "n", int(max(self.u.max(), self.v.max())) + 1 if len(self) else 0)
+        if self.names is not None and len(self.names) != self.n:
+            raise ValueError(f"there are {len(self.names)} names, and {self.n} vertices")
 
     def __iter__(self) -> Iterator[np.ndarray]:
         return iter((self.u, self.v, self.w, self.index))
@@ -71,7 +76,7 @@ class Forest:
     def __eq__(self, other: object) -> bool:
         if not isinstance(other, Forest):
             return NotImplemented
-        is_like = (self.n, self.maximum) == (other.n, other.maximum)
+        is_like = (self.n, self.maximum, self.names) == (other.n, other.maximum, other.names)
         return is_like and all(np.array_equal(one, another) for one, another in zip(self, other))
 
     __hash__ = None  # type: ignore[assignment]
@@ -164,10 +169,11 @@ class Forest:
         return found[::-1]
 
     def to_frame(self) -> pandas.DataFrame:
-        """A frame of pandas with the columns u, v, w and index."""
+        """A frame of pandas with the columns u, v, w and index; u and v are names, if the vertices have any."""
         import pandas
 
-        return pandas.DataFrame(dict(zip(("u", "v", "w", "index"), self)))
+        frame = pandas.DataFrame(dict(zip(("u", "v", "w", "index"), self)))
+        return frame if self.names is None else frame.assign(u=self._named(self.u), v=self._named(self.v))
 
     def to_csr(self) -> scipy.sparse.csr_matrix:
         """A sparse matrix of scipy with each edge at (u, v)."""
@@ -176,17 +182,19 @@ class Forest:
         return csr_matrix((self.w, (self.u, self.v)), shape=(self.n, self.n))
 
     def to_networkx(self, names: Sequence | None = None) -> networkx.Graph:
-        """A graph of networkx, whose vertices are called so, or by their numbers."""
+        """A graph of networkx, whose vertices are called so; else by the forest's names, or by their numbers."""
         import networkx
 
-        names = range(self.n) if names is None else names
-        if len(names) != self.n:
-            raise ValueError(f"there are {len(names)} names, and {self.n} vertices")
+        if names is not None:
+            return replace(self, names=names).to_networkx()
         graph = networkx.Graph()
-        graph.add_nodes_from(names)
-        ends = ([names[i] for i in it.tolist()] for it in (self.u, self.v))
-        graph.add_weighted_edges_from(zip(*ends, self.w.tolist()))
+        graph.add_nodes_from(self._named(np.arange(self.n)))
+        graph.add_weighted_edges_from(zip(self._named(self.u), self._named(self.v), self.w.tolist()))
         return graph
+
+    def _named(self, vertices: NDArray[np.intp]) -> list:
+        names = range(self.n) if self.names is None else self.names
+        return [names[it] for it in vertices.tolist()]
 
     def plot(self, points: ArrayLike, *, labels: ArrayLike | None = None, ax: Any = None) -> Any:
         """Draws the edges between points of a plane by matplotlib, each cluster in a colour; answers the axes."""
@@ -341,7 +349,7 @@ def vertices(n: int, ends: np.ndarray, name: str) -> NDArray[np.uint32]:
         # (an empty list has the dtype of floats)
         return np.empty(0, np.uint32)
     if ends.dtype.kind not in "iu":
-        how = ".astype(int) makes them" if ends.dtype.kind in "fb" else "pandas.factorize numbers names"
+        how = ".astype(int) makes them" if ends.dtype.kind in "fb" else "boruvka.from_edges takes names"
         raise TypeError(f"{name} has the dtype {ends.dtype}, and vertices are whole numbers: {how}")
     if ends.min() < 0 or ends.max() >= n:
         place = np.flatnonzero((ends < 0) | (ends >= n))[0]

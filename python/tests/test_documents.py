@@ -13,7 +13,7 @@ import unittest
 import numpy as np
 
 import boruvka
-from boruvka import _forest, linkage
+from boruvka import _forest, _frames, linkage
 
 TOP = os.path.dirname(os.path.dirname(os.path.abspath(__file__)))
 EXAMPLES = f"{TOP}/examples"
@@ -50,14 +50,19 @@ class Docstrings(unittest.TestCase):
 
     def test_modules(self):
         self.expect_examples(_forest, 5)
+        self.expect_examples(_frames, 4)
         self.expect_examples(linkage, 10)
+        if there("sklearn"):
+            from boruvka import cluster
+
+            self.expect_examples(cluster, 4)
         if there("scipy"):
             from boruvka import sparse
 
             self.expect_examples(sparse, 2)
 
     def test_each_public_function_has_parameters_returns_and_raises(self):
-        for it in (boruvka.minimum_spanning_forest, linkage.single_linkage, linkage.spanning_tree, linkage.merges, linkage.labels):
+        for it in (boruvka.minimum_spanning_forest, boruvka.from_edges, linkage.single_linkage, linkage.spanning_tree, linkage.merges, linkage.labels):
             for part in ("Parameters", "Returns", "Raises", "Examples"):
                 self.assertIn(f"    {part}\n    ---", it.__doc__, it.__name__)
 

@@ -179,6 +179,11 @@ def linkage_beside_scipys(room):
 
 
 @case
+def estimators_of_scikit_learn(room):
+    expect_tests(room, "test_cluster")
+
+
+@case
 def sparse_matrices_beside_scipys(room):
     expect_tests(room, "test_sparse")
 
