@@ -23,13 +23,13 @@ def how_much_was_read_of_a_pipe(_room):
 @case
 def how_much_was_read_of_a_file(room):
     name = written(f"{room}/long.gr", LONG_NET)
-    for words in MODES:
-        expect(ran([*words, "--progress", name]), 0, SMALL_FOREST, TOLD)
-    # threads read more at a time
-    status, output, errors = ran(["--plain", "--threads", "4", "--progress", name])
-    if not re.fullmatch(rb"read 1\d MB\rread 3\d MB\rread 40 MB\n", errors):
-        raise AssertionError(f"by four threads: {errors!r}")
-    expect((status, output, b""), 0, SMALL_FOREST, b"")
+    expect(ran(["--plain", "--progress", name]), 0, SMALL_FOREST, TOLD)
+    # threads read more at a time, and so do runs over workers
+    for words in [["--plain", "--threads", "4"], *MODES[1:]]:
+        status, output, errors = ran([*words, "--progress", name])
+        if not re.fullmatch(rb"read 1[6-9] MB\rread 3[2-9] MB\rread 40 MB\n", errors):
+            raise AssertionError(f"{words}: {errors!r}")
+        expect((status, output, b""), 0, SMALL_FOREST, b"")
 
 
 @case
