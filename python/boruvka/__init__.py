@@ -15,8 +15,9 @@ from typing import TYPE_CHECKING
 
 from boruvka._forest import Forest, minimum_spanning_forest
 from boruvka._frames import from_edges
+from boruvka._page import show
 
-__all__ = ["Forest", "from_edges", "minimum_spanning_forest"]
+__all__ = ["Forest", "from_edges", "minimum_spanning_forest", "show"]
 
 _MODULES = ("cluster", "linkage", "networkx_backend", "sparse")
 

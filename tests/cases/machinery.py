@@ -135,7 +135,7 @@ class Begun(Folder):
             os.symlink(shutil.which(name), f"{room}/bin/{name}")
         self.put_program("bin/make", 'echo "made $*"\nexit 7')
         self.put_program("bin/sudo", '[ "$1" = -n ] && shift && exec "$@"')
-        for name in ("zsh", "fish", "cmake", "lintian", "chromium", "chromedriver", "python"):
+        for name in ("zsh", "fish", "mawk", "gawk", "busybox", "cmake", "lintian", "chromium", "chromedriver", "python"):
             self.put_program(f"bin/{name}", "")
 
     def put_apt_get(self, body):
