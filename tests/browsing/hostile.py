@@ -3,7 +3,7 @@ import gzip
 import os
 import time
 
-from browsing.page import Page, is_so
+from browsing.page import Page, is_so, large
 from browsing.points import drawn_marks
 from cases.running import case
 
@@ -37,6 +37,7 @@ def dropped(page, name, head, text, times):
 @case
 def large_files(_room):
     """Each was read as empty, was not done after minutes, or ended the tab, before it was refused or shown."""
+    large()
     page, told = Page.opened(), []
     before = page.shown()
     for name, head, text, times, fault in [
@@ -57,6 +58,7 @@ def large_files(_room):
 @case
 def a_table_past_what_a_text_may_hold(room):
     """536,870,888 letters are the most that the browser puts into one text."""
+    large()
     path = f"{room}/long.csv"
     with open(path, "w", encoding="utf-8") as it:
         it.write("x,y,note\n")
@@ -75,6 +77,7 @@ def a_table_past_what_a_text_may_hold(room):
 
 @case
 def a_gzip_that_expands_without_end(_room):
+    large()
     page = Page.opened()
     for name, content, fault in [("bomb.csv.gz", b"0" * 300_000_000, "LongRow"), ("bomb.csv.gz", b"\n" * 300_000_000, "TooManyLines")]:
         page.drop((name, gzip.compress(content, 1)), seconds=SECONDS)
@@ -83,6 +86,7 @@ def a_gzip_that_expands_without_end(_room):
 
 @case
 def large_graphs(_room):
+    large()
     page = Page.opened()
     seconds = [dropped(page, "empty.gr", "p sp 67108864 0", "\n", 1)]
     page.expect(points="67,108,864", size="0", total="0", say="This graph is too large to be cut here. Its forest can be saved.")
@@ -102,6 +106,7 @@ def large_graphs(_room):
 @case
 def a_million_points(_room):
     """In clouds, in a line, all at one place: each is shown, with a bar and a stop, and no frame takes long."""
+    large()
     page, told = Page.opened(), []
     for name, line, total in [("line.csv", "{0},7\n", "999,999"), ("equal.csv", "3,3\n", "0"), ("hundred.csv", "{1},{2}\n", "99")]:
         text = "".join(line.format(it, it * 7919 % 10, it * 104729 // 10 % 10) for it in range(10**6))

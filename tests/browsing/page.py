@@ -47,11 +47,27 @@ class Server(http.server.ThreadingHTTPServer):
             super().handle_error(*request)
 
 
+def quick(is_so, told):
+    """What is told of a time. A slow one fails with --strict: else the machine may have other work, and it is only told."""
+    if is_so:
+        return told
+    if Page.strict:
+        raise AssertionError(told)
+    return f"slow: {told}"
+
+
+def large():
+    """What follows takes minutes and much memory."""
+    if not Page.strict:
+        raise Skipped("large inputs are left to `make web-test`")
+
+
 class Page:
     """One browser and one server for all cases. Each case has the page anew."""
 
     module = f"{ROOT}/crates/boruvka_within/out/boruvka.wasm"
     pictures = None
+    strict = False
     now = None
 
     def __init__(self):
