@@ -15,6 +15,7 @@ import sys
 import tarfile
 import time
 import zipfile
+import zlib
 
 from cases.embedding import ENVIRONMENT, LIBRARIES, compiler, libraries
 from cases.running import ROOT, SMALL_FOREST, SMALL_NET, Program, Skipped, case, expect, ran, run, written
@@ -361,7 +362,7 @@ def each_completion_has_the_options_of_the_help(_room):
 @case
 def completions_of_bash(_room):
     script = f'source "$1/{SHELLS["bash"]}"; shift; complete -p boruvka; COMP_WORDS=("$@"); COMP_CWORD=$(($# - 1)); _boruvka; printf "%s\\n" "${{COMPREPLY[@]}}"'
-    longs = ["--workers", "--shards", "--plain", "--threads", "--report", "--help", "--version"]
+    longs = ["--workers", "--shards", "--plain", "--threads", "--report", "--progress", "--help", "--version"]
     for words, wanted in [
         (["--"], longs),
         (["-"], [*longs, "-h", "-V"]),
@@ -373,7 +374,7 @@ def completions_of_bash(_room):
         (["--workers", "="], NUMBERS["--workers"]),
         (["--shards", "=", "10"], ["1024"]),
         (["--plain", "--shards", ""], NUMBERS["--shards"]),
-        (["--workers", "=", "2", "--plain", "--"], ["--shards", "--threads", "--report", "--help", "--version"]),
+        (["--workers", "=", "2", "--plain", "--"], ["--shards", "--threads", "--report", "--progress", "--help", "--version"]),
         (["--workers", "x"], []),
         (["--", "--"], []),
         ([""], []),
@@ -422,7 +423,7 @@ def shown_by_zsh(room, line, wanted):
 def completions_of_zsh(room):
     needs("zsh")
     for line, wanted in [
-        ("boruvka --", ["--workers", "--shards", "--plain", "--threads", "--report", "--help", "--version", "0 to 64", "1 to 4096", "1 to 64"]),
+        ("boruvka --", ["--workers", "--shards", "--plain", "--threads", "--report", "--progress", "--help", "--version", "0 to 64", "1 to 4096", "1 to 64"]),
         ("boruvka --plain -", ["--workers", "-V", "-h"]),
         ("boruvka --workers ", ["16", "32", "64"]),
         ("boruvka --workers=", ["16", "32", "64"]),
@@ -435,7 +436,7 @@ def completions_of_zsh(room):
 
 @case
 def completions_of_fish(room):
-    longs = ["--workers", "--shards", "--plain", "--threads", "--report", "--help", "--version"]
+    longs = ["--workers", "--shards", "--plain", "--threads", "--report", "--progress", "--help", "--version"]
     for line, wanted in [
         ("boruvka --", longs),
         ("boruvka -", [*longs, "-h", "-V"]),
@@ -462,8 +463,8 @@ def expect_page(room, share):
         with open(f"{share}/{name}", "rb") as found, open(path, "rb") as wanted:
             is_so((name, found.read() == wanted.read()), (name, True))
     with open(f"{share}/boruvka.html", encoding="utf-8") as page, open(built, "rb") as it:
-        held = re.search(r'<script type="text/plain" id="packed-module">\n(.*?)\n</script>', page.read(), re.S)[1]
-        is_so(base64.b64decode(held) == it.read(), True)
+        held = re.search(r'<script type="[^"]*" id="packed-module">\s*(.*?)\s*</script>', page.read(), re.S)
+        is_so(bool(held) and zlib.decompress(base64.b64decode(held[1]), -15) == it.read(), True)
 
 
 def packed(into, env=KIT, **more):
