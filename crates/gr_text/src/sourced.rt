@@ -37,6 +37,8 @@ pub fn read_graph<S: Source, A: Allocator>(alloc: A, source: &mut S) -> Result<G
 /// The source is read to its end, up to the first fault, or until it gave more than `limit` bytes. The
 /// fault of a line that ended before a read failed comes first, then `Source`. It is read 64 KiB at a
 /// time into an array on the stack; the memory is that of the links, and the time linear in the bytes.
+// (within a caller its array would lie beside another's, and the stack that Linux maps at first has 132 KiB)
+#[inline(never)]
 pub fn read_graph_upto<S: Source, A: Allocator>(
     alloc: A,
     source: &mut S,
