@@ -39,7 +39,7 @@ BASH_COMPLETIONS = $(call quoted,$(DESTDIR)$(BASHDIR))
 ZSH_COMPLETIONS = $(call quoted,$(DESTDIR)$(ZSHDIR))
 FISH_COMPLETIONS = $(call quoted,$(DESTDIR)$(FISHDIR))
 
-.PHONY: help try run lib wasm page test web-test wrong soak built install install-program install-libraries install-page install-documents uninstall dist may-pack portable bench clean
+.PHONY: help try run lib wasm page test web-test wrong soak built install install-program install-libraries install-page install-documents uninstall dist may-pack bench clean
 
 # Each of them goes side by side by itself, as far as the machine holds.
 .NOTPARALLEL:
@@ -140,13 +140,9 @@ uninstall:
 	rm -f $(PAGE)/boruvka.wasm $(PAGE)/boruvka.html $(addprefix $(DOC)/,$(DOCUMENTS))
 	rmdir $(DOC)/examples/embed $(DOC)/examples $(DOC)/docs $(DOC) $(PAGE) $(LIB)/cmake/boruvka 2> /dev/null || true
 
-# (first what refuses in a second, then what proves; the program that `rt ci` leaves is for processors of the level x86-64-v2)
-dist: may-pack portable lib $(WASM)
+# (first what refuses in a second, then what proves)
+dist: may-pack $(PROGRAM) lib $(WASM)
 	@python3 tools/dist.py
-
-portable:
-	@python3 tools/prove.py boruvka
-	@touch $(PROGRAM)
 
 may-pack:
 	@python3 tools/dist.py --may

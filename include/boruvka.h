@@ -9,7 +9,7 @@
  * - malloc, realloc and free are of one allocator, and a block of theirs is aligned to each power of two up to 16 that
  *   divides its size.
  * - No call is made from a signal handler, or from the forked child of a process with threads.
- * - A call has 128 KiB of stack.
+ * - A call has 128 KiB of stack, and an x86-64 processor of the level v2.
  * Threads may call at once, each over memory of its own: nothing is kept between calls.
  *
  * pkg-config names the libraries boruvka and boruvka_within, CMake boruvka::boruvka, boruvka::static and boruvka::within. */

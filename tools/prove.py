@@ -47,7 +47,6 @@ OF_LIBRARIES = {
     "boruvka_within": "2 minutes after the other libraries, once",
 }
 PARTS = ("src", "specs", "proofs")
-CPU = ["--cpu", "x86-64"]  # what is built runs on each such processor; without it `rt` builds for x86-64-v2
 
 
 class NotProved(Exception):
@@ -270,7 +269,7 @@ def prove_top(plan, progress):
     log = f"{folder}/out/log"
     os.makedirs(f"{folder}/out", exist_ok=True)
     with open(source if os.path.isfile(source) else os.devnull, "rb") as given, open(log, "w+b") as said:
-        words = [*RT, "run" if is_program(plan.top) else "lib", "--jobs", str(plan.processes(plan.top, 0, True)), *CPU, *words_of(folder)]
+        words = [*RT, "run" if is_program(plan.top) else "lib", "--jobs", str(plan.processes(plan.top, 0, True)), *words_of(folder)]
         process = subprocess.Popen(words, cwd=folder, stdin=given, stdout=said, stderr=said, start_new_session=True)
         try:
             while process.poll() is None:

@@ -299,8 +299,6 @@ def a_program_and_a_static_library_come_after_what_they_stand_on(room):
     status, told, calls = it.run(["program"], MEET="left right")
     expect((status, calls[:1], sorted(calls[1:3]), calls[3:]), (0, ["lib low"], ["lib left", "lib right"], ["run program"]))
     expect(it.built(), {"low", "left", "right", "program"})
-    # it runs on each processor, and not only on those for which `rt` builds by itself
-    expect([line.split()[3:5] for line in it.read("calls").splitlines() if line.startswith("run ")], [["--cpu", "x86-64"]])
     ran = it.read("crates/program/out/ran").split("\n", 1)
     expect((ran[0].partition(" -- ")[2], ran[1]), ("--one two words", "what it reads\n"))
     said = told.splitlines()
