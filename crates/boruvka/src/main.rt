@@ -27,12 +27,13 @@ mod standard;
 mod tests;
 
 use std::env;
+use std::io;
 use std::process::ExitCode;
 
 fn main(rt: HostRuntime) -> ExitCode {
     let mut errors = rt.stderr();
     let words = match env::args(&rt) {
-        Ok(words) => program_words::all_words(rt.alloc(), words),
+        Ok(words) => program_words::all_words(rt.alloc(), words).map_err(io::Error::from),
         Err(error) => Err(error),
     };
     let status = match words {

@@ -16,7 +16,6 @@ use limits::{MAX_SHARDS, MAX_WORKERS};
 use std::alloc::{AllocError, Global};
 use std::convert::AsStr;
 use std::env::Args;
-use std::io;
 
 const ABOUT: &str = "Computes the minimum spanning forest of a graph in the .gr format.";
 
@@ -184,8 +183,8 @@ fn file_of(alloc: Global, name: &str) -> Result<Option<String>, AllocError>
 
 /// The words that std got of the command line, all of them and in their order.
 ///
-/// Memory may be refused. It takes time and memory linear in the words.
-pub fn all_words(alloc: Global, words: Args) -> io::Result<Vec<String>>
+/// Nothing but memory may be refused. It takes time and memory linear in the words.
+pub fn all_words(alloc: Global, words: Args) -> Result<Vec<String>, AllocError>
     ensures { IfOk result (λ all. all.items ≡ into_iter_items words) }
 {
     let all = words.collect(alloc)?;
