@@ -1,5 +1,5 @@
 -- How the program ends.
-use Rattle.std.specs.Prelude.{◌≡◌, ◌≢◌, ◌≤◌, ℕ, ◌⊎◌, List, [], ◌∷◌, ◌++◌, length, All, Option, None, Some, Bool, true, false, Result, Ok, Err, codes, option_map}
+use Rattle.std.specs.Prelude.{◌≡◌, ◌≢◌, ◌≤◌, ℕ, ◌⊎◌, List, [], ◌∷◌, length, All, Option, None, Some, Bool, true, false, Result, Ok, Err, codes, option_map}
 use Rattle.std.specs.Global.{Vec}
 use Rattle.std.specs.String.{string_bytes}
 use Rattle.byte_streams.specs.Streams.{SourceState, SinkState, only_left, Took, HadNoSetback}
@@ -19,7 +19,8 @@ use Rattle.program_words.specs.Arguments.{refusals, given, file_named, number_of
 use Rattle.program_words.specs.declared.chosen.Options.{Options}
 use Rattle.program_words.specs.Messages.{IsWritten, report_line, fault_line, unopened_line}
 use Rattle.program_words.specs.Statuses.{status_for}
-use Rattle.boruvka.specs.Streams.{Standard, of_run}
+use Rattle.boruvka.specs.Streams.{Standard, Left, OnOutput, OutputIsFlushed, SameErrors, of_run}
+use Rattle.boruvka.specs.declared.standard.StandardStreams.{StandardStreams}
 
 -- ---- what was written
 
@@ -38,6 +39,17 @@ status_of_run (Err why) = status_for why
 -- or what the workers answered made no forest
 abbrev pub LeavesOutput : ℕ → Type 0
 LeavesOutput status = (status ≡ 1) ⊎ (status ≡ 2) ⊎ (status ≡ 4) ⊎ (status ≡ 5)
+
+-- ---- what each run keeps
+
+-- a run ends with one of six statuses. At one that says that nothing was written the output is as it was; at status 0 none
+-- of its bytes waits for a flush, and the errors got nothing, but for a report that is wanted
+pub record KeepsStreams {I O E : Type 0} (sink_of : O → SinkState) (unflushed_of : O → Option (List ℕ)) (wants : Bool) (status : ℕ)
+    (before : StandardStreams I O E) (after : Left I O E) : Type 0 where
+  pub few : status ≤ 5
+  pub silent : LeavesOutput status → OnOutput sink_of IsUntouched before after
+  pub flushed : status ≡ 0 → OutputIsFlushed unflushed_of after
+  pub quiet : wants ≡ false → status ≡ 0 → SameErrors before after
 
 -- ---- the report
 

@@ -28,6 +28,12 @@ OnThree source_of sink_of errors_of R input output errors input' output' errors'
     (standard source_of sink_of errors_of input output errors)
     (standard source_of sink_of errors_of input' output' errors')
 
+-- each of the three can be used
+pub record AreReady {I O E : Type 0} (can_read : I → Type 0) (can_write : O → Type 0) (can_tell : E → Type 0) (io : StandardStreams I O E) : Type 0 where
+  pub input : can_read io.input.now
+  pub output : can_write io.output.now
+  pub errors : can_tell io.errors.now
+
 -- an input, an output and errors, as a call left them
 abbrev pub Left : Type 0 → Type 0 → Type 0 → Type 0
 Left I O E = MutBor I × (MutBor O × (MutBor E × ⊤))

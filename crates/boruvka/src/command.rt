@@ -14,8 +14,8 @@ ghost use Rattle.forest_run.specs.declared.cutting.Cutting.TheVariants.{Even};
 ghost use Rattle.tcp_lines.specs.Lines.{tcp_line, unused};
 ghost use Rattle.program_words.specs.Arguments.{IsMistake, file_named, is_set, refusals};
 ghost use Rattle.program_words.specs.Messages.{IsWritten, message_line, no_text_line};
-ghost use Rattle.boruvka.specs.Streams.{OnThree, OnStreams, OnInput, OnOutput, OutputIsFlushed, SameInput, SameErrors};
-ghost use Rattle.boruvka.specs.Status.{asked_of, status_of_run, report_of, IsReported, EndsOver, EndsAs, EndsOnSource, Obeys, ObeysWords};
+ghost use Rattle.boruvka.specs.Streams.{AreReady, OnThree, OnStreams, OnInput, OnOutput, SameInput};
+ghost use Rattle.boruvka.specs.Status.{asked_of, status_of_run, report_of, IsReported, KeepsStreams, EndsOver, EndsAs, EndsOnSource, Obeys, ObeysWords};
 ghost use Rattle.boruvka.specs.Status.{HasNoGraph, IsDone, LeavesOutput, IsUntouched, AskForHelp, AskForVersion, AreWrong, HelpEnds, RefusesWords, EndsRefused};
 
 use crate::progress::Watched;
@@ -82,17 +82,12 @@ pub fn run_over<
 >(rt: &R, shards: u32, wants_report: bool, lines: Vec<L>, io: StandardStreams<I, O, E>) -> u8
     requires few { length lines.items ≤ MAX_WORKERS }
     requires room { All (λ line. HasRoom (L.state line)) lines.items }
-    requires input { I.can_read io.input.now }
-    requires output { O.can_write io.output.now }
-    requires errors { E.can_write io.errors.now }
+    requires streams { AreReady I.can_read O.can_write E.can_write io }
 
     // Whatever the workers answer, and more where each line is new and carries its worker's session.
     ensures ends { OnStreams I.state O.state E.state (EndsOver L.Line lines.items shards wants_report result)
         io.entry io.exit }
-    ensures status { result ≤ 5 }
-    ensures silent { LeavesOutput result → OnOutput O.state IsUntouched io.entry io.exit }
-    ensures flushed { result ≡ 0 → OutputIsFlushed O.unflushed io.exit }
-    ensures quiet { wants_report ≡ false → result ≡ 0 → SameErrors io.entry io.exit }
+    ensures kept { KeepsStreams O.state O.unflushed wants_report result io.entry io.exit }
 
     // A file that means nothing is refused.
     ensures malformed { OnInput I.state HasNoGraph io.entry io.exit → (result ≡ 1) ⊎ (result ≡ 4) }
@@ -114,31 +109,21 @@ pub fn run_over<
 
 // Runs over the lines to the workers that were started, a line for each of them, as the words ask for. Each of them has
 // ended when it answers.
-fn run_started<R, I, O, E>(
+fn run_started<R: Alloc<A = Global> + Threads + Wait + Sync, I: Source, O: Sink, E: Sink>(
     rt: &R,
     chosen: &Options,
     started: (Vec<TcpLine>, Workers),
     io: StandardStreams<I, O, E>,
 ) -> u8
-where
-    R: Alloc<A = Global> + Threads + Wait + Sync,
-    I: Source,
-    O: Sink,
-    E: Sink,
     requires few { length started.0.items ≤ MAX_WORKERS }
     requires new { All (λ line. line ≡ unused) started.0.items }
     requires all { started.1 ≡ length started.0.items }
-    requires input { I.can_read io.input.now }
-    requires output { O.can_write io.output.now }
-    requires errors { E.can_write io.errors.now }
+    requires streams { AreReady I.can_read O.can_write E.can_write io }
 
     // Over just these lines, whatever comes over them.
     ensures ends { OnStreams I.state O.state E.state
         (EndsOver tcp_line started.0.items chosen.now.shards chosen.now.report result) io.entry io.exit }
-    ensures status { result ≤ 5 }
-    ensures silent { LeavesOutput result → OnOutput O.state IsUntouched io.entry io.exit }
-    ensures flushed { result ≡ 0 → OutputIsFlushed O.unflushed io.exit }
-    ensures quiet { chosen.now.report ≡ false → result ≡ 0 → SameErrors io.entry io.exit }
+    ensures kept { KeepsStreams O.state O.unflushed chosen.now.report result io.entry io.exit }
 {
     let (lines, workers) = started;
     let (shards, wants_report) = (chosen.shards, chosen.report);
@@ -186,16 +171,11 @@ where
     O: Sink,
     E: Sink,
     requires workers { chosen.now.workers ≤ MAX_WORKERS }
-    requires input { I.can_read io.input.now }
-    requires output { O.can_write io.output.now }
-    requires errors { E.can_write io.errors.now }
+    requires streams { AreReady I.can_read O.can_write E.can_write io }
     ensures ends { OnStreams I.state O.state E.state (EndsAs chosen.now.plain (asked_of chosen.now) result)
         io.entry io.exit }
-    ensures status { result ≤ 5 }
+    ensures kept { KeepsStreams O.state O.unflushed chosen.now.report result io.entry io.exit }
     ensures plain_status { chosen.now.plain ≡ true → result ≤ 4 }
-    ensures silent { LeavesOutput result → OnOutput O.state IsUntouched io.entry io.exit }
-    ensures flushed { result ≡ 0 → OutputIsFlushed O.unflushed io.exit }
-    ensures quiet { chosen.now.report ≡ false → result ≡ 0 → SameErrors io.entry io.exit }
 {
     let alloc = rt.alloc();
     if chosen.plain {
@@ -237,17 +217,12 @@ where
     E: Sink,
     P: Sink,
     requires workers { chosen.now.workers ≤ MAX_WORKERS }
-    requires input { I.can_read io.input.now }
-    requires output { O.can_write io.output.now }
-    requires errors { E.can_write io.errors.now }
+    requires streams { AreReady I.can_read O.can_write E.can_write io }
     requires progress { P.can_write progress.old }
     ensures ends { OnStreams I.state O.state E.state (EndsOnSource chosen.now.progress (asked_of chosen.now) result)
         io.entry io.exit }
-    ensures status { result ≤ 5 }
+    ensures kept { KeepsStreams O.state O.unflushed chosen.now.report result io.entry io.exit }
     ensures plain_status { chosen.now.plain ≡ true → result ≤ 4 }
-    ensures silent { LeavesOutput result → OnOutput O.state IsUntouched io.entry io.exit }
-    ensures flushed { result ≡ 0 → OutputIsFlushed O.unflushed io.exit }
-    ensures quiet { chosen.now.report ≡ false → result ≡ 0 → SameErrors io.entry io.exit }
     ensures untold { chosen.now.progress ≡ false → progress.new ≡ progress.old }
 {
     if !chosen.progress {
@@ -298,9 +273,7 @@ where
     E: Sink,
     P: Sink,
     requires workers { chosen.now.workers ≤ MAX_WORKERS }
-    requires input { I.can_read io.input.now }
-    requires output { O.can_write io.output.now }
-    requires errors { E.can_write io.errors.now }
+    requires streams { AreReady I.can_read O.can_write E.can_write io }
     requires progress { P.can_write progress.old }
 
     // What is asked for is done, on the input or on FILE, and then the input isn't read.
@@ -310,11 +283,8 @@ where
     // A file that is refused or can't be cut, want of memory and answers that make no forest write nothing to the
     // output. Where the run ends well none of its bytes waits for a flush, where that is known, and the errors get the
     // report alone.
-    ensures status { result ≤ 5 }
+    ensures kept { KeepsStreams O.state O.unflushed chosen.now.report result io.entry io.exit }
     ensures plain_status { chosen.now.plain ≡ true → result ≤ 4 }
-    ensures silent { LeavesOutput result → OnOutput O.state IsUntouched io.entry io.exit }
-    ensures flushed { result ≡ 0 → OutputIsFlushed O.unflushed io.exit }
-    ensures quiet { chosen.now.report ≡ false → result ≡ 0 → SameErrors io.entry io.exit }
     ensures untold { chosen.now.progress ≡ false → progress.new ≡ progress.old }
 {
     let Some(name) = &chosen.file else {

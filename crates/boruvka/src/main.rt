@@ -26,9 +26,8 @@ mod standard;
 #[cfg(test)]
 mod tests;
 
-use std::env;
-use std::io;
 use std::process::ExitCode;
+use std::{env, io};
 
 fn main(rt: HostRuntime) -> ExitCode {
     let mut errors = rt.stderr();

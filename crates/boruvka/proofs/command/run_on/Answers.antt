@@ -1,5 +1,5 @@
 use Rattle.std.proofs.Common.{arith}
-use Rattle.boruvka.proofs.Endings.{as_plain, as_over, over_workers, plain_bound, silent_plainly, flushed_at_end, wants_memory_over}
+use Rattle.boruvka.proofs.Endings.{as_plain, as_over, over_workers, plain_bound, run_bound, silent_plainly, flushed_at_end, wants_memory_over}
 use Rattle.boruvka.proofs.command.run_on.Goals as goal
 
 pub returns-then-chosen-clause-ends : goal.returns-then-chosen-clause-ends
@@ -16,11 +16,13 @@ returns-then-chosen-clause-ends g c = as_plain _ _ _ _ _ c.if-chosen.true
 pub returns-then-chosen-clause-plain_status : goal.returns-then-chosen-clause-plain_status
 returns-then-chosen-clause-plain_status g c = λ plain. plain_bound c.run_here-ended.result _ _ _ _ _ c.write_end.ensures.status c.run_here-ended.ensures.ran
 
-pub returns-then-chosen-clause-silent : goal.returns-then-chosen-clause-silent
-returns-then-chosen-clause-silent g c = λ silent. silent_plainly c.run_here-ended.result _ _ _ _ _ c.write_end.ensures.status c.run_here-ended.ensures.ran silent
-
-pub returns-then-chosen-clause-flushed : goal.returns-then-chosen-clause-flushed
-returns-then-chosen-clause-flushed g c = flushed_at_end c.run_here-ended.result _ _ c.write_end.ensures.status c.run_here-ended.ensures.flushed
+pub returns-then-chosen-clause-kept : goal.returns-then-chosen-clause-kept
+returns-then-chosen-clause-kept g c = record {
+  few = run_bound c.run_here-ended.result _ c.write_end.ensures.status;
+  silent = silent_plainly c.run_here-ended.result _ _ _ _ _ c.write_end.ensures.status c.run_here-ended.ensures.ran;
+  flushed = flushed_at_end c.run_here-ended.result _ _ c.write_end.ensures.status c.run_here-ended.ensures.flushed;
+  quiet = c.write_end.ensures.quiet;
+}
 
 pub returns-in_default-clause-ends : goal.returns-in_default-clause-ends
 returns-in_default-clause-ends g c = as_over _ _ _ _ _ c.if-chosen.false (wants_memory_over _ _ _ _ _ _ _ c.write_fault.ensures)

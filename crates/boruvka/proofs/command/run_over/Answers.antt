@@ -5,11 +5,13 @@ pub returns-clause-ends : goal.returns-clause-ends
 returns-clause-ends g c = over_lines _ _ _ _ _ _ _ _ c.run_lines.result c.without_lines-ended.ensures c.write_end.ensures.status c.write_end.ensures.reported
     c.run_lines.ensures.ran c.run_lines.ensures.malformed c.run_lines.ensures.lawful c.run_lines.ensures.served c.run_lines.ensures.ends_well
 
-pub returns-clause-status : goal.returns-clause-status
-returns-clause-status g c = bound_lines _ _ _ _ _ _ _ (returns-clause-ends g c)
-
-pub returns-clause-silent : goal.returns-clause-silent
-returns-clause-silent g c = silent_lines _ _ _ _ _ _ _ (returns-clause-ends g c)
+pub returns-clause-kept : goal.returns-clause-kept
+returns-clause-kept g c = record {
+  few = bound_lines _ _ _ _ _ _ _ (returns-clause-ends g c);
+  silent = silent_lines _ _ _ _ _ _ _ (returns-clause-ends g c);
+  flushed = flushed_at_end c.run_lines.result _ _ (status_by_report _ _ _ c.without_lines-ended.ensures c.write_end.ensures.status) c.run_lines.ensures.flushed;
+  quiet = c.write_end.ensures.quiet;
+}
 
 pub returns-clause-malformed : goal.returns-clause-malformed
 returns-clause-malformed g c = refused_lines _ _ _ _ _ _ _ (returns-clause-ends g c)
@@ -19,6 +21,3 @@ returns-clause-blameless g c = blameless_lines _ _ _ _ _ _ _ (returns-clause-end
 
 pub returns-clause-done : goal.returns-clause-done
 returns-clause-done g c = done_lines _ _ _ _ _ _ _ (returns-clause-ends g c)
-
-pub returns-clause-flushed : goal.returns-clause-flushed
-returns-clause-flushed g c = flushed_at_end c.run_lines.result _ _ (status_by_report _ _ _ c.without_lines-ended.ensures c.write_end.ensures.status) c.run_lines.ensures.flushed
