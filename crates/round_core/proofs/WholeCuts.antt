@@ -1,11 +1,9 @@
 -- The picks of a whole cut, whose links are counted one by one.
-use Rattle.std.proofs.Common.{◌≡◌, ℕ, zero, suc, ◌+◌, ◌<◌, List, [], ◌∷◌, ◌++◌, length, take, Contains, Some, None, sym, ap, ◌∙◌, subst, arith}
+use Rattle.std.proofs.Common.{◌≡◌, ℕ, zero, suc, List, [], ◌∷◌, ◌++◌, Contains, Some, None, sym, subst, arith}
 use Rattle.std.specs.Prelude.{Option, Any}
-use Rattle.std.proofs.lemmas.List.{flat_map_more, take_more}
 use Rattle.std.proofs.lemmas.List.Elements.{All-from_recursion}
 use Rattle.links.specs.declared.links.Link.{Link}
 use Rattle.links.specs.Labels.{label_of}
-use Rattle.links.specs.Cut.{joined, links_at}
 use Rattle.links.proofs.Members.{contains_head}
 use Rattle.round_theory.specs.Offers.{Hearing, Names, IsNamed, HaveLinksOf, AreLightOffers, AreAllLight}
 use Rattle.round_theory.proofs.Cutting.{any_from, light_offers_suffice}
@@ -13,10 +11,6 @@ use Rattle.round_theory.proofs.Leaving.{leaves_apart}
 use Rattle.round_theory.proofs.LightOffers.{light_offers_exist}
 use Rattle.round_core.specs.Picks.{pick_of, IsPickOf, ArePicks, ArePicksOfHearings}
 use Rattle.round_core.proofs.Counts.{pick_kept}
-
--- one more shard
-pub one_more_shard : (cut : List (List Link)) (i : ℕ) → i < length cut → joined (take (i + 1) cut) ≡ joined (take i cut) ++ links_at cut i
-one_more_shard cut i lt = ap joined (take_more cut i [] lt) ∙ sym (flat_map_more (λ (x : List Link). x) [] (take i cut) (links_at cut i))
 
 -- a link whose ends have one label leaves none, and changes no pick
 pub picks_stay : (labels : List ℕ) (seen : List Link) (l : Link) (best : List (Option Link)) → label_of labels l.low ≡ label_of labels l.high

@@ -23,10 +23,10 @@ use std::alloc::{AllocError, Allocator};
 /// These are Borůvka's rounds (1926): each component picks the least link that leaves it, and what the picks join is one
 /// component in the next round. The only error is want of memory.
 ///
-/// There are at most log2 n + 1 rounds, the last of which picks nothing. For m links in s shards a round costs
-/// O(m + s + n) time and what [`Solver::step`](crate::Solver::step) does: each link of each shard counts for both of the
-/// components that it leaves. Memory: 48 bytes a vertex for labels, picks, links and what a step needs, and 4 more while it
-/// makes new labels; at the end 16 for each link in the forest.
+/// There are at most log2 n + 1 rounds, the last of which picks nothing. For m links a round costs O(m + n)
+/// time and what [`Solver::step`](crate::Solver::step) does: each link of each shard counts for both of the components
+/// that it leaves. Memory: 48 bytes a vertex for labels, picks, links and what a step needs; at the end 16 for each
+/// link in the forest, in place of the picks.
 pub fn solve_alone<A: Allocator + Copy>(
     alloc: A,
     n: u32,
@@ -46,7 +46,7 @@ pub fn solve_alone<A: Allocator + Copy>(
     Ok((forest, rounds))
 }
 
-// One round: the picks of all shards, and the solver's step by them.
+// One round: the picks of all links, and the solver's step by them.
 fn go_round<A: Allocator + Copy>(
     alloc: A,
     cut: &Cut<A>,
@@ -57,29 +57,26 @@ fn go_round<A: Allocator + Copy>(
     ensures round { IfOk result (IsRoundOf (joined cut.now) solver.old solver.new) }
     ensures fault { IfErr result (λ fault. fault ≡ Memory) }
 {
-    let picks = pick_all(alloc, cut, solver.labels())?;
+    let picks = pick_all(alloc, cut.links(), solver.labels())?;
     solver.step(&picks)
 }
 
 // The picks of a round: the least of all links that leave each component.
 fn pick_all<A: Allocator + Copy>(
     alloc: A,
-    cut: &Cut<A>,
+    links: &[Link],
     labels: &Labels<A>,
 ) -> Result<Picks<A>, AllocError>
-    requires ends { All (EndsUpTo (length labels.now)) cut.now }
-    ensures least { IfOk result (ArePicks labels.now (Contains (joined cut.now))) }
+    requires ends { EndsUpTo (length labels.now) links.now }
+    ensures least { IfOk result (ArePicks labels.now (Contains links.now)) }
     ensures heard { IfOk result (ArePicksOfHearings labels.now) }
 {
     let mut picks = Picks::none(alloc, labels.n())?;
-    let end_labels = EndLabels::over(labels.as_slice());
-    for number in 0..cut.len() {
-        count_leaving(&mut picks, &end_labels, cut.shard(number).links);
-    }
+    count_leaving(&mut picks, &EndLabels::over(labels.as_slice()), links);
     Ok(picks)
 }
 
-// Counts each link of a shard that leaves a component, for both of its components.
+// Counts each of the links that leaves a component, for both of its components.
 fn count_leaving<A: Allocator>(picks: &mut Picks<A>, labels: &EndLabels, links: &[Link])
     requires labels { AreLabels labels.now }
     requires ends { EndsUpTo (length labels.now) links.now }

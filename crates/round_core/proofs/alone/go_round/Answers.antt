@@ -1,4 +1,4 @@
-use Rattle.std.proofs.Common.{◌≡◌, subst}
+use Rattle.std.proofs.Common.{◌≡◌}
 use Rattle.std.specs.Prelude.{Contains}
 use Rattle.std.proofs.lemmas.Result.{IfOk-weaker, IfErr-weaker}
 use Rattle.links.specs.Cut.{joined}
@@ -9,11 +9,14 @@ use Rattle.round_core.proofs.Missing.{joined_ends}
 use Rattle.round_core.proofs.WholeRounds.{round_of, only_memory}
 use Rattle.round_core.proofs.alone.go_round.Goals as goal
 
+pub pick_all-requires : goal.pick_all-requires
+pick_all-requires g c = record { ends = rw (c.labels.ensures.labels, c.links.ensures) (joined_ends (vertices c.args.solver.now) c.args.cut.now c.requires.ends) }
+
 pub returns-clause-round : goal.returns-clause-round
 returns-clause-round g c =
     let links = joined c.args.cut.now in
     let p : Progress = c.args.solver.now in
-    let are : ArePicks p.labels (Contains links) c.in_ok-picks.picks = subst (λ labels. ArePicks labels (Contains links) c.in_ok-picks.picks) c.labels.ensures.labels c.in_ok-picks.ensures.least in
+    let are : ArePicks p.labels (Contains links) c.in_ok-picks.picks = rw (← c.labels.ensures.labels, ← c.links.ensures) c.in_ok-picks.ensures.least in
     IfOk-weaker c.step.result (IsTurn c.in_ok-picks.picks p c.step.new.self) (IsRoundOf links p c.step.new.self)
     (λ turn is_turn. round_of links p c.in_ok-picks.picks c.labels.ensures.progress (joined_ends (vertices p) c.args.cut.now c.requires.ends) c.requires.so_far are c.step.new.self turn is_turn)
     c.step.ensures.turn
@@ -22,7 +25,7 @@ pub returns-clause-fault : goal.returns-clause-fault
 returns-clause-fault g c =
     let links = joined c.args.cut.now in
     let p : Progress = c.args.solver.now in
-    let are : ArePicks p.labels (Contains links) c.in_ok-picks.picks = subst (λ labels. ArePicks labels (Contains links) c.in_ok-picks.picks) c.labels.ensures.labels c.in_ok-picks.ensures.least in
+    let are : ArePicks p.labels (Contains links) c.in_ok-picks.picks = rw (← c.labels.ensures.labels, ← c.links.ensures) c.in_ok-picks.ensures.least in
     IfErr-weaker c.step.result (IsStepFault p c.in_ok-picks.picks) (λ fault. fault ≡ Memory)
     (λ fault refused. only_memory links p c.in_ok-picks.picks c.labels.ensures.progress (joined_ends (vertices p) c.args.cut.now c.requires.ends) c.requires.so_far are fault refused)
     c.step.ensures.fault
