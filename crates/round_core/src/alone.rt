@@ -1,21 +1,20 @@
 //! The whole run by one thread, which scans the shards itself.
-ghost use Rattle.std.specs.Prelude.{◌≡◌, ◌≤◌, ◌^◌, ◌++◌, max, List, length, All, Contains, IfOk, IfErr};
-ghost use Rattle.links.specs.declared.links.Link.{Link as TheLink};
+ghost use Rattle.std.specs.Prelude.{◌≡◌, ◌≤◌, ◌^◌, max, length, All, IfOk, IfErr};
 ghost use Rattle.links.specs.Labels.{AreLabels};
 ghost use Rattle.links.specs.Cut.{joined};
 ghost use Rattle.links.specs.Forest.{IsForestOf};
 ghost use Rattle.links.specs.Link.{EndsUpTo};
 ghost use Rattle.round_theory.specs.Rounds.{IsMergingRounds};
-ghost use Rattle.round_core.specs.Picks.{ArePicks, ArePicksOfHearings};
+ghost use Rattle.round_core.specs.Picks.{Counts};
 ghost use Rattle.round_core.specs.Solver.{vertices, HasRoundsOf, IsRoundOf};
 ghost use Rattle.round_core.specs.declared.solver.SolveFault.TheVariants.{Memory};
 
 use crate::end_labels::EndLabels;
-use crate::picks::Picks;
+use crate::picks::{Picks, look_up};
 use crate::solver::{SolveFault, Solver, Turn};
 use limits::MAX_VERTICES;
-use links::{Cut, Forest, Labels, Link};
-use std::alloc::{AllocError, Allocator};
+use links::{Cut, Forest, Link};
+use std::alloc::Allocator;
 
 /// The minimum spanning forest of the links of a cut, between the vertices 1 to `n`, and in how many rounds components
 /// were merged.
@@ -57,23 +56,10 @@ fn go_round<A: Allocator + Copy>(
     ensures round { IfOk result (IsRoundOf (joined cut.now) solver.old solver.new) }
     ensures fault { IfErr result (λ fault. fault ≡ Memory) }
 {
-    let picks = pick_all(alloc, cut.links(), solver.labels())?;
-    solver.step(&picks)
-}
-
-// The picks of a round: the least of all links that leave each component.
-fn pick_all<A: Allocator + Copy>(
-    alloc: A,
-    links: &[Link],
-    labels: &Labels<A>,
-) -> Result<Picks<A>, AllocError>
-    requires ends { EndsUpTo (length labels.now) links.now }
-    ensures least { IfOk result (ArePicks labels.now (Contains links.now)) }
-    ensures heard { IfOk result (ArePicksOfHearings labels.now) }
-{
+    let labels = solver.labels();
     let mut picks = Picks::none(alloc, labels.n())?;
-    count_leaving(&mut picks, &EndLabels::over(labels.as_slice()), links);
-    Ok(picks)
+    count_leaving(&mut picks, &EndLabels::over(labels.as_slice()), cut.links());
+    solver.step(&picks)
 }
 
 // Counts each of the links that leaves a component, for both of its components.
@@ -82,14 +68,13 @@ fn count_leaving<A: Allocator>(picks: &mut Picks<A>, labels: &EndLabels, links: 
     requires ends { EndsUpTo (length labels.now) links.now }
     requires each_vertex { length picks.old ≡ length labels.now }
     ensures each_vertex { length picks.new ≡ length picks.old }
-    ensures picks { (seen : List TheLink)
-        → ArePicks labels.now (Contains seen) picks.old → ArePicks labels.now (Contains (seen ++ links.now)) picks.new }
+    ensures picks { Counts labels.now links.now picks.old picks.new }
 {
     for link in links {
         let low = labels.of(link.low);
         let high = labels.of(link.high);
         if low != high {
-            picks.count(labels, *link);
+            picks.count_found(look_up(labels, *link));
         }
     }
 }
