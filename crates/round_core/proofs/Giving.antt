@@ -10,7 +10,7 @@ use Rattle.links.specs.declared.links.Link.{Link}
 use Rattle.links.specs.Labels.{AreLabels}
 use Rattle.round_theory.specs.Offers.{Hearing, IsNamed}
 use Rattle.round_theory.proofs.Labels.{labelling_is_labels}
-use Rattle.round_core.specs.Picks.{pick_of, ArePicks, ArePicksOfHearings, AreNoPicks}
+use Rattle.round_core.specs.Picks.{pick_of, ArePicks, ArePicksOfHearings, AreNoPicks, HaveAllPicks}
 use Rattle.round_core.specs.Roots.{IsRoot, AreRoots, IsLed, IsLedBy, Gives, TakesPicked, IsGiven, AreGiven, CanStep}
 use Rattle.round_core.specs.Solver.{Progress, vertices, IsProgress, IsFirstPickedAt, IsPickedBefore, ArePickedOnce}
 use Rattle.round_core.proofs.Leading.{root_at}
@@ -103,6 +103,11 @@ none_of_roots picks heard labels roots are_labels are_picks are_roots = (to, bac
 pub none_in_progress : (p : Progress) (roots : List ℕ) (picks : List (Option Link)) → IsProgress p → AreRoots p.labels roots → ArePicksOfHearings p.labels picks → All (λ c. pick_of picks c ≡ None) roots ↔ AreNoPicks picks
 none_in_progress p roots picks is are_roots (heard, are) =
     none_of_roots picks heard p.labels roots (labelling_is_labels (vertices p) (Contains p.taken) p.labels is.few_vertices is.labelling) are are_roots
+
+-- only roots have picks
+pub all_at_roots : (p : Progress) (roots : List ℕ) (picks : List (Option Link)) → IsProgress p → AreRoots p.labels roots → ArePicksOfHearings p.labels picks → HaveAllPicks picks roots
+all_at_roots p roots picks is are_roots (heard, are) i l here =
+    (are_roots.exact (i + 1)).1 (root_at p.labels heard picks (labelling_is_labels (vertices p) (Contains p.taken) p.labels is.few_vertices is.labelling) are i l here)
 
 -- behind those taken before stand the links that the first i roots give, and then room for those of the others
 pub record HaveGiven (picks : List (Option Link)) (roots : List ℕ) (i : ℕ) (before items : List Link) (count : ℕ) : Type 0 where

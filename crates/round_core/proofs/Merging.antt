@@ -1,22 +1,25 @@
 -- A solver that takes the picks of a round.
 use Rattle.std.proofs.Common.{◌≡◌, ◌≢◌, ℕ, ◌+◌, ◌<◌, ◌≤◌, ◌^◌, max, ◌↔◌, Bool, true, false, List, [], ◌∷◌, ◌++◌, length, get_or, Contains, Some, None, refl, sym, ap, ◌∙◌, subst, length-append, inl, inr, arith}
-use Rattle.std.specs.Prelude.{Option}
+use Rattle.std.specs.Prelude.{Option, AllPairs, filter, ◌==◌}
 use Rattle.std.specs.List.{AllByRecursion}
 use Rattle.std.proofs.lemmas.Bool.{cases_lt}
 use Rattle.std.proofs.lemmas.Nat.{pow_below}
 use Rattle.std.proofs.lemmas.List.Elements.{Contains-get_or, All-append}
 use Rattle.links.specs.declared.links.Link.{Link}
 use Rattle.links.specs.Link.{EndsUpTo}
-use Rattle.links.specs.Labels.{label_of, AreApart}
+use Rattle.links.specs.Labels.{label_of, AreLabels, AreApart}
 use Rattle.links.proofs.Members.{contains_none}
-use Rattle.round_theory.specs.LinkSet.{LinkSet, IsPartOf, SameLinks}
+use Rattle.round_theory.specs.LinkSet.{LinkSet, IsPartOf, SameLinks, HasNoCycle}
 use Rattle.round_theory.specs.Labelling.{IsLabelling, JoinsOver, IsRelabelling}
 use Rattle.round_theory.specs.Offers.{IsPick, Hearing, IsNamed}
+use Rattle.round_theory.proofs.Labels.{labelling_is_labels}
 use Rattle.round_theory.proofs.Relabelling.{apart_by_no_links}
 use Rattle.round_theory.proofs.RoundSteps.{all_pairs_append}
 use Rattle.round_theory.proofs.Steps.{relabelled_by_steps, added_close_no_cycle, pick_is_new}
 use Rattle.round_core.specs.Picks.{Picked, ArePicks, ArePicksOfHearings, AreNoPicks}
 use Rattle.round_core.specs.Solver.{Progress, vertices, IsProgress, IsPastBound, ArePickedOnce, IsMerged}
+use Rattle.round_core.specs.Roots.{AreRoots}
+use Rattle.round_core.proofs.Naming.{kept_roots}
 use Rattle.round_core.proofs.Picking.{place_of, least_at, each_once}
 
 -- so few rounds that the next one's number fits, and its power of two
@@ -61,35 +64,49 @@ picked_is_pick labels heard picks l are picked =
     let (i, here) = place_of picks l picked in
     (i + 1, (least_at labels heard picks i l are here).least)
 
--- the picks join what they pick; they close no cycle and are new, whatever was heard
-pub merged : (p : Progress) (picks : List (Option Link)) (labels : List ℕ) (links : List Link) → IsProgress p → ArePicksOfHearings p.labels picks → ArePickedOnce picks links
-    → IsRelabelling (vertices p) p.labels (Picked picks) labels → 2 ^ (p.rounds + 1) ≤ max 1 (vertices p)
-    → IsLabelling (vertices p) (Contains (p.taken ++ links)) labels × IsProgress (record { labels = labels; taken = p.taken ++ links; rounds = p.rounds + 1 })
-merged p picks labels links is (heard, are) once joined in_time = (
-  labelling,
-  record {
+picked_part : (labels : List ℕ) (heard : List Hearing) (picks : List (Option Link)) (links : List Link) → ArePicks labels (IsNamed heard) picks → ArePickedOnce picks links → IsPartOf (Contains links) (IsPick labels (IsNamed heard))
+picked_part labels heard picks links are once l l_in = picked_is_pick labels heard picks l are ((once.exact l).0 l_in)
+
+picked_ends : (labels : List ℕ) (heard : List Hearing) (picks : List (Option Link)) (links : List Link) → ArePicks labels (IsNamed heard) picks → ArePickedOnce picks links → EndsUpTo (length labels) links
+picked_ends labels heard picks links are once i d lt = are.ends (get_or links i d) ((once.exact (get_or links i d)).0 (Contains-get_or links i d lt))
+
+-- the picks join what they pick
+merged : (p : Progress) (picks : List (Option Link)) (labels : List ℕ) (links : List Link) → IsProgress p → ArePicksOfHearings p.labels picks → ArePickedOnce picks links
+    → IsRelabelling (vertices p) p.labels (Picked picks) labels → IsLabelling (vertices p) (Contains (p.taken ++ links)) labels
+merged p picks labels links is (heard, are) once joined =
+    (relabelled_by_steps (vertices p) p.taken links p.labels is.ends (picked_ends p.labels heard picks links are once) is.labelling labels).1
+    (relabelling_alike (vertices p) p.labels labels (Picked picks) (Contains links) (λ l. ((once.exact l).1, (once.exact l).0)) joined)
+
+-- The links that a step took close no cycle and are new, whatever was heard; and what was a root and still labels itself is one.
+module _ (p q : Progress) (picks : List (Option Link)) (count : ℕ) (is : IsProgress p) (heard : List Hearing) (are : ArePicks p.labels (IsNamed heard) picks) (to : IsMerged picks count p q) where
+  abbrev long : length q.labels ≡ vertices p
+  long = to.labelling.each_vertex
+
+  abbrev part : IsPartOf (Contains to.added) (IsPick p.labels (IsNamed heard))
+  part = picked_part p.labels heard picks to.added are to.picked
+
+  abbrev links_ends : EndsUpTo (vertices p) to.added
+  links_ends = picked_ends p.labels heard picks to.added are to.picked
+
+  pub goes_on : IsProgress q
+  goes_on = record {
     few_vertices = omega (arith, long, is.few_vertices);
-    ends = subst (λ m. EndsUpTo m (p.taken ++ links)) (sym long) (All-append (λ (l : Link). l.high ≤ vertices p) p.taken links is.ends links_ends);
-    labelling = subst (λ m. IsLabelling m (Contains (p.taken ++ links)) labels) (sym long) labelling;
-    each_once = all_pairs_append (λ l m. l ≢ m) p.taken links is.each_once (each_once picks links once) (λ l m l_in m_in same.
-        (pick_is_new (IsNamed heard) (vertices p) p.taken p.labels is.ends is.labelling m (part m m_in)).1 (subst (Contains p.taken) same l_in));
-    no_cycle = added_close_no_cycle (IsNamed heard) (vertices p) p.taken links p.labels is.ends is.labelling is.no_cycle part;
-    in_time = subst (λ m. 2 ^ (p.rounds + 1) ≤ max 1 m) (sym long) in_time;
-  },
-)
-  where
-    long : length labels ≡ vertices p
-    long = joined.each_vertex
+    ends = rw (long, to.taken) (All-append (λ (l : Link). l.high ≤ vertices p) p.taken to.added is.ends links_ends);
+    labelling = subst (λ m. IsLabelling m (Contains q.taken) q.labels) (sym long) to.labelling;
+    each_once = subst (λ (xs : List Link). AllPairs (λ l m. l ≢ m) xs) (sym to.taken) (all_pairs_append (λ l m. l ≢ m) p.taken to.added is.each_once (each_once picks to.added to.picked) (λ l m l_in m_in same.
+        (pick_is_new (IsNamed heard) (vertices p) p.taken p.labels is.ends is.labelling m (part m m_in)).1 (subst (Contains p.taken) same l_in)));
+    no_cycle = subst (λ (xs : List Link). HasNoCycle (Contains xs)) (sym to.taken) (added_close_no_cycle (IsNamed heard) (vertices p) p.taken to.added p.labels is.ends is.labelling is.no_cycle part);
+    in_time = subst (λ m. 2 ^ q.rounds ≤ max 1 m) (sym long) to.in_time;
+  }
 
-    links_ends : EndsUpTo (vertices p) links
-    links_ends i d lt = are.ends (get_or links i d) ((once.exact (get_or links i d)).0 (Contains-get_or links i d lt))
-
-    part : IsPartOf (Contains links) (IsPick p.labels (IsNamed heard))
-    part l l_in = picked_is_pick p.labels heard picks l are ((once.exact l).0 l_in)
-
-    labelling : IsLabelling (vertices p) (Contains (p.taken ++ links)) labels
-    labelling = (relabelled_by_steps (vertices p) p.taken links p.labels is.ends links_ends is.labelling labels).1
-        (relabelling_alike (vertices p) p.labels labels (Picked picks) (Contains links) (λ l. ((once.exact l).1, (once.exact l).0)) joined)
+  pub roots_after : (roots : List ℕ) → AreRoots p.labels roots → AreRoots q.labels (filter (λ c. label_of q.labels c == c) roots)
+  roots_after roots are_roots = kept_roots p.labels roots q.labels picks (labels_of p is) (labels_of q goes_on) are_roots
+      (relabelling_alike (vertices p) p.labels q.labels (Contains to.added) (Picked picks) to.picked.exact
+      ((relabelled_by_steps (vertices p) p.taken to.added p.labels is.ends links_ends is.labelling q.labels).0
+      (subst (λ (xs : List Link). IsLabelling (vertices p) (Contains xs) q.labels) to.taken to.labelling)))
+    where
+      labels_of : (r : Progress) → IsProgress r → AreLabels r.labels
+      labels_of r is_r = labelling_is_labels (vertices r) (Contains r.taken) r.labels is_r.few_vertices is_r.labelling
 
 -- where there are picks, some link is taken
 pub some_taken : (picks : List (Option Link)) (links : List Link) → ¬ (AreNoPicks picks) → ArePickedOnce picks links → 0 < length links
@@ -122,7 +139,7 @@ is_merged p picks labels links taken count r is are decides fails once joined in
   number = sym number;
   picked = once;
   taken = taken_is;
-  labelling = subst (λ xs. IsLabelling (vertices p) (Contains xs) labels) (sym taken_is) (merged p picks labels links is are once joined in_time).0;
+  labelling = subst (λ xs. IsLabelling (vertices p) (Contains xs) labels) (sym taken_is) (merged p picks labels links is are once joined);
   rounds = refl;
   in_time = in_time;
 }

@@ -20,6 +20,10 @@ pub record Progress : Type 0 where
   pub taken : List Link
   pub rounds : ℕ
 
+-- how far a solver of these parts has come
+abbrev pub so_far : List ℕ → List Link → ℕ → Progress
+so_far labels taken rounds = record { labels = labels; taken = taken; rounds = rounds }
+
 -- the number of vertices
 abbrev pub vertices : Progress → ℕ
 vertices p = length p.labels

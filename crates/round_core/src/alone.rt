@@ -1,21 +1,20 @@
 //! The whole run by one thread, which scans the shards itself.
-ghost use Rattle.std.specs.Prelude.{◌≡◌, ◌≤◌, ◌^◌, ◌++◌, max, List, length, All, Contains, IfOk, IfErr};
-ghost use Rattle.links.specs.declared.links.Link.{Link as TheLink};
+ghost use Rattle.std.specs.Prelude.{◌≡◌, ◌≤◌, ◌^◌, max, length, All, IfOk, IfErr};
 ghost use Rattle.links.specs.Labels.{AreLabels};
 ghost use Rattle.links.specs.Cut.{joined};
 ghost use Rattle.links.specs.Forest.{IsForestOf};
 ghost use Rattle.links.specs.Link.{EndsUpTo};
 ghost use Rattle.round_theory.specs.Rounds.{IsMergingRounds};
-ghost use Rattle.round_core.specs.Picks.{ArePicks, ArePicksOfHearings};
+ghost use Rattle.round_core.specs.Picks.{Counts};
 ghost use Rattle.round_core.specs.Solver.{vertices, HasRoundsOf, IsRoundOf};
 ghost use Rattle.round_core.specs.declared.solver.SolveFault.TheVariants.{Memory};
 
 use crate::end_labels::EndLabels;
-use crate::picks::Picks;
+use crate::picks::{Picks, look_up};
 use crate::solver::{SolveFault, Solver, Turn};
 use limits::MAX_VERTICES;
-use links::{Cut, Forest, Labels, Link};
-use std::alloc::{AllocError, Allocator};
+use links::{Cut, Forest, Link};
+use std::alloc::Allocator;
 
 /// The minimum spanning forest of the links of a cut, between the vertices 1 to `n`, and in how many rounds components
 /// were merged.
@@ -23,10 +22,10 @@ use std::alloc::{AllocError, Allocator};
 /// These are Borůvka's rounds (1926): each component picks the least link that leaves it, and what the picks join is one
 /// component in the next round. The only error is want of memory.
 ///
-/// There are at most log2 n + 1 rounds, the last of which picks nothing. For m links in s shards a round costs
-/// O(m + s + n) time and what [`Solver::step`](crate::Solver::step) does: each link of each shard counts for both of the
-/// components that it leaves. Memory: 48 bytes a vertex for labels, picks, links and what a step needs, and 4 more while it
-/// makes new labels; at the end 16 for each link in the forest.
+/// There are at most log2 n + 1 rounds, the last of which picks nothing. For m links a round costs O(m + n)
+/// time and what [`Solver::step`](crate::Solver::step) does: each link of each shard counts for both of the components
+/// that it leaves. Memory: 48 bytes a vertex for labels, picks, links and what a step needs; at the end 16 for each
+/// link in the forest, in place of the picks.
 pub fn solve_alone<A: Allocator + Copy>(
     alloc: A,
     n: u32,
@@ -46,7 +45,7 @@ pub fn solve_alone<A: Allocator + Copy>(
     Ok((forest, rounds))
 }
 
-// One round: the picks of all shards, and the solver's step by them.
+// One round: the picks of all links, and the solver's step by them.
 fn go_round<A: Allocator + Copy>(
     alloc: A,
     cut: &Cut<A>,
@@ -57,42 +56,25 @@ fn go_round<A: Allocator + Copy>(
     ensures round { IfOk result (IsRoundOf (joined cut.now) solver.old solver.new) }
     ensures fault { IfErr result (λ fault. fault ≡ Memory) }
 {
-    let picks = pick_all(alloc, cut, solver.labels())?;
+    let labels = solver.labels();
+    let mut picks = Picks::none(alloc, labels.n())?;
+    count_leaving(&mut picks, &EndLabels::over(labels.as_slice()), cut.links());
     solver.step(&picks)
 }
 
-// The picks of a round: the least of all links that leave each component.
-fn pick_all<A: Allocator + Copy>(
-    alloc: A,
-    cut: &Cut<A>,
-    labels: &Labels<A>,
-) -> Result<Picks<A>, AllocError>
-    requires ends { All (EndsUpTo (length labels.now)) cut.now }
-    ensures least { IfOk result (ArePicks labels.now (Contains (joined cut.now))) }
-    ensures heard { IfOk result (ArePicksOfHearings labels.now) }
-{
-    let mut picks = Picks::none(alloc, labels.n())?;
-    let end_labels = EndLabels::over(labels.as_slice());
-    for number in 0..cut.len() {
-        count_leaving(&mut picks, &end_labels, cut.shard(number).links);
-    }
-    Ok(picks)
-}
-
-// Counts each link of a shard that leaves a component, for both of its components.
+// Counts each of the links that leaves a component, for both of its components.
 fn count_leaving<A: Allocator>(picks: &mut Picks<A>, labels: &EndLabels, links: &[Link])
     requires labels { AreLabels labels.now }
     requires ends { EndsUpTo (length labels.now) links.now }
     requires each_vertex { length picks.old ≡ length labels.now }
     ensures each_vertex { length picks.new ≡ length picks.old }
-    ensures picks { (seen : List TheLink)
-        → ArePicks labels.now (Contains seen) picks.old → ArePicks labels.now (Contains (seen ++ links.now)) picks.new }
+    ensures picks { Counts labels.now links.now picks.old picks.new }
 {
     for link in links {
         let low = labels.of(link.low);
         let high = labels.of(link.high);
         if low != high {
-            picks.count(labels, *link);
+            picks.count_found(look_up(labels, *link));
         }
     }
 }

@@ -23,6 +23,7 @@ pub fn hook_relabel<A: Allocator + Copy>(
     ensures relabelled { IfOk result (IsRelabelling (length labels.now) labels.now (Picked picks.now)) }
 {
     let mut roots = Roots::of_labels(alloc, labels)?;
-    let mut taken = Vec::new(alloc);
-    roots.merge(labels, picks, &mut taken)
+    let mut new = Labels::of_known(Vec::from_slice(alloc, labels.as_slice())?);
+    roots.merge(&mut new, picks, &mut Vec::new(alloc))?;
+    Ok(new)
 }

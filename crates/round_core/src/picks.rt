@@ -150,19 +150,6 @@ impl<A: Allocator> Picks<A> {
         pick_of_number(self.numbers[before])
     }
 
-    // Counts a link for both of the components that it leaves.
-    #[inline]
-    pub(crate) fn count(&mut self, labels: &EndLabels, link: Link)
-        requires labels { AreLabels labels.now }
-        requires ends { link.high ≤ length labels.now }
-        requires each_vertex { length self.old ≡ length labels.now }
-        requires leaving { label_of labels.now link.low ≢ label_of labels.now link.high }
-        ensures each_vertex { length self.new ≡ length self.old }
-        ensures picks { Counts labels.now (link ∷ []) self.old self.new }
-    {
-        self.count_found(look_up(labels, link));
-    }
-
     // Counts each link that was looked up.
     pub(crate) fn count_each(&mut self, found: &[LookedUp])
         requires within { All (IsCountable (length self.old)) found.now }
@@ -188,7 +175,7 @@ impl<A: Allocator> Picks<A> {
 
     // Counts a link that was looked up for both of the components that it leaves.
     #[inline]
-    fn count_found(&mut self, found: LookedUp)
+    pub(crate) fn count_found(&mut self, found: LookedUp)
         requires within { IsCountable (length self.old) found }
         ensures each_vertex { length self.new ≡ length self.old }
         ensures picks { CountsFound found self.old self.new }

@@ -1,6 +1,6 @@
-ghost use Rattle.std.specs.Prelude.{◌≡◌, ℕ, List, Option, ◌+◌, ◌<◌, ◌≤◌, ◌==◌, ◌↔◌, [], length, filter, slice_index, vec_capacity, All, AllPairs, Contains, None, EachIndex, IsTrue, IfOk, OnOk, OnErr, false};
+ghost use Rattle.std.specs.Prelude.{◌≡◌, ℕ, List, Option, ◌+◌, ◌<◌, ◌≤◌, ◌==◌, ◌↔◌, length, filter, slice_index, All, AllPairs, Contains, None, EachIndex, IsTrue, IfOk, OnOk, OnErr, false};
 ghost use Rattle.links.specs.declared.links.Link.{Link as TheLink};
-ghost use Rattle.links.specs.Labels.{label_of, renamed, AreLabels, AreApart};
+ghost use Rattle.links.specs.Labels.{label_of, AreLabels, AreApart};
 ghost use Rattle.round_theory.specs.Labelling.{IsVertex, IsRelabelling};
 ghost use Rattle.round_theory.specs.Offers.{Leaves};
 ghost use Rattle.round_core.specs.Picks.{pick_of, Picked, AreNoPicks, HaveAllPicks, ArePicksOfHearings};
@@ -70,45 +70,18 @@ impl<A: Allocator + Copy> Roots<A> {
     }
 
     // Merges the components that the picks join. The links picked go behind those taken before, each once, in the order of
-    // the least roots that pick them; and the labels of the next round, as `hook_relabel` gives them: for k roots of n
+    // the least roots that pick them; and the new labels are written over the old ones, whose roots stay: for k roots of n
     // vertices in O(n + k log k) time.
     pub(crate) fn merge(
         &mut self,
-        labels: &Labels<A>,
-        picks: &Picks<A>,
-        taken: &mut Vec<Link, A>,
-    ) -> Result<Labels<A>, AllocError>
-        requires roots { AreRoots labels.now self.old }
-        requires picks { ArePicksOfHearings labels.now picks.now }
-        ensures once { OnOk result (TakesPicked picks.now (length self.old) taken.old.items taken.new.items) }
-        ensures relabelled { IfOk result (IsRelabelling (length labels.now) labels.now (Picked picks.now)) }
-        ensures not_taken { OnErr result (taken.new.items ≡ taken.old.items) }
-        ensures same { self.new ≡ self.old }
-    {
-        let picking = Picking {
-            labels: labels.as_slice(),
-            roots: &self.roots,
-            picks,
-        };
-        let new = Vec::with_capacity(*taken.allocator(), picking.labels.len())?;
-        take_and_name(picking, taken, &mut self.parents, &mut self.least)?;
-        Ok(Labels::of_known(labels_by(new, picking.labels, &self.parents)))
-    }
-
-    // The same, but the new labels are written over the old ones, and in the end no vertex has a pick.
-    pub(crate) fn merge_in_place(
-        &mut self,
         labels: &mut Labels<A>,
-        picks: &mut Picks<A>,
+        picks: &Picks<A>,
         taken: &mut Vec<Link, A>,
     ) -> Result<(), AllocError>
         requires roots { AreRoots labels.old self.old }
-        requires picks { ArePicksOfHearings labels.old picks.old }
-        ensures once { OnOk result (TakesPicked picks.old (length self.old) taken.old.items taken.new.items) }
-        ensures relabelled { OnOk result (IsRelabelling (length labels.old) labels.old (Picked picks.old) labels.new) }
-        ensures none { OnOk result (AreNoPicks picks.new) }
-        ensures room { OnOk result (length picks.new ≡ length picks.old) }
-        ensures kept { OnErr result (picks.new ≡ picks.old) }
+        requires picks { ArePicksOfHearings labels.old picks.now }
+        ensures once { OnOk result (TakesPicked picks.now (length self.old) taken.old.items taken.new.items) }
+        ensures relabelled { OnOk result (IsRelabelling (length labels.old) labels.old (Picked picks.now) labels.new) }
         ensures not_taken { OnErr result (taken.new.items ≡ taken.old.items) }
         ensures labels { OnErr result (labels.new ≡ labels.old) }
         ensures same { self.new ≡ self.old }
@@ -119,7 +92,6 @@ impl<A: Allocator + Copy> Roots<A> {
             picks,
         };
         take_and_name(picking, taken, &mut self.parents, &mut self.least)?;
-        picks.clear_each(&self.roots);
         labels.rename(&self.parents);
         Ok(())
     }
@@ -132,6 +104,15 @@ impl<A: Allocator> Roots<A> {
         ensures { IsTrue result ↔ All (λ c. pick_of picks.now c ≡ None) self.now }
     {
         have_no_picks(&self.roots, picks)
+    }
+
+    // Leaves the roots without a pick. Where no other vertex has one, none is left.
+    pub(crate) fn clear(&self, picks: &mut Picks<A>)
+        requires { All (IsVertex (length picks.old)) self.now }
+        ensures each_vertex { length picks.new ≡ length picks.old }
+        ensures none { HaveAllPicks picks.old self.now → AreNoPicks picks.new }
+    {
+        picks.clear_each(&self.roots);
     }
 
     // Keeps the roots that label themselves under these labels too.
@@ -331,19 +312,6 @@ fn find_least(roots: &[u32], parents: &[u32], least: &mut [u32])
         let root = roots[roots.len() - 1 - done];
         least[parents[root as usize] as usize] = root;
     }
-}
-
-// For each vertex the name of its label, into room for them.
-fn labels_by<A: Allocator>(mut new: Vec<u32, A>, labels: &[u32], names: &[u32]) -> Vec<u32, A>
-    requires within { All (λ c. c < length names.now) labels.now }
-    requires none { new.items ≡ [] }
-    requires room { length labels.now ≤ vec_capacity new }
-    ensures { result.items ≡ renamed names.now labels.now }
-{
-    for label in labels {
-        new.push_reserved(names[*label as usize]);
-    }
-    new
 }
 
 // Where its pick leads a root, what it picks, and whether it takes that.

@@ -1,11 +1,10 @@
 //! The solver of a coordinator: it takes the picks of round after round, and is finished where the links taken span.
-ghost use Rattle.std.specs.Prelude.{◌≡◌, ◌≢◌, ℕ, ◌+◌, ◌-◌, ◌<◌, ◌≤◌, ◌^◌, ◌↔◌, max, length, slice_index_or, All, AllPairs, Some, None, IsTrue, IfOk, IfErr, OnErr, OnOk};
-ghost use Rattle.std.specs.List.Sorted.{IsPermutation};
-ghost use Rattle.links.specs.Link.{EndsUpTo, IsAscending};
-ghost use Rattle.links.specs.Labels.{AreLabels};
+ghost use Rattle.std.specs.Prelude.{◌≡◌, ◌+◌, ◌-◌, ◌<◌, ◌≤◌, ◌^◌, ◌↔◌, max, length, All, Some, IsTrue, IfOk, IfErr, OnErr, OnOk};
+ghost use Rattle.links.specs.Link.{EndsUpTo};
 ghost use Rattle.links.specs.Cut.{joined};
 ghost use Rattle.round_core.specs.Picks.{AreNoPicks, ArePicksOfHearings};
-ghost use Rattle.round_core.specs.Solver.{vertices, missed, IsProgress, IsAtStart, IsPastBound, IsFirstPickedAt, ArePickedOnce, IsTurn, IsStepFault, IsFinished, IsFinishFault};
+ghost use Rattle.round_core.specs.Roots.{AreRoots};
+ghost use Rattle.round_core.specs.Solver.{vertices, so_far, missed, IsProgress, IsAtStart, IsPastBound, IsTurn, IsStepFault, IsFinished, IsFinishFault};
 ghost use Rattle.round_core.specs.declared.solver.SolveFault.TheVariants.{Memory};
 
 use crate::missed::first_missed;
@@ -101,35 +100,30 @@ impl<A: Allocator + Copy> Solver<A> {
     /// for. After an error the solver is as it was.
     ///
     /// It looks at the picks of the k vertices that are their own label, and once at each of n vertices: O(n + k log k)
-    /// time. Memory: 4 bytes a vertex for the new labels, and from the first step that takes links on 24 more a vertex that
-    /// stay: all links of the run have room there.
+    /// time. The new labels are written over the old ones, with their bytes where these are kept. Memory: from the first step
+    /// that takes links on 24 bytes a vertex that stay: all links of the run have room there.
     pub fn step(&mut self, picks: &Picks<A>) -> Result<Turn, SolveFault>
         requires picks { ArePicksOfHearings self.old.labels picks.now }
         ensures turn { IfOk result (IsTurn picks.now self.old self.new) }
         ensures fault { IfErr result (IsStepFault self.old picks.now) }
         ensures same { OnErr result (self.new ≡ self.old) }
     {
-        if self.has_no_picks(picks) {
-            return Ok(Turn::Done);
-        }
-        let round = self.rounds + 1;
-        if is_past_bound(round, self.labels.n()) {
-            return Err(SolveFault::Rounds { round });
-        }
-        let before = self.taken.len();
-        let labels = self.roots.merge(&self.labels, picks, &mut self.taken)?;
-        let count = (self.taken.len() - before) as u32;
-        self.roots.keep(labels.as_slice());
-        self.labels = labels;
-        self.rounds = round;
-        Ok(Turn::Merged(count))
+        let turn = merge_by(
+            picks,
+            &mut self.roots,
+            &mut self.labels,
+            &mut self.taken,
+            &mut self.rounds,
+        )?;
+        let Turn::Merged(_) = turn else {
+            return Ok(turn);
+        };
+        self.roots.keep(self.labels.as_slice());
+        Ok(turn)
     }
 
-    /// The same as [`step`](Solver::step) in the room that there is: the new labels are written over the old ones, with their
-    /// bytes where these are kept; and each pick is let go of, so that a book can be opened over the picks
-    /// ([`RoundBook::open_over`](crate::RoundBook::open_over)) without clearing them.
-    ///
-    /// It takes the memory that `step` does, but for new labels. After an error the picks are as they were too.
+    /// The same as [`step`](Solver::step), and each pick is let go of, so that a book can be opened over the picks
+    /// ([`RoundBook::open_over`](crate::RoundBook::open_over)) without clearing them. After an error they are as they were.
     pub fn step_in_place(&mut self, picks: &mut Picks<A>) -> Result<Turn, SolveFault>
         requires picks { ArePicksOfHearings self.old.labels picks.old }
         ensures turn { IfOk result (IsTurn picks.old self.old self.new) }
@@ -139,24 +133,23 @@ impl<A: Allocator + Copy> Solver<A> {
         ensures room { OnOk result (length picks.new ≡ length picks.old) }
         ensures kept { OnErr result (picks.new ≡ picks.old) }
     {
-        if self.has_no_picks(&*picks) {
-            return Ok(Turn::Done);
-        }
-        let round = self.rounds + 1;
-        if is_past_bound(round, self.labels.n()) {
-            return Err(SolveFault::Rounds { round });
-        }
-        let earlier = self.taken.len();
-        self.roots
-            .merge_in_place(&mut self.labels, picks, &mut self.taken)?;
-        let count = (self.taken.len() - earlier) as u32;
+        let turn = merge_by(
+            &*picks,
+            &mut self.roots,
+            &mut self.labels,
+            &mut self.taken,
+            &mut self.rounds,
+        )?;
+        let Turn::Merged(_) = turn else {
+            return Ok(turn);
+        };
+        self.roots.clear(picks);
         self.roots.keep(self.labels.as_slice());
-        self.rounds += 1;
-        Ok(Turn::Merged(count))
+        Ok(turn)
     }
 
     /// Keeps the bytes of the labels beside them ([`Labels::spell`]), for all who are asked under them: 4 bytes a vertex. A
-    /// step in place keeps them so, another lets go of them. The only error is want of memory; then they are not kept.
+    /// step keeps them so. The only error is want of memory; then they are not kept.
     pub fn spell_labels(&mut self) -> Result<(), AllocError>
         ensures { self.new ≡ self.old }
     {
@@ -176,7 +169,8 @@ impl<A: Allocator + Copy> Solver<A> {
         if let Some(link) = self.first_missed(cut) {
             return Err(SolveFault::Missed { link });
         }
-        Ok(in_key_order(*self.taken.allocator(), self.taken.as_slice())?)
+        let taken = Vec::from_slice(*self.taken.allocator(), self.taken.as_slice())?;
+        Ok(Forest::of_distinct(taken))
     }
 
     /// The same, but the threads of [`Forest::of_distinct_par`] sort. It takes the solver, at a fault too, and copies no link
@@ -223,14 +217,35 @@ impl<A: Allocator> Solver<A> {
     {
         first_missed(self.labels.as_slice(), cut.links())
     }
+}
 
-    // Whether there are no picks: only roots have any.
-    fn has_no_picks(&self, picks: &Picks<A>) -> bool
-        requires { ArePicksOfHearings self.now.labels picks.now }
-        ensures { IsTrue result ↔ AreNoPicks picks.now }
-    {
-        self.roots.have_no_picks(picks)
+// Takes the picks of a round over the parts of a solver. The roots stay those of the old labels: only they have picks.
+fn merge_by<A: Allocator + Copy>(
+    picks: &Picks<A>,
+    roots: &mut Roots<A>,
+    labels: &mut Labels<A>,
+    taken: &mut Vec<Link, A>,
+    rounds: &mut u32,
+) -> Result<Turn, SolveFault>
+    requires progress { IsProgress (so_far labels.old taken.old.items rounds.old) }
+    requires roots { AreRoots labels.old roots.old }
+    requires picks { ArePicksOfHearings labels.old picks.now }
+    ensures turn { IfOk result (IsTurn picks.now (so_far labels.old taken.old.items rounds.old) (so_far labels.new taken.new.items rounds.new)) }
+    ensures fault { IfErr result (IsStepFault (so_far labels.old taken.old.items rounds.old) picks.now) }
+    ensures same { OnErr result (so_far labels.new taken.new.items rounds.new ≡ so_far labels.old taken.old.items rounds.old) }
+    ensures roots { roots.new ≡ roots.old }
+{
+    if roots.have_no_picks(picks) {
+        return Ok(Turn::Done);
     }
+    let round = *rounds + 1;
+    if is_past_bound(round, labels.n()) {
+        return Err(SolveFault::Rounds { round });
+    }
+    let before = taken.len();
+    roots.merge(labels, picks, taken)?;
+    *rounds = round;
+    Ok(Turn::Merged((taken.len() - before) as u32))
 }
 
 // Whether so many merging rounds are more than n vertices can have.
@@ -239,14 +254,4 @@ fn is_past_bound(round: u32, n: u32) -> bool
     ensures { IsTrue result ↔ IsPastBound n round }
 {
     1 << round > n.max(1)
-}
-
-// The links in the order of their keys.
-fn in_key_order<A: Allocator + Copy>(alloc: A, links: &[Link]) -> Result<Forest<A>, AllocError>
-    requires each_once { AllPairs (λ l m. l ≢ m) links.now }
-    ensures same { IfOk result (λ forest. IsPermutation links.now forest) }
-    ensures ascending { IfOk result IsAscending }
-{
-    let kept = Vec::from_slice(alloc, links)?;
-    Ok(Forest::of_distinct(kept))
 }

@@ -194,8 +194,7 @@ fn picks_over<'a>(
     picks_of(rt, memory, book, offered)
 }
 
-// The solver's labels keep their bytes until a step makes others. Where they find no memory for them, they are as before;
-// either way the solver is.
+// The solver's labels keep their bytes. Where they find no memory for them, they are as before; either way the solver is.
 fn expect_spelled<'a>(rt: &impl Abort, solver: &mut Solver<&'a Memory>) -> Result<(), AllocError> {
     let round = solver.round();
     if solver.spell_labels().is_err() {

@@ -232,8 +232,8 @@ fn allowed(call: Call, list: List, links: u64) -> u64 {
         Call::Book => vertices.wrapping_mul(16).wrapping_add(4 * 41),
         Call::ForestOf | Call::Components => to_solve(list, links),
         Call::PlainForest => links.wrapping_mul(16).wrapping_add(to_solve(list, links)),
-        // what its book and its step take, 60 at most, or at the end the labels and the links, taken twice
-        Call::SolveAlone => vertices.wrapping_mul(60).wrapping_add(4 * 8),
+        // labels, picks, links and what a step takes
+        Call::SolveAlone => vertices.wrapping_mul(48).wrapping_add(4 * 8),
         // 16, in a list that is half empty at most, and beside it the one that it grew from
         Call::Parse => links.wrapping_mul(48),
     }
@@ -279,7 +279,7 @@ fn bytes_of_one_link_between_a_million_vertices(rt: HostRuntime) {
         (Call::PlainForest, 12, 29),
         (Call::Components, 12, 13),
         (Call::Solver, 8, 0),
-        (Call::SolveAlone, 52, 128),
+        (Call::SolveAlone, 48, 128),
         (Call::Parse, 0, 64),
     ];
     let links = links_in(&rt, rt.alloc(), list);

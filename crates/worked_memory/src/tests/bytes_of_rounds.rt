@@ -64,8 +64,8 @@ fn picks_over<'a>(
     book.close()
 }
 
-// A step takes 4 bytes a vertex for the labels that it makes, and the first one 24 more, which stay: those of the links, of
-// their numbers and of the least vertices. The end takes 16 for each link of the forest.
+// The first step takes 24 bytes a vertex, which stay: those of the links, of their numbers and of the least vertices. The
+// later ones take none. The end takes 16 for each link of the forest.
 fn expect_steps<'a>(rt: &impl Abort, memory: &'a Memory, cut: &Cut<&'a Memory>, list: List) {
     let n = list.n;
     assert!(rt; n <= 1 << 26);
@@ -75,9 +75,7 @@ fn expect_steps<'a>(rt: &impl Abort, memory: &'a Memory, cut: &Cut<&'a Memory>, 
         let picks = picks_over(rt, memory, cut, solver.labels());
         let before = memory.watch();
         let turn = solver.step(&picks).expect(rt, "a turn");
-        let most = u64::from(n)
-            .wrapping_mul(stays.wrapping_add(4))
-            .wrapping_add(8);
+        let most = u64::from(n).wrapping_mul(stays).wrapping_add(8);
         expect_at_most(rt, "step", list, most_beside(memory, before), most);
         if turn == Turn::Done {
             break;
@@ -91,7 +89,7 @@ fn expect_steps<'a>(rt: &impl Abort, memory: &'a Memory, cut: &Cut<&'a Memory>, 
     expect_at_most(rt, "finish", list, most_beside(memory, before), most);
 }
 
-// A step in the room that there is takes no new labels, and its end no copy of the links.
+// So it is with a step that lets go of the picks. The end that takes the solver copies no link.
 fn expect_steps_par<'a>(
     rt: &(impl Abort + Threads + Sync),
     memory: &'a Memory,

@@ -27,11 +27,6 @@ struct Rounds<'a> {
     forest: &'a [Row],
 }
 
-// How many bytes of the labels are kept, where they are.
-fn bytes_kept(labels: &Labels) -> Option<usize> {
-    labels.spelled().map(|bytes| bytes.len())
-}
-
 // The picks of the solver's next round, where the cut's shards are scanned in this order.
 fn next_picks(rt: &impl Abort, alloc: Global, cut: &Cut, order: &[u32], solver: &Solver) -> Picks
     ensures heard { ArePicksOfHearings solver.now.labels result }
@@ -41,7 +36,7 @@ fn next_picks(rt: &impl Abort, alloc: Global, cut: &Cut, order: &[u32], solver: 
     picks_of_scans(rt, alloc, book, order)
 }
 
-// A round whose shards are scanned in this order. The labels keep their bytes from its beginning until others are made.
+// A round whose shards are scanned in this order. The labels keep their bytes from its beginning on, the new ones theirs.
 fn step(rt: &impl Abort, alloc: Global, cut: &Cut, order: &[u32], solver: &mut Solver) -> Turn {
     let before = solver
         .labels()
@@ -50,16 +45,14 @@ fn step(rt: &impl Abort, alloc: Global, cut: &Cut, order: &[u32], solver: &mut S
         .expect(rt, "memory");
     solver.spell_labels().expect(rt, "memory");
     expect_same(rt, solver.labels().as_slice() == before.as_slice(), true);
-    let bytes = Some(before.len().wrapping_mul(4));
-    expect_same(rt, bytes_kept(solver.labels()), bytes);
+    expect_same(rt, have_their_bytes(solver.labels()), true);
     let picks = next_picks(rt, alloc, cut, order, solver);
     let turn = solver.step(&picks).expect(rt, "a turn");
-    let keeps_none = bytes_kept(solver.labels()).is_none();
-    expect_same(rt, turn == Turn::Done || keeps_none, true);
+    expect_same(rt, have_their_bytes(solver.labels()), true);
     turn
 }
 
-// A step in place does what another does, keeps the labels' bytes as those of the labels, and leaves no pick.
+// A step that lets go of the picks does what another does, keeps the labels' bytes as theirs, and leaves no pick.
 fn expect_same_step(
     rt: &impl Abort,
     alloc: Global,
@@ -95,7 +88,7 @@ fn have_their_bytes(labels: &Labels) -> bool {
     rest.is_empty()
 }
 
-// All steps over a path of so many vertices, in place and not, and the forests at their ends.
+// All steps over a path of so many vertices, by picks that stay and by such as are let go of, and the forests at their ends.
 fn expect_same_steps(rt: &impl Abort, alloc: Global, n: u32) {
     assert!(rt; 1 < n && n <= 1 << 20);
     let links = paths(rt, alloc, n, 1);
