@@ -1,7 +1,8 @@
 """Minimum spanning trees of points, exact in any dimension.
 
 Where a k-d tree tells near points from far ones, Boruvka's rounds go over it: each component needs its nearest point
-outside. The reach of a point is how far around it all others are known. So the lightest known way out of a component is
+outside. Many points in a plane or in space look first at those in the cells of a grid around them. The reach of a point
+is how far around it all others are known. So the lightest known way out of a component is
 its lightest, if all its points reach as far. Points that don't are asked for twice as many neighbours; if a component
 holds too many of them, for their nearest in trees without that component.
 
@@ -19,6 +20,7 @@ from numpy.typing import NDArray
 
 from boruvka import _library
 from boruvka._forest import places
+from boruvka._grid import Grid, fitting_grid
 
 Numbers = NDArray[np.float64]
 Places = NDArray[np.intp]
@@ -29,6 +31,8 @@ Trees = Callable[[Numbers], Any]
 _FIRST, _MOST = 8, 64
 # numbers in one piece of work, and in the first of those that are to take so many seconds; Ctrl-C is heard between two
 _PIECE, _FIRST_PIECE, _SECONDS = 1 << 20, 1 << 15, 0.1
+# pairs of near points that are looked at at a time
+_NEAR = 1 << 15
 _LEAF = 16
 # in more dimensions a k-d tree looks at most points for each
 _DIMENSIONS = 9
@@ -148,11 +152,14 @@ def _core_by_rows(space: Space, nearest: int) -> Numbers:
 def _by_rounds(space: Space, trees: Trees) -> Ends:
     """The tree by rounds over the points that differ; each other hangs on the first that is equal to it."""
     first, copies, originals = _once(space)
-    rows = np.ascontiguousarray(space.columns[:, first].T)
+    columns = space.columns[:, first]
+    grid = fitting_grid(columns)
     # (so that near points lie near in memory, and are asked one after another)
-    first = first[trees(rows).indices]
+    first = first[grid.order if grid else trees(columns.T.copy()).indices]
     core = None if space.core is None else space.core[first]
-    rounds = Rounds(np.ascontiguousarray(space.columns[:, first].T), core, trees, space.p)
+    rounds = Rounds(space, space.columns[:, first], core, trees)
+    if grid:
+        rounds.look_around(grid)
     one, other = rounds.tree()
     return np.concatenate([first[one], copies]), np.concatenate([first[other], originals])
 
@@ -178,10 +185,11 @@ class Rounds:
     first. `found` are ways that aren't in it yet, and `proved` the edges of the tree so far.
     """
 
-    def __init__(self, rows: Numbers, core: Numbers | None, trees: Trees, p: float) -> None:
-        self.rows, self.core, self.trees, self.p = rows, core, trees, p
-        self.whole = trees(rows)
-        n = self.count = len(rows)
+    def __init__(self, space: Space, columns: Numbers, core: Numbers | None, trees: Trees) -> None:
+        self.columns, self.core, self.trees, self.p, self.norms = columns, core, trees, space.p, space.norms
+        self.rows = columns.T.copy()
+        self.whole = trees(self.rows)
+        n = self.count = len(self.rows)
         self.label = np.arange(n, dtype=np.int32)
         self.reach, self.low = np.zeros(n), np.zeros(n)
         self.asked = np.zeros(n, np.int32)
@@ -192,7 +200,8 @@ class Rounds:
 
     def tree(self) -> Ends:
         """The edges of the tree."""
-        self.ask(np.arange(len(self.rows)), _FIRST)
+        if not self.found:
+            self.ask(np.arange(len(self.rows)), _FIRST)
         self.sort_ways()
         self.low = self.reach
         while self.count > 1:
@@ -201,6 +210,16 @@ class Rounds:
                 self.look_further(heights)
         one, other = zip(*self.proved) if self.proved else ([self.one], [self.one])
         return np.concatenate(one), np.concatenate(other)
+
+    def look_around(self, grid: Grid) -> None:
+        """Notes the ways between all points that are nearer to one another than a cell's side."""
+        for one, other in grid.pairs(_NEAR):
+            lengths = self.norms(self.columns.take(one, axis=1) - self.columns.take(other, axis=1))
+            (near,) = np.nonzero(lengths < grid.reach)
+            one, other = one[near], other[near]
+            self.found.append((one.astype(np.int32), other.astype(np.int32), reached(lengths[near], self.core, one, other)))
+        # (as if they had been asked for few: next they are asked for the usual number)
+        self.know(np.arange(len(self.rows)), np.full(len(self.rows), grid.reach), _FIRST // 2)
 
     def merge(self) -> Numbers:
         """Merges components along ways that are their lightest, until none is for sure; how long the lightest known are."""
@@ -250,7 +269,7 @@ class Rounds:
             now = was == asked
             apart = now & ((counts > 4 * asked) | (asked > _MOST))
             # (trees without components are made of all points)
-            if np.count_nonzero(apart) * asked <= len(self.rows):
+            if asked < _FIRST or np.count_nonzero(apart) * asked <= len(self.rows):
                 apart[:] = False
             self.ask(short[now & ~apart], 2 * asked)
             self.ask_apart(short[apart], 1 if self.core is None else 2 * asked)
