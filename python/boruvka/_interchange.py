@@ -44,11 +44,11 @@ def _entries(chunk: Any, name: Any) -> list[Any]:
 
 
 def _bytes_of(buffer: Any) -> NDArray[np.uint8]:
-    """A copy of its bytes."""
+    """Its bytes, which are there as long as it is."""
     if not buffer.bufsize:
         return np.empty(0, np.uint8)
     held = (ctypes.c_uint8 * buffer.bufsize).from_address(buffer.ptr)
-    return np.frombuffer(held, np.uint8).copy()
+    return np.frombuffer(held, np.uint8)
 
 
 def _numbers(told: tuple[Any, Any], offset: int, size: int) -> NDArray[Any]:

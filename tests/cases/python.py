@@ -224,6 +224,11 @@ def exact_trees_of_points(room):
 
 
 @case
+def ctrl_c_ends_a_long_call(room):
+    expect_tests(room, "test_interrupt")
+
+
+@case
 def linkage_beside_scipys(room):
     expect_tests(room, "test_linkage.Scipys")
 
