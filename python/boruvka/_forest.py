@@ -207,7 +207,7 @@ class Forest:
         return [names[it] for it in vertices.tolist()]
 
     def plot(self, points: ArrayLike, *, labels: ArrayLike | None = None, ax: Any = None) -> Any:
-        """Draws the edges between points of a plane by matplotlib, each cluster in a colour; answers the axes."""
+        """Draws the edges between points of a plane by matplotlib, each cluster in a colour, noise (-1) in grey; answers the axes."""
         from matplotlib import pyplot
         from matplotlib.collections import LineCollection
 
@@ -216,8 +216,8 @@ class Forest:
             raise ValueError(f"points has the shape {places.shape}, and {self.n} points of a plane are drawn")
         axes = pyplot.gca() if ax is None else ax
         axes.add_collection(LineCollection(np.stack([places[self.u], places[self.v]], axis=1), colors="silver", zorder=1))
-        colours = None if labels is None else np.asarray(labels)
-        axes.scatter(*places.T, c=colours, cmap=None if labels is None else "tab10", s=12, zorder=2)
+        clusters = np.zeros(self.n, int) if labels is None else np.asarray(labels)
+        axes.scatter(*places.T, c=["grey" if it < 0 else f"C{it % 10}" for it in clusters.tolist()], s=12, zorder=2)
         axes.set_aspect("equal")
         return axes
 

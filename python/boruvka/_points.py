@@ -2,9 +2,9 @@
 
 Where a k-d tree tells near points from far ones, Boruvka's rounds go over it: each component needs its nearest point
 outside. Many points in a plane or in space look first at those in the cells of a grid around them. The reach of a point
-is how far around it all others are known. So the lightest known way out of a component is
-its lightest, if all its points reach as far. Points that don't are asked for twice as many neighbours; if a component
-holds too many of them, for their nearest in trees without that component.
+is how far around it all others are known. So the lightest known way out of a component is its lightest, if all its points
+reach as far. Points that don't are asked for twice as many neighbours; if a component holds too many of them, for their
+nearest in trees without that component.
 
 Without scipy, in many dimensions, or where powers of distances are no doubles, Prim's algorithm goes row by row.
 """
@@ -152,12 +152,13 @@ def _core_by_rows(space: Space, nearest: int) -> Numbers:
 def _by_rounds(space: Space, trees: Trees) -> Ends:
     """The tree by rounds over the points that differ; each other hangs on the first that is equal to it."""
     first, copies, originals = _once(space)
-    columns = space.columns[:, first]
+    columns = space.columns.take(first, axis=1)
     grid = fitting_grid(columns)
     # (so that near points lie near in memory, and are asked one after another)
     first = first[grid.order if grid else trees(columns.T.copy()).indices]
     core = None if space.core is None else space.core[first]
-    rounds = Rounds(space, space.columns[:, first], core, trees)
+    # (take makes whole columns, and from others it would copy all of them at each call)
+    rounds = Rounds(space, space.columns.take(first, axis=1), core, trees)
     if grid:
         rounds.look_around(grid)
     one, other = rounds.tree()

@@ -188,6 +188,9 @@ class Knowing(unittest.TestCase):
         points = np.random.default_rng(1).random((7, 2))
         axes = self.forest.plot(points, labels=self.forest.labels(clusters=3))
         self.assertEqual((len(axes.collections[0].get_segments()), len(axes.collections[1].get_offsets())), (5, 7))
+        grey = self.forest.plot(points, labels=[-1, 0, 1, -1, 11, 2, 3]).collections[-1].get_facecolors()
+        self.assertEqual([grey[0].tolist(), grey[2].tolist()], [grey[3].tolist(), grey[4].tolist()])
+        self.assertEqual(len(np.unique(grey, axis=0)), 5)
         with self.assertRaisesRegex(ValueError, "shape"):
             self.forest.plot(points[:3])
 
