@@ -3,10 +3,13 @@
 usage: python3 bench.py
 
 Each time is processor time of this process, the least of five calls in turns with the other's. The machine should do
-nothing else. It takes a minute and 1 GB, and needs scipy, scikit-learn and networkx.
+nothing else. Below the table stand the seconds and the peak of memory of larger trees, each in a process of its own. It
+takes two minutes and 1 GB, and needs scipy, scikit-learn and networkx.
 """
 
 import gc
+import subprocess
+import sys
 import time
 
 import networkx as nx
@@ -22,6 +25,22 @@ from boruvka.sparse import minimum_spanning_tree
 
 EDGES = 1_000_000
 TURNS = 5
+# prints the seconds of processor time, and the peak of memory beyond what the points and the modules take
+ALONE = """
+import resource, sys, time
+import numpy as np
+from boruvka.linkage import spanning_tree
+
+def peak():
+    return resource.getrusage(resource.RUSAGE_SELF).ru_maxrss / 1024
+
+n, dimensions = map(int, sys.argv[1:])
+given = np.random.default_rng(n).random((n, dimensions))
+spanning_tree(given[:5000])
+before, begun = peak(), time.process_time()
+spanning_tree(given)
+print(time.process_time() - begun, peak() - before)
+"""
 
 
 def least(*calls):
@@ -88,6 +107,13 @@ def points(n, dimensions):
     row([f"points in {dimensions} dimensions"], f"{n:,}", "scikit-learn", times)
 
 
+def alone(n, dimensions):
+    """A line on the tree of so many points."""
+    ended = subprocess.run([sys.executable, "-c", ALONE, str(n), str(dimensions)], check=True, capture_output=True, text=True)
+    seconds, megabytes = map(float, ended.stdout.split())
+    print(f"{n:,} points in {dimensions} dimensions: {brief(seconds)} s, {brief(megabytes)} MB", flush=True)
+
+
 def distances(n):
     given = pdist(np.random.default_rng(n).random((n, 5)))
     row([f"distances of {n:,} points"], f"{len(given):,}", "scipy's linkage", least(lambda: single_linkage(given), lambda: linkage(given, "single")))
@@ -101,6 +127,9 @@ def main():
     for dimensions in (2, 5, 10):
         points(10_000, dimensions)
     distances(2_000)
+    print()
+    for n, dimensions in [(1_000_000, 2), (1_000_000, 3), (100_000, 5), (10_000, 100)]:
+        alone(n, dimensions)
 
 
 if __name__ == "__main__":

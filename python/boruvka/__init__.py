@@ -1,7 +1,8 @@
 """Minimum spanning forests of numpy arrays.
 
 `minimum_spanning_forest` answers which edges are in the forest, and `from_edges` does for edges in a frame. They call
-libboruvka, which is proved to answer just these. The package itself is tested, not proved.
+libboruvka, which is proved to answer just these. The package itself is tested, not proved. `read_gr` and `write_gr` are
+for the program's files, and `show` opens points in a page.
 
 These modules are loaded when they are first used:
 
@@ -15,9 +16,10 @@ from typing import TYPE_CHECKING
 
 from boruvka._forest import Forest, minimum_spanning_forest
 from boruvka._frames import from_edges
+from boruvka._gr import read_gr, write_gr
 from boruvka._page import show
 
-__all__ = ["Forest", "from_edges", "minimum_spanning_forest", "show"]
+__all__ = ["Forest", "from_edges", "minimum_spanning_forest", "read_gr", "show", "write_gr"]
 
 _MODULES = ("cluster", "linkage", "networkx_backend", "sparse")
 

@@ -107,4 +107,5 @@ class Condensed:
         found, first = np.unique(cluster[cluster >= 0], return_index=True)
         numbers = np.full(len(head), -1)
         numbers[found[np.argsort(first)]] = np.arange(len(found))
-        return np.where(cluster < 0, -1, numbers[cluster]), strength
+        named: NDArray[np.intp] = np.where(cluster < 0, -1, numbers[cluster])
+        return named, strength

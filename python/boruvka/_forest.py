@@ -5,21 +5,23 @@ from __future__ import annotations
 import math
 import numbers
 import operator
-from collections.abc import Iterator, Sequence
+from collections.abc import Callable, Iterator, Mapping, Sequence, Set
 from dataclasses import dataclass, replace
 from html import escape
-from typing import TYPE_CHECKING, Any, SupportsIndex
+from typing import TYPE_CHECKING, Any, SupportsIndex, Union, overload
 
 import numpy as np
 from numpy.typing import ArrayLike, NDArray
 
 from boruvka import _library
-from boruvka._weights import ordered
+from boruvka._weights import ordered, why_none
 
 if TYPE_CHECKING:
     import networkx
     import pandas
     import scipy.sparse
+
+Real = Union[float, "np.floating[Any]", "np.integer[Any]"]
 
 # how many edges a notebook shows
 _SHOWN = 10
@@ -50,11 +52,11 @@ class Forest:
 
     u: NDArray[np.intp]
     v: NDArray[np.intp]
-    w: np.ndarray
+    w: NDArray[Any]
     index: NDArray[np.intp]
     n: int = -1
     maximum: bool = False
-    names: Sequence | None = None
+    names: Sequence[Any] | None = None
 
     def __post_init__(self) -> None:
         arrays = [np.asarray(it) for it in self]
@@ -64,10 +66,12 @@ class Forest:
             raise ValueError(f"the arrays of the forest have the shapes {', '.join(str(it.shape) for it in arrays)}")
         if self.n < 0:
             object.__setattr__(self, "n", int(max(self.u.max(), self.v.max())) + 1 if len(self) else 0)
-        if self.names is not None and len(self.names) != self.n:
-            raise ValueError(f"there are {len(self.names)} names, and {self.n} vertices")
+        if self.names is not None:
+            object.__setattr__(self, "names", list(self.names))
+            if len(self.names) != self.n:
+                raise ValueError(f"there are {len(self.names)} names, and {self.n} vertices")
 
-    def __iter__(self) -> Iterator[np.ndarray]:
+    def __iter__(self) -> Iterator[NDArray[Any]]:
         return iter((self.u, self.v, self.w, self.index))
 
     def __len__(self) -> int:
@@ -114,11 +118,15 @@ class Forest:
             with np.errstate(invalid="ignore", over="ignore"):
                 return float(self.w.sum())
 
-    def labels(self, *, clusters: SupportsIndex | None = None, height: float | None = None, min_size: int = 1) -> NDArray[np.intp]:
+    @overload
+    def labels(self, *, clusters: SupportsIndex, height: None = None, min_size: SupportsIndex = 1) -> NDArray[np.intp]: ...
+    @overload
+    def labels(self, *, clusters: None = None, height: Real, min_size: SupportsIndex = 1) -> NDArray[np.intp]: ...
+    def labels(self, *, clusters: SupportsIndex | None = None, height: Real | None = None, min_size: SupportsIndex = 1) -> NDArray[np.intp]:
         """The cluster of each vertex: `boruvka.linkage.labels` of this forest."""
-        from boruvka.linkage import labels
+        from boruvka.linkage import cut
 
-        return labels(self.n, self, clusters=clusters, height=height, min_size=min_size)
+        return cut(self.n, self, clusters, height, min_size)
 
     def linkage(self) -> NDArray[np.float64]:
         """The linkage matrix of scipy: `boruvka.linkage.merges` of this forest."""
@@ -139,7 +147,7 @@ class Forest:
         ways = [it for it, _ in self._ways(operator.index(a), operator.index(b))]
         if not ways:
             raise ValueError(f"from {a} to itself there is no edge")
-        best = min if self.maximum else max
+        best: Callable[..., int] = min if self.maximum else max
         return best(ways, key=lambda it: self.w[it])
 
     def _ways(self, a: int, b: int) -> list[tuple[int, bool]]:
@@ -148,6 +156,8 @@ class Forest:
             if not 0 <= it < self.n:
                 raise ValueError(f"{it} is no vertex: they are 0 to {self.n - 1}")
         ends = np.concatenate([self.u, self.v])
+        if len(ends) and not 0 <= ends.min() <= ends.max() < self.n:
+            raise ValueError(f"an edge of the forest has an end that is none of its {self.n} vertices")
         order = np.argsort(ends, kind="stable")
         starts = np.searchsorted(ends[order], np.arange(self.n + 1))
         came: dict[int, tuple[int, int, bool]] = {a: (a, -1, False)}
@@ -181,7 +191,7 @@ class Forest:
 
         return csr_matrix((self.w, (self.u, self.v)), shape=(self.n, self.n))
 
-    def to_networkx(self, names: Sequence | None = None) -> networkx.Graph:
+    def to_networkx(self, names: Sequence[Any] | None = None) -> networkx.Graph:
         """A graph of networkx, whose vertices are called so; else by the forest's names, or by their numbers."""
         import networkx
 
@@ -192,12 +202,12 @@ class Forest:
         graph.add_weighted_edges_from(zip(self._named(self.u), self._named(self.v), self.w.tolist()))
         return graph
 
-    def _named(self, vertices: NDArray[np.intp]) -> list:
+    def _named(self, vertices: NDArray[np.intp]) -> list[Any]:
         names = range(self.n) if self.names is None else self.names
         return [names[it] for it in vertices.tolist()]
 
     def plot(self, points: ArrayLike, *, labels: ArrayLike | None = None, ax: Any = None) -> Any:
-        """Draws the edges between points of a plane by matplotlib, each cluster in a colour; answers the axes."""
+        """Draws the edges between points of a plane by matplotlib, each cluster in a colour, noise (-1) in grey; answers the axes."""
         from matplotlib import pyplot
         from matplotlib.collections import LineCollection
 
@@ -206,12 +216,20 @@ class Forest:
             raise ValueError(f"points has the shape {places.shape}, and {self.n} points of a plane are drawn")
         axes = pyplot.gca() if ax is None else ax
         axes.add_collection(LineCollection(np.stack([places[self.u], places[self.v]], axis=1), colors="silver", zorder=1))
-        colours = None if labels is None else np.asarray(labels)
-        axes.scatter(*places.T, c=colours, cmap=None if labels is None else "tab10", s=12, zorder=2)
+        clusters = np.zeros(self.n, int) if labels is None else np.asarray(labels)
+        axes.scatter(*places.T, c=["grey" if it < 0 else f"C{it % 10}" for it in clusters.tolist()], s=12, zorder=2)
         axes.set_aspect("equal")
         return axes
 
 
+@overload
+def minimum_spanning_forest(n: SupportsIndex | None, u: ArrayLike, v: ArrayLike, w: ArrayLike, *, maximum: bool = False) -> Forest: ...
+@overload
+def minimum_spanning_forest(n: ArrayLike, u: ArrayLike, v: ArrayLike, *, maximum: bool = False) -> Forest: ...
+@overload
+def minimum_spanning_forest(n: ArrayLike, u: ArrayLike, *, maximum: bool = False) -> Forest: ...
+@overload
+def minimum_spanning_forest(*, n: SupportsIndex | None = None, u: ArrayLike, v: ArrayLike, w: ArrayLike, maximum: bool = False) -> Forest: ...
 def minimum_spanning_forest(n: Any = None, u: Any = None, v: Any = None, w: Any = None, *, maximum: bool = False) -> Forest:
     """Find the minimum spanning forest of an undirected graph, or the maximum one.
 
@@ -275,19 +293,20 @@ def minimum_spanning_forest(n: Any = None, u: Any = None, v: Any = None, w: Any 
     >>> forest.index
     array([1, 4, 2])
     """
-    n, u, v, w = _arguments([u, v, w] if n is None else [it for it in (n, u, v, w) if it is not None])
-    tails, heads, weights = _column(u, "u"), _column(v, "v"), _column(w, "w")
-    if n is not None and not hasattr(n, "__index__"):
-        raise TypeError(f"n is {n!r}, and has to be a whole number: the number of vertices")
-    count = _as_many_as_needed(tails, heads) if n is None else operator.index(n)
-    if not len(tails) == len(heads) == len(weights):
-        raise ValueError(f"u, v and w differ in length: {len(tails)}, {len(heads)} and {len(weights)}")
+    count, tails, heads, weights = edges_of(n, u, v, w)
     index = places(count, tails, heads, weights, maximum)
     one, other = tails.take(index).astype(np.intp), heads.take(index).astype(np.intp)
     return Forest(np.minimum(one, other), np.maximum(one, other), weights.take(index), index, count, maximum)
 
 
-def _arguments(given: list) -> list:
+def edges_of(n: Any, u: Any, v: Any, w: Any) -> tuple[int, NDArray[Any], NDArray[Any], NDArray[Any]]:
+    """The number of vertices, and the columns of the edges, that a call was given."""
+    n, u, v, w = _arguments([u, v, w] if n is None else [it for it in (n, u, v, w) if it is not None])
+    tails, heads, weights = columns(u, v, w)
+    return _as_many_as_needed(tails, heads) if n is None else number_of_vertices(n), tails, heads, weights
+
+
+def _arguments(given: list[Any]) -> list[Any]:
     """n, which may be None, u, v and w, of what a call was given."""
     if given and hasattr(given[0], "adjacency"):
         raise TypeError('a graph of networkx is for networkx.minimum_spanning_tree(G, backend="boruvka")')
@@ -295,7 +314,9 @@ def _arguments(given: list) -> list:
         raise TypeError("a sparse matrix is for boruvka.sparse.minimum_spanning_tree")
     n = given.pop(0) if len(given) == 4 or given and isinstance(given[0], numbers.Number) else None
     if len(given) == 2:
-        edges = np.asarray(given[0])
+        edges = held(given[0], "edges")
+        if is_masked(given[0]):
+            raise ValueError("edges have masked entries: leave these edges out first")
         if edges.ndim != 2 or edges.shape[1] != 2:
             raise TypeError(f"edges have the shape {edges.shape}, and need two columns; or give n, u, v and w")
         given = [edges[:, 0], edges[:, 1], given[1]]
@@ -304,36 +325,80 @@ def _arguments(given: list) -> list:
     return [n, *given]
 
 
-def _as_many_as_needed(tails: np.ndarray, heads: np.ndarray) -> int:
+def _as_many_as_needed(tails: NDArray[Any], heads: NDArray[Any]) -> int:
     """How many vertices there are at least, if these are ends of edges; what is wrong with them is told elsewhere."""
     if not len(tails) or not len(heads) or tails.dtype.kind not in "iu" or heads.dtype.kind not in "iu":
         return 0 if not len(tails) else _library.MAX_VERTICES
-    return max(int(tails.max()), int(heads.max()), -1) + 1
+    most = max(int(tails.max()), int(heads.max()), -1)
+    if most >= _library.MAX_VERTICES:
+        name, ends = ("u", tails) if tails.max() == most else ("v", heads)
+        raise ValueError(f"{name}[{ends.argmax()}] is {most}, and vertices are below 2^26: boruvka.from_edges numbers any names")
+    return most + 1
 
 
-def places(n: int, tails: np.ndarray, heads: np.ndarray, weights: np.ndarray, maximum: bool = False) -> NDArray[np.intp]:
-    """The places of the forest's edges among these, in ascending order of their keys."""
-    if not 0 <= n <= _library.MAX_VERTICES:
+def number_of_vertices(n: Any) -> int:
+    """n, if there may be so many vertices."""
+    if not hasattr(n, "__index__"):
+        raise TypeError(f"n is {n!r}, and has to be a whole number: the number of vertices")
+    if not 0 <= operator.index(n) <= _library.MAX_VERTICES:
         raise ValueError(f"n is {n}, and has to be from 0 to 2^26")
-    if len(weights) > _library.MAX_LINKS:
-        raise ValueError(f"there are {len(weights)} edges, and at most 2^30 may be")
-    u, v, w = vertices(n, tails, "u"), vertices(n, heads, "v"), ordered(weights, maximum)
-    return _library.places(n, u, v, w).astype(np.intp)
+    return operator.index(n)
 
 
-def _column(given: ArrayLike, name: str) -> np.ndarray:
-    if np.ma.is_masked(given):
-        raise ValueError(f"{name} has masked entries: leave these edges out first")
-    column = np.asarray(given)
+def places(n: int, tails: NDArray[Any], heads: NDArray[Any], weights: NDArray[Any], maximum: bool = False) -> NDArray[np.intp]:
+    """The places of the forest's edges among these, in ascending order of their keys."""
+    u, v = pairs_of_vertices(number_of_vertices(n), tails, heads)
+    return _library.places(n, u, v, ordered(weights, maximum)).astype(np.intp)
+
+
+def pairs_of_vertices(n: int, tails: NDArray[Any], heads: NDArray[Any]) -> tuple[NDArray[np.uint32], NDArray[np.uint32]]:
+    """The ends of edges as C takes them."""
+    if len(tails) > _library.MAX_LINKS:
+        raise ValueError(f"there are {len(tails)} edges, and at most 2^30 may be")
+    return vertices(n, tails, "u", heads), vertices(n, heads, "v", tails)
+
+
+def columns(u: Any, v: Any, w: Any) -> tuple[NDArray[Any], NDArray[Any], NDArray[Any]]:
+    """Three columns as arrays, which are of one length."""
+    tails, heads, weights = _column(u, "u"), _column(v, "v"), _column(w, "w")
+    if not len(tails) == len(heads) == len(weights):
+        raise ValueError(f"u, v and w differ in length: {len(tails)}, {len(heads)} and {len(weights)}")
+    return tails, heads, weights
+
+
+def held(given: Any, name: str) -> NDArray[Any]:
+    """What numpy makes of it, if that loses nothing."""
+    if isinstance(given, (Set, Mapping, Iterator)):
+        raise TypeError(f"{name} is a {type(given).__name__}, and has to be an array or a list")
+    try:
+        return np.asarray(given)
+    except ValueError as error:
+        raise ValueError(f"{name} is no array: {error}") from None
+
+
+def _column(given: Any, name: str) -> NDArray[Any]:
+    column = held(given, name)
     if column.ndim != 1:
-        raise ValueError(f"{name} has {column.ndim} dimensions, and needs one")
+        how = ": an array of two columns stands for u and v" if column.ndim == 2 and name in "uv" else ""
+        raise ValueError(f"{name} has {column.ndim} dimensions, and needs one{how}")
+    if is_masked(given):
+        raise ValueError(f"{name} has masked entries, as {name}[{np.argmax(mask_of(given))}] is: leave these edges out first")
     if column.dtype != object and hasattr(given, "__array__"):
         return column
     each = column.tolist() if column.dtype == object else list(given)
     return _of_each(each, column if column.dtype != object else np.asarray(each), name)
 
 
-def _of_each(each: list, column: np.ndarray, name: str) -> np.ndarray:
+def is_masked(given: Any) -> bool:
+    """Whether an array of numpy, or of pandas, masks something."""
+    return bool(np.any(mask_of(given)))
+
+
+def mask_of(given: Any) -> Any:
+    return np.ma.getmask(given)  # type: ignore[no-untyped-call]
+
+
+def _of_each(each: list[Any], column: NDArray[Any], name: str) -> NDArray[Any]:
     """The array that numpy made of numbers one by one, if it changed none."""
     if column.dtype.kind == "f" and set(map(type, each)) != {float}:
         for place, (it, held) in enumerate(zip(each, column.tolist())):
@@ -343,18 +408,28 @@ def _of_each(each: list, column: np.ndarray, name: str) -> np.ndarray:
     return column
 
 
-def vertices(n: int, ends: np.ndarray, name: str) -> NDArray[np.uint32]:
-    """Ends as C takes them; those of int32 and uint32 aren't copied. An end that is no vertex is a ValueError."""
+def vertices(n: int, ends: NDArray[Any], name: str, beside: NDArray[Any]) -> NDArray[np.uint32]:
+    """Ends as C takes them; those of int32 and uint32 aren't copied. An end that is no vertex is a ValueError.
+
+    `beside` are the other ends.
+    """
     if not len(ends):
         # (an empty list has the dtype of floats)
         return np.empty(0, np.uint32)
     if ends.dtype.kind not in "iu":
-        how = ".astype(int) makes them" if ends.dtype.kind in "fb" else "boruvka.from_edges takes names"
-        raise TypeError(f"{name} has the dtype {ends.dtype}, and vertices are whole numbers: {how}")
+        raise TypeError(f"{why_none(ends, name, 'iu')}, and vertices are whole numbers{_remedy(ends)}")
     if ends.min() < 0 or ends.max() >= n:
         place = np.flatnonzero((ends < 0) | (ends >= n))[0]
-        how = ": are they numbered from 1?" if ends.min() >= 1 and ends.max() == n else ""
-        raise ValueError(f"{name}[{place}] is {ends[place]}, and a vertex is at least 0 and below n = {n}{how}")
+        are_from_1 = beside.dtype.kind in "iu" and max(ends.max(), beside.max()) == n and min(ends.min(), beside.min()) >= 1
+        hint = ": are they numbered from 1?" if are_from_1 else ""
+        raise ValueError(f"{name}[{place}] is {ends[place]}, and a vertex is at least 0 and below n = {n}{hint}")
     if ends.dtype == np.int32:
         ends = ends.view(np.uint32)
     return np.require(ends, np.uint32, ["C_CONTIGUOUS", "ALIGNED"])
+
+
+def _remedy(ends: NDArray[Any]) -> str:
+    """What makes vertices of them."""
+    if ends.dtype.kind not in "fb":
+        return ": boruvka.from_edges takes names"
+    return ": .astype(int) makes them" if np.isfinite(ends).all() and (ends == np.floor(ends)).all() else ""

@@ -2,13 +2,15 @@
 
 from __future__ import annotations
 
-from collections.abc import Hashable
-from typing import Any
+import operator
+from collections.abc import Hashable, Iterable, Mapping, Set
+from typing import Any, SupportsIndex
 
 import numpy as np
 from numpy.typing import NDArray
 
 from boruvka._forest import Forest, minimum_spanning_forest
+from boruvka._interchange import column_of, names_of
 
 
 def from_edges(frame: Any, u: Hashable = "u", v: Hashable = "v", *, weight: Hashable = "w", maximum: bool = False) -> Forest:
@@ -17,7 +19,8 @@ def from_edges(frame: Any, u: Hashable = "u", v: Hashable = "v", *, weight: Hash
     Parameters
     ----------
     frame : DataFrame, dict or other table
-        Each row is an edge. `frame[name]` answers a column, as in pandas, polars and pyarrow.
+        Each row is an edge. `frame[name]` answers a column, as in pandas, polars and pyarrow. Or it is an array, whose
+        columns are fields or are numbered from 0; or an object that has `__dataframe__` or `__array__`.
     u, v, weight : optional
         The names of the columns that have the ends and the weights.
     maximum : bool, optional
@@ -26,17 +29,17 @@ def from_edges(frame: Any, u: Hashable = "u", v: Hashable = "v", *, weight: Hash
     Returns
     -------
     Forest
-        Its `names` are those of the vertices as they first occur, in the column u before v. `index` is the place of each
-        edge among the rows.
+        Its `names` are those of the vertices as they first occur, in the column u before v. Names that Python calls
+        equal, as 1 and 1.0, are one. `index` is the place of each edge among the rows.
 
     Raises
     ------
     KeyError
         If the frame has no column of that name.
     ValueError
-        If a name or a weight is missing, or the columns differ in length.
+        If a name or a weight is missing, the columns differ in length, or two have the same name.
     TypeError
-        If a name can't be a key of a dict, or weights are no numbers.
+        If a name can't be a key of a dict, weights are no numbers, or the frame has no columns.
 
     Examples
     --------
@@ -47,19 +50,73 @@ def from_edges(frame: Any, u: Hashable = "u", v: Hashable = "v", *, weight: Hash
     (461, ['Bath', 'Ely', 'York'])
     """
     number: dict[Any, int] = {}
-    ends = [_numbered(frame[it], it, number) for it in (u, v)]
-    if len(ends[0]) != len(ends[1]):
-        raise ValueError(f"the columns {u!r} and {v!r} differ in length: {len(ends[0])} and {len(ends[1])}")
-    forest = minimum_spanning_forest(len(number), *ends, frame[weight], maximum=maximum)
+    one, other, weights = (_column(frame, it) for it in (u, v, weight))
+    tails, heads = _numbered(one, u, number), _numbered(other, v, number)
+    if len(tails) != len(heads):
+        raise ValueError(f"the columns {u!r} and {v!r} differ in length: {len(tails)} and {len(heads)}")
+    forest = minimum_spanning_forest(len(number), tails, heads, weights, maximum=maximum)
     return forest._replace(names=list(number))
+
+
+def _column(frame: Any, name: Hashable) -> Any:
+    """The column of this name, which has one dimension."""
+    has_array = hasattr(frame, "__array__") and not hasattr(frame, "__getitem__")
+    if isinstance(frame, np.ndarray) or has_array and not hasattr(frame, "__dataframe__"):
+        return _of_array(frame if isinstance(frame, np.ndarray) else np.asarray(frame), name)
+    if isinstance(frame, (list, tuple)):
+        raise TypeError(f"a {type(frame).__name__} is no frame: pandas.DataFrame(rows, columns=...), a dict of columns, or an array is")
+    if hasattr(frame, "__getitem__"):
+        try:
+            column = frame[name]
+        except KeyError:
+            raise _no_column(name, frame.keys() if hasattr(frame, "keys") else ()) from None
+    elif hasattr(frame, "__dataframe__"):
+        table = frame.__dataframe__()
+        if name not in names_of(table):
+            raise _no_column(name, names_of(table))
+        column = column_of(table, name)
+    else:
+        raise TypeError(f"a {type(frame).__name__} is no frame: it has no columns, no __dataframe__ and no __array__")
+    if getattr(column, "ndim", 1) != 1:
+        raise ValueError(f"the column {name!r} has {column.ndim} dimensions: do two have this name?")
+    if isinstance(column, (Mapping, Set)):
+        raise TypeError(f"the column {name!r} is a {type(column).__name__}, which has no order")
+    return column
+
+
+def _no_column(name: Hashable, there: Iterable[Any]) -> KeyError:
+    names = ", ".join(map(repr, there))
+    return KeyError(f"the frame has no column {name!r}" + (f", but {names}" if names else ""))
+
+
+def _of_array(table: NDArray[Any], name: Hashable) -> NDArray[Any]:
+    if table.dtype.names:
+        if name not in table.dtype.names:
+            raise _no_column(name, table.dtype.names)
+        return table[str(name)]
+    if table.ndim != 2:
+        raise TypeError(f"an array of the shape {table.shape} is no frame: it needs columns, or fields that have names")
+    if not isinstance(name, SupportsIndex) or not 0 <= operator.index(name) < table.shape[1]:
+        raise _no_column(name, range(table.shape[1]))
+    return table[:, operator.index(name)]
 
 
 def _numbered(column: Any, name: Hashable, number: dict[Any, int]) -> NDArray[np.int32]:
     """The number of each name, new ones from the greatest on."""
-    each = column.tolist() if hasattr(column, "tolist") else list(column)
+    each = _listed(column)
     found = np.empty(len(each), np.int32)
     for row, it in enumerate(each):
         if it is None or type(it).__name__ in ("NAType", "NaTType") or it != it:
             raise ValueError(f"row {row} has no name in the column {name!r}: leave such edges out first")
         found[row] = number.setdefault(it, len(number))
     return found
+
+
+def _listed(column: Any) -> list[Any]:
+    """The names as Python has them. (Of times numpy would make whole numbers.)"""
+    if isinstance(column, np.ndarray) and column.dtype.kind in "mM":
+        return list(column)
+    for way in ("tolist", "to_pylist"):
+        if hasattr(column, way):
+            return list(getattr(column, way)())
+    return list(column)

@@ -8,6 +8,7 @@ from __future__ import annotations
 
 import ctypes
 import os
+from typing import Any
 
 import numpy as np
 from numpy.typing import NDArray
@@ -22,9 +23,18 @@ _NO_MEMORY = -1
 _NAME = f"libboruvka.so.{_VERSION}"
 _BESIDE = os.path.join(os.path.dirname(os.path.abspath(__file__)), _NAME)
 _ARRAY = (ctypes.c_void_p, ctypes.c_size_t)
+
+
+class _Fault(ctypes.Structure):
+    """`struct boruvka_fault` of boruvka.h."""
+
+    _fields_ = [("kind", ctypes.c_int64), ("line", ctypes.c_uint64)]
+
+
 _CALLS = {
     "boruvka_places_in": (ctypes.c_int64, [ctypes.c_uint32, ctypes.c_uint32, *_ARRAY, *_ARRAY, *_ARRAY, *_ARRAY]),
     "boruvka_labels_in": (ctypes.c_int64, [*_ARRAY, *_ARRAY]),
+    "boruvka_forest_text": (ctypes.c_int64, [*_ARRAY, *_ARRAY, ctypes.POINTER(_Fault)]),
     "boruvka_fault_text": (ctypes.c_size_t, [ctypes.c_int64, ctypes.c_char_p, ctypes.c_size_t]),
 }
 
@@ -57,7 +67,7 @@ def places(n: int, u: NDArray[np.uint32], v: NDArray[np.uint32], w: NDArray[np.i
     return found[: _judged(count)]
 
 
-def labels(n: int, links: np.ndarray) -> NDArray[np.uint32]:
+def labels(n: int, links: NDArray[np.void]) -> NDArray[np.uint32]:
     """The least vertex, from 1, of the component of each of the vertices 1 to n, under links that close no cycle.
 
     Links of the dtype LINK that close a cycle, and an end that is no vertex, are a ValueError.
@@ -67,7 +77,19 @@ def labels(n: int, links: np.ndarray) -> NDArray[np.uint32]:
     return found
 
 
-def _passed(array: np.ndarray) -> tuple[int, int]:
+def vertices_of_text(text: bytes) -> int:
+    """How many vertices a `.gr` text has. If it is none, a ValueError has the line and the name of its first fault."""
+    # (the forest's text begins so, and is cut here)
+    head, fault = ctypes.create_string_buffer(len("p sp 67108864 67108863\n")), _Fault()
+    start = ctypes.cast(ctypes.c_char_p(text), ctypes.c_void_p)
+    answer = _library.boruvka_forest_text(start, len(text), head, len(head), ctypes.byref(fault))
+    if fault.line:
+        raise ValueError(f"line {fault.line}: {_named(answer)}")
+    _judged(answer)
+    return int(head.raw.split()[2])
+
+
+def _passed(array: NDArray[Any]) -> tuple[int, int]:
     """An array as C takes it: its first byte, and how many elements it has."""
     assert array.flags.c_contiguous and array.flags.aligned and array.dtype.isnative
     return array.ctypes.data, len(array)
@@ -79,6 +101,10 @@ def _judged(answer: int) -> int:
         return answer
     if answer == _NO_MEMORY:
         raise MemoryError("no memory for the forest")
+    raise ValueError(f"libboruvka refuses it: {_named(answer)}")
+
+
+def _named(refusal: int) -> str:
     text = ctypes.create_string_buffer(64)
-    _library.boruvka_fault_text(answer, text, len(text))
-    raise ValueError(f"libboruvka refuses it: {text.value.decode()}")
+    _library.boruvka_fault_text(refusal, text, len(text))
+    return text.value.decode()

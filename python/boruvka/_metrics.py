@@ -39,7 +39,14 @@ def _on_sphere(points: Numbers) -> Numbers:
     if is_beyond.any():
         row = is_beyond.argmax()
         raise ValueError(f"the latitude of the point {row} is {latitude[row]}, past a right angle: numpy.radians makes radians of degrees")
-    return np.column_stack([np.cos(latitude) * np.cos(longitude), np.cos(latitude) * np.sin(longitude), np.sin(latitude)])
+    found: Numbers = np.column_stack([np.cos(latitude) * np.cos(longitude), np.cos(latitude) * np.sin(longitude), np.sin(latitude)])
+    return found
+
+
+def _bows(chords: Numbers) -> Numbers:
+    """The lengths of great circles' parts over chords."""
+    halves: Numbers = np.arcsin(np.minimum(chords / 2, 1))
+    return 2 * halves
 
 
 def _directions(points: Numbers) -> Numbers:
@@ -48,13 +55,17 @@ def _directions(points: Numbers) -> Numbers:
     if not greatest.all():
         raise ValueError(f"the point {greatest.ravel().argmin()} is 0, and has no direction")
     points = points / greatest
-    return points / np.sqrt((points * points).sum(axis=1, keepdims=True))
+    found: Numbers = points / np.sqrt((points * points).sum(axis=1, keepdims=True))
+    return found
 
 
 _METRICS = {
     "euclidean": Metric(2.0),
     "manhattan": Metric(1.0),
     "chebyshev": Metric(np.inf),
-    "haversine": Metric(2.0, _on_sphere, lambda chords: 2 * np.arcsin(np.minimum(chords / 2, 1))),
+    "haversine": Metric(2.0, _on_sphere, _bows),
+    "cityblock": Metric(1.0),
+    "l1": Metric(1.0),
+    "l2": Metric(2.0),
     "cosine": Metric(2.0, _directions, lambda chords: chords * chords / 2),
 }

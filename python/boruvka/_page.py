@@ -76,7 +76,7 @@ def show(
 
 def _page(path: str | os.PathLike[str] | None) -> str:
     """The text of the page."""
-    path = path or os.environ.get("BORUVKA_PAGE") or next(filter(os.path.exists, _PAGES), None)
+    path = path or os.environ.get("BORUVKA_PAGE") or next((it for it in _PAGES if os.path.exists(it)), None)
     if path is None:
         raise FileNotFoundError("there is no boruvka.html: `make page` packs it, and BORUVKA_PAGE may name one")
     with open(path, encoding="utf-8") as it:

@@ -1,31 +1,38 @@
 """Minimum spanning trees of points, exact in any dimension.
 
 Where a k-d tree tells near points from far ones, Boruvka's rounds go over it: each component needs its nearest point
-outside. The reach of a point is how far around it all others are known. So the lightest known way out of a component is
-its lightest, if all its points reach as far. Points that don't are asked for twice as many neighbours; if a component
-holds too many of them, for their nearest in trees without that component.
+outside. Many points in a plane or in space look first at those in the cells of a grid around them. The reach of a point
+is how far around it all others are known. So the lightest known way out of a component is its lightest, if all its points
+reach as far. Points that don't are asked for twice as many neighbours; if a component holds too many of them, for their
+nearest in trees without that component.
 
 Without scipy, in many dimensions, or where powers of distances are no doubles, Prim's algorithm goes row by row.
 """
 
 from __future__ import annotations
 
+import time
 from collections.abc import Callable, Iterator
+from typing import Any
 
 import numpy as np
 from numpy.typing import NDArray
 
 from boruvka import _library
 from boruvka._forest import places
+from boruvka._grid import Grid, fitting_grid
 
 Numbers = NDArray[np.float64]
 Places = NDArray[np.intp]
 Ends = tuple[Places, Places]
+Trees = Callable[[Numbers], Any]
 
 # how many neighbours a point is asked for first, itself counted, and at most in the tree of all points
 _FIRST, _MOST = 8, 64
-# numbers in one piece of work; Ctrl-C is heard between two
-_PIECE = 1 << 20
+# numbers in one piece of work, and in the first of those that are to take so many seconds; Ctrl-C is heard between two
+_PIECE, _FIRST_PIECE, _SECONDS = 1 << 20, 1 << 15, 0.1
+# pairs of near points that are looked at at a time
+_NEAR = 1 << 15
 _LEAF = 16
 # in more dimensions a k-d tree looks at most points for each
 _DIMENSIONS = 9
@@ -63,11 +70,13 @@ class Space:
     def norms(self, steps: Numbers) -> Numbers:
         """The lengths of vectors, which are columns. The steps are lost."""
         if self.p == 2 and self.is_tame:
-            return np.sqrt(np.multiply(steps, steps, out=steps).sum(axis=0))
+            squares: Numbers = np.multiply(steps, steps, out=steps).sum(axis=0)
+            return np.sqrt(squares, out=squares)
         np.abs(steps, out=steps)
         if self.p == 1:
-            return steps.sum(axis=0)
-        greatest = steps.max(axis=0, initial=0.0)
+            sums: Numbers = steps.sum(axis=0)
+            return sums
+        greatest: Numbers = steps.max(axis=0, initial=0.0)
         if self.p == np.inf:
             return greatest
         with np.errstate(over="ignore", invalid="ignore"):
@@ -75,7 +84,7 @@ class Space:
             return np.where(np.isfinite(greatest), greatest * (steps**self.p).sum(axis=0) ** (1 / self.p), np.inf)
 
 
-def reached(lengths: Numbers, core: Numbers | None, one: Places, other: Places) -> Numbers:
+def reached(lengths: Numbers, core: Numbers | None, one: Places, other: Places | int) -> Numbers:
     """The heights at which points reach each other that are so far apart."""
     return lengths if core is None else np.maximum(lengths, np.maximum(core[one], core[other]))
 
@@ -98,13 +107,24 @@ def tree_of_points(points: Numbers, p: float, nearest: int | None) -> tuple[Plac
     return one, other, space.heights(one, other)
 
 
-def _pieces(points: NDArray, width: int) -> Iterator[NDArray]:
-    """The points in pieces of work, if each takes so much."""
+def _pieces(points: NDArray[Any], width: int) -> Iterator[NDArray[Any]]:
+    """The points in pieces of work, if each has so many numbers."""
     size = max(_PIECE // max(width, 1), 1)
     return (points[start : start + size] for start in range(0, len(points), size))
 
 
-def _trees_for(space: Space) -> Callable | None:
+def _paced(points: Places, width: int) -> Iterator[Places]:
+    """The points in pieces that take about as long as one another, so that Ctrl-C is heard soon."""
+    size, start = _FIRST_PIECE // width, 0
+    while start < len(points):
+        begun = time.thread_time()
+        yield points[start : start + size]
+        start += size
+        fitting = size * _SECONDS / max(time.thread_time() - begun, 1e-6)
+        size = int(min(max(fitting, 1), _PIECE // width, 8 * size))
+
+
+def _trees_for(space: Space) -> Trees | None:
     """What makes k-d trees of rows, if they help."""
     if not space.is_tame or not 0 < len(space.columns) <= _DIMENSIONS or len(space) < 2:
         return None
@@ -116,10 +136,10 @@ def _trees_for(space: Space) -> Callable | None:
     return lambda rows: cKDTree(rows, leafsize=_LEAF, balanced_tree=False, compact_nodes=False)
 
 
-def _core_by_trees(space: Space, trees: Callable, nearest: int) -> Numbers:
+def _core_by_trees(space: Space, trees: Trees, nearest: int) -> Numbers:
     rows = np.ascontiguousarray(space.columns.T)
     tree, core = trees(rows), np.empty(len(rows))
-    for some in _pieces(tree.indices, nearest):
+    for some in _paced(tree.indices, 8):
         core[some] = tree.query(rows[some], [nearest], p=space.p)[0][:, 0]
     return core
 
@@ -129,14 +149,18 @@ def _core_by_rows(space: Space, nearest: int) -> Numbers:
     return np.array([np.partition(it, nearest - 1)[nearest - 1] for it in lengths])
 
 
-def _by_rounds(space: Space, trees: Callable) -> Ends:
+def _by_rounds(space: Space, trees: Trees) -> Ends:
     """The tree by rounds over the points that differ; each other hangs on the first that is equal to it."""
     first, copies, originals = _once(space)
-    rows = np.ascontiguousarray(space.columns[:, first].T)
+    columns = space.columns.take(first, axis=1)
+    grid = fitting_grid(columns)
     # (so that near points lie near in memory, and are asked one after another)
-    first = first[trees(rows).indices]
+    first = first[grid.order if grid else trees(columns.T.copy()).indices]
     core = None if space.core is None else space.core[first]
-    rounds = Rounds(np.ascontiguousarray(space.columns[:, first].T), core, trees, space.p)
+    # (take makes whole columns, and from others it would copy all of them at each call)
+    rounds = Rounds(space, space.columns.take(first, axis=1), core, trees)
+    if grid:
+        rounds.look_around(grid)
     one, other = rounds.tree()
     return np.concatenate([first[one], copies]), np.concatenate([first[other], originals])
 
@@ -162,21 +186,23 @@ class Rounds:
     first. `found` are ways that aren't in it yet, and `proved` the edges of the tree so far.
     """
 
-    def __init__(self, rows: Numbers, core: Numbers | None, trees: Callable, p: float) -> None:
-        self.rows, self.core, self.trees, self.p = rows, core, trees, p
-        self.whole = trees(rows)
-        n = self.count = len(rows)
+    def __init__(self, space: Space, columns: Numbers, core: Numbers | None, trees: Trees) -> None:
+        self.columns, self.core, self.trees, self.p, self.norms = columns, core, trees, space.p, space.norms
+        self.rows = columns.T.copy()
+        self.whole = trees(self.rows)
+        n = self.count = len(self.rows)
         self.label = np.arange(n, dtype=np.int32)
         self.reach, self.low = np.zeros(n), np.zeros(n)
         self.asked = np.zeros(n, np.int32)
         self.one = self.other = np.empty(0, np.int32)
         self.lengths = np.empty(0)
-        self.found: list[tuple] = []
+        self.found: list[tuple[NDArray[Any], ...]] = []
         self.proved: list[Ends] = []
 
     def tree(self) -> Ends:
         """The edges of the tree."""
-        self.ask(np.arange(len(self.rows)), _FIRST)
+        if not self.found:
+            self.ask(np.arange(len(self.rows)), _FIRST)
         self.sort_ways()
         self.low = self.reach
         while self.count > 1:
@@ -185,6 +211,16 @@ class Rounds:
                 self.look_further(heights)
         one, other = zip(*self.proved) if self.proved else ([self.one], [self.one])
         return np.concatenate(one), np.concatenate(other)
+
+    def look_around(self, grid: Grid) -> None:
+        """Notes the ways between all points that are nearer to one another than a cell's side."""
+        for one, other in grid.pairs(_NEAR):
+            lengths = self.norms(self.columns.take(one, axis=1) - self.columns.take(other, axis=1))
+            (near,) = np.nonzero(lengths < grid.reach)
+            one, other = one[near], other[near]
+            self.found.append((one.astype(np.int32), other.astype(np.int32), reached(lengths[near], self.core, one, other)))
+        # (as if they had been asked for few: next they are asked for the usual number)
+        self.know(np.arange(len(self.rows)), np.full(len(self.rows), grid.reach), _FIRST // 2)
 
     def merge(self) -> Numbers:
         """Merges components along ways that are their lightest, until none is for sure; how long the lightest known are."""
@@ -234,7 +270,7 @@ class Rounds:
             now = was == asked
             apart = now & ((counts > 4 * asked) | (asked > _MOST))
             # (trees without components are made of all points)
-            if np.count_nonzero(apart) * asked <= len(self.rows):
+            if asked < _FIRST or np.count_nonzero(apart) * asked <= len(self.rows):
                 apart[:] = False
             self.ask(short[now & ~apart], 2 * asked)
             self.ask_apart(short[apart], 1 if self.core is None else 2 * asked)
@@ -245,7 +281,7 @@ class Rounds:
 
     def ask(self, points: Places, count: int) -> None:
         """Asks points for so many neighbours, themselves counted."""
-        for some in _pieces(points, count):
+        for some in _paced(points, count):
             lengths, near = self.whole.query(self.rows[some], range(1, count + 1), p=self.p)
             self.know(some, lengths[:, -1], count)
             self.note(some, near, lengths)
@@ -264,7 +300,7 @@ class Rounds:
                     continue
                 tree = self.trees(self.rows[others])
                 others = np.append(others, len(self.rows))
-                for some in _pieces(mine, count):
+                for some in _paced(mine, count):
                     lengths, near = tree.query(self.rows[points[some]], range(1, count + 1), p=self.p)
                     reach[some] = np.minimum(reach[some], lengths[:, -1])
                     self.note(points[some], others[near], lengths)
@@ -348,9 +384,9 @@ class Rest:
 
     def steps(self, some: Places, here: int) -> Numbers:
         """The ways from a point to some of the rest."""
-        if not self.has_bar and len(some) == self.left:
-            return self.columns[:, : self.left] - self.space.columns[:, [here]]
-        return self.space.columns[:, self.points[some]] - self.space.columns[:, [here]]
+        ends = self.columns[:, : self.left] if not self.has_bar and len(some) == self.left else self.space.columns[:, self.points[some]]
+        found: Numbers = ends - self.space.columns[:, [here]]
+        return found
 
     def take_nearest(self) -> tuple[int, int]:
         """Takes the point that is nearest to the tree; before it stands the one that it is near to."""

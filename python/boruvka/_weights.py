@@ -1,5 +1,9 @@
 """Weights as whole numbers of 64 bits in the same order."""
 
+from __future__ import annotations
+
+from typing import Any
+
 import numpy as np
 from numpy.typing import NDArray
 
@@ -8,7 +12,7 @@ _PIECE = 1 << 14
 _MOST = (1 << 63) - 1
 
 
-def ordered(weights: np.ndarray, maximum: bool = False) -> NDArray[np.int64]:
+def ordered(weights: NDArray[Any], maximum: bool = False) -> NDArray[np.int64]:
     """Whole numbers in the order of these weights, or in the other if `maximum` is true, equal for equal ones.
 
     Of int64 it is the same array, where C can take it. A ValueError is a NaN or a number past 2^63 - 1, a TypeError a
@@ -16,15 +20,30 @@ def ordered(weights: np.ndarray, maximum: bool = False) -> NDArray[np.int64]:
     """
     kind, size = weights.dtype.kind, weights.dtype.itemsize
     if kind not in "biuf" or size > 8:
-        raise TypeError(f"w has the dtype {weights.dtype}: weights are whole numbers or floats of up to 64 bits")
+        raise TypeError(f"{why_none(weights, 'w', 'biuf')}: weights are whole numbers or floats of up to 64 bits")
     if kind == "u" and size == 8 and len(weights) and int(weights.max()) > _MOST:
         raise ValueError(f"w[{weights.argmax()}] is {weights.max()}, past 2^63 - 1")
-    keys = _of_floats(weights) if kind == "f" else np.require(weights, np.int64, ["C_CONTIGUOUS", "ALIGNED"])
+    keys: NDArray[np.int64] = _of_floats(weights) if kind == "f" else np.require(weights, np.int64, ["C_CONTIGUOUS", "ALIGNED"])
     # (no bit changes its place, so there is nothing to overflow)
-    return np.invert(keys) if maximum else keys
+    return ~keys if maximum else keys
 
 
-def _of_floats(weights: np.ndarray) -> NDArray[np.int64]:
+def why_none(array: NDArray[Any], name: str, kinds: str) -> str:
+    """Which dtype an array has that is none of these kinds, and the first entry that is the reason."""
+    dtype = f"{name} has the dtype {array.dtype}"
+    if array.dtype.kind == "f" and "f" not in kinds:
+        wrong = ~np.isfinite(array) | (np.floor(array) != array)
+    elif array.dtype.kind == "O":
+        wrong = np.array([np.asarray(it).dtype.kind not in kinds for it in array.ravel().tolist()], bool).reshape(array.shape)
+    else:
+        wrong = np.full(array.shape, array.dtype.kind in "SU")
+    if not wrong.any():
+        return dtype
+    place = np.unravel_index(wrong.argmax(), array.shape)
+    return f"{dtype}, as {name}[{', '.join(map(str, place))}] is {array[place]!r:.80}"
+
+
+def _of_floats(weights: NDArray[Any]) -> NDArray[np.int64]:
     """The bits of each float; if the sign is set, those of its size below 0. So -0.0 counts as 0.0.
 
     No float is reckoned with: a library may have had the processor take those next to 0 for 0.

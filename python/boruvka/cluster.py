@@ -3,21 +3,41 @@
 from __future__ import annotations
 
 import operator
-from typing import Any
+from typing import TYPE_CHECKING, Any, TypeVar
 
 import numpy as np
 from numpy.typing import ArrayLike, NDArray
-from sklearn.base import BaseEstimator, ClusterMixin
 
 from boruvka._density import Condensed
 from boruvka._forest import Forest
-from boruvka.linkage import spanning_tree
+from boruvka.linkage import cut, spanning_tree
+
+if TYPE_CHECKING:
+    Self = TypeVar("Self", bound="_Estimator")
+
+    class _Estimator:
+        """What estimators have of scikit-learn, which tells no types."""
+
+        def fit_predict(self, X: ArrayLike, y: Any = None) -> NDArray[np.intp]: ...
+        def get_params(self, deep: bool = True) -> dict[str, Any]: ...
+        def set_params(self: Self, **params: Any) -> Self: ...
+        def _validate_data(self, X: ArrayLike, **words: Any) -> NDArray[np.float64]: ...
+
+else:
+    from sklearn.base import BaseEstimator, ClusterMixin
+
+    class _Estimator(ClusterMixin, BaseEstimator):
+        pass
+
 
 __all__ = ["HDBSCAN", "SingleLinkage"]
 
 
-class _OverTree(ClusterMixin, BaseEstimator):
+class _OverTree(_Estimator):
     """What both have in common: the tree of the points, as `tree_`."""
+
+    metric: str
+    p: float
 
     def _tree_of(self, X: ArrayLike, min_samples: int | None) -> Forest:
         try:
@@ -80,7 +100,7 @@ class SingleLinkage(_OverTree):
         if (self.n_clusters is None) == (self.distance_threshold is None):
             raise ValueError("give either n_clusters or distance_threshold, and None for the other")
         tree = self._tree_of(X, self.min_samples)
-        self.labels_: NDArray[np.intp] = tree.labels(clusters=self.n_clusters, height=self.distance_threshold, min_size=self.min_size)
+        self.labels_ = cut(tree.n, tree, self.n_clusters, self.distance_threshold, self.min_size)
         return self
 
 

@@ -11,20 +11,30 @@ import numbers
 import operator
 import sys
 import warnings
-from typing import Any, SupportsIndex
+from typing import Any, Protocol, SupportsIndex, overload
 
 import numpy as np
 from numpy.typing import ArrayLike, NDArray
 
 from boruvka import _library
-from boruvka._forest import Forest, minimum_spanning_forest, vertices
+from boruvka._forest import Forest, Real, held, is_masked, minimum_spanning_forest, vertices
 from boruvka._metrics import Metric, metric_of
 from boruvka._points import tree_of_points
+from boruvka._weights import why_none
 
 __all__ = ["labels", "merges", "single_linkage", "spanning_tree"]
 
+# up to this, each whole number is a double
+_EXACT = 1 << 53
 
-def single_linkage(y: ArrayLike, *, metric: str = "euclidean", p: float = 2, min_samples: int | None = None) -> NDArray[np.float64]:
+
+class SparseMatrix(Protocol):
+    """A matrix of scipy that stores some entries."""
+
+    def tocoo(self) -> Any: ...
+
+
+def single_linkage(y: ArrayLike | SparseMatrix, *, metric: str = "euclidean", p: float = 2, min_samples: int | None = None) -> NDArray[np.float64]:
     """Cluster points by single linkage, as `scipy.cluster.hierarchy.linkage(y, "single")` does.
 
     Parameters
@@ -66,7 +76,7 @@ def single_linkage(y: ArrayLike, *, metric: str = "euclidean", p: float = 2, min
     return merges(tree.n, tree)
 
 
-def spanning_tree(y: ArrayLike, *, metric: str = "euclidean", p: float = 2, min_samples: int | None = None) -> Forest:
+def spanning_tree(y: ArrayLike | SparseMatrix, *, metric: str = "euclidean", p: float = 2, min_samples: int | None = None) -> Forest:
     """Find the minimum spanning tree of points, or of given distances.
 
     Parameters
@@ -75,8 +85,8 @@ def spanning_tree(y: ArrayLike, *, metric: str = "euclidean", p: float = 2, min_
         Points or distances, as `single_linkage` takes them. The entries of a sparse matrix are distances; pairs without
         an entry have no edge, so that there may be several components. Of (i, j) and (j, i) the lesser counts.
     metric : str, optional
-        How far points are apart: "euclidean", "manhattan", "chebyshev", "minkowski", "haversine" (rows are latitude and
-        longitude in radians, lengths are radians) or "cosine".
+        How far points are apart: "euclidean" ("l2"), "manhattan" ("cityblock", "l1"), "chebyshev", "minkowski",
+        "haversine" (rows are latitude and longitude in radians, lengths are radians) or "cosine".
     p : float, optional
         The exponent of "minkowski", at least 1.
     min_samples : int, optional
@@ -122,9 +132,10 @@ def spanning_tree(y: ArrayLike, *, metric: str = "euclidean", p: float = 2, min_
         raise ValueError(f"y has the shape {given.shape}: points are rows, and distances have one dimension")
     if not len(given):
         raise ValueError("there is no point")
-    are_finite = np.isfinite(given).all(axis=1)
+    are_finite = np.isfinite(given)
     if not are_finite.all():
-        raise ValueError(f"a coordinate of the point {are_finite.argmin()} isn't finite")
+        row, column = np.unravel_index(are_finite.argmin(), given.shape)
+        raise ValueError(f"a coordinate of the point {row} isn't finite: y[{row}, {column}] is {given[row, column]}")
     if _are_distances(given):
         _warn("y is square, symmetric and 0 on its diagonal: its rows are taken as points, not as distances")
     return _of_points(given, metric_of(metric, p), min_samples)
@@ -165,8 +176,8 @@ def merges(n: SupportsIndex, forest: Forest) -> NDArray[np.float64]:
         raise ValueError("the edges of a maximum forest are no merges: their heights would fall")
     count = operator.index(n)
     if len(forest.w) != count - 1:
-        raise ValueError(f"{len(forest.w)} edges don't make one tree of {count} vertices")
-    u, v = vertices(count, forest.u, "forest.u"), vertices(count, forest.v, "forest.v")
+        raise ValueError(f"{len(forest.w)} edges don't make one tree of {count} vertices: a forest of several components has no linkage")
+    u, v = vertices(count, forest.u, "forest.u", forest.v), vertices(count, forest.v, "forest.v", forest.u)
     # the cluster that took a cluster up, or itself
     taker, sizes = list(range(2 * count - 1)), [1] * count
     lower, higher = [], []
@@ -181,12 +192,16 @@ def merges(n: SupportsIndex, forest: Forest) -> NDArray[np.float64]:
     return np.column_stack([np.array(it, np.float64) for it in (lower, higher, forest.w, sizes[count:])])
 
 
+@overload
+def labels(n: SupportsIndex, forest: Forest, *, clusters: SupportsIndex, height: None = None, min_size: SupportsIndex = 1) -> NDArray[np.intp]: ...
+@overload
+def labels(n: SupportsIndex, forest: Forest, *, clusters: None = None, height: Real, min_size: SupportsIndex = 1) -> NDArray[np.intp]: ...
 def labels(
     n: SupportsIndex,
     forest: Forest,
     *,
     clusters: SupportsIndex | None = None,
-    height: float | None = None,
+    height: Real | None = None,
     min_size: SupportsIndex = 1,
 ) -> NDArray[np.intp]:
     """Cut a forest into clusters: leave its heaviest edges out, and number what still hangs together.
@@ -214,8 +229,8 @@ def labels(
     Raises
     ------
     ValueError
-        If there can't be so many clusters, the height is NaN, the forest has n edges or more or another vertex, its
-        arrays differ in shape, or edges that count close a cycle.
+        If there can't be so many clusters, the height is NaN, the forest has n edges or more or another vertex, or edges
+        that count close a cycle.
     TypeError
         If not just one of `clusters` and `height` is given, n or `clusters` is no whole number, `height` is no real number,
         or `forest` is no Forest.
@@ -238,11 +253,16 @@ def labels(
     >>> labels(4, tree, height=0.5)
     array([0, 1, 2, 3])
     """
+    return cut(n, forest, clusters, height, min_size)
+
+
+def cut(n: SupportsIndex, forest: Forest, clusters: SupportsIndex | None, height: Real | None, min_size: SupportsIndex) -> NDArray[np.intp]:
+    """As `labels`, of which just one of `clusters` and `height` is wanted."""
     forest = _best_first(forest)
     count = operator.index(n)
-    if not 0 <= count <= _library.MAX_VERTICES:
-        raise ValueError(f"n is {count}, and has to be from 0 to 2^26")
-    low, high = vertices(count, forest.u, "forest.u"), vertices(count, forest.v, "forest.v")
+    if not forest.n <= count <= _library.MAX_VERTICES:
+        raise ValueError(f"n is {count}, and has to be from {forest.n}, the number of the forest's vertices, to 2^26")
+    low, high = vertices(count, forest.u, "forest.u", forest.v), vertices(count, forest.v, "forest.v", forest.u)
     if len(forest.w) >= max(count, 1):
         raise ValueError(f"{len(forest.w)} edges between {count} vertices close a cycle")
     if clusters is not None and height is None:
@@ -250,7 +270,7 @@ def labels(
     elif height is not None and clusters is None:
         kept = _up_to(forest, height)
     else:
-        raise TypeError("give either `clusters` or `height`")
+        raise TypeError(f"give either `clusters` or `height`, not {'both' if clusters is not None else 'neither'}")
     if not 0 <= kept <= len(forest.w):
         raise ValueError(f"{clusters} clusters can't be cut: there may be {count - len(forest.w)} to {count}")
     links = np.zeros(kept, _library.LINK)
@@ -258,7 +278,8 @@ def labels(
     least = _library.labels(count, links) - 1
     is_first = least == np.arange(count)
     is_kept = is_first & (np.bincount(least, minlength=count) >= operator.index(min_size))
-    return np.where(is_kept, np.cumsum(is_kept) - 1, -1)[least]
+    numbered: NDArray[np.intp] = np.where(is_kept, np.cumsum(is_kept) - 1, -1)[least]
+    return numbered
 
 
 def _best_first(given: object) -> Forest:
@@ -273,7 +294,7 @@ def _best_first(given: object) -> Forest:
     return given._replace(u=given.u[order], v=given.v[order], w=given.w[order], index=given.index[order])
 
 
-def _up_to(forest: Forest, height: float) -> int:
+def _up_to(forest: Forest, height: Real) -> int:
     """How many edges weigh at most so much, or of a maximum forest at least, as numpy compares them."""
     if not isinstance(height, numbers.Real):
         raise TypeError(f"the height is a {type(height).__name__}, and has to be a real number")
@@ -289,13 +310,20 @@ def _newest(taker: list[int], cluster: int) -> int:
     return cluster
 
 
-def _numbers(y: ArrayLike) -> NDArray[np.float64]:
-    if np.ma.is_masked(y):
-        raise ValueError("y has masked entries")
-    given = np.asarray(y)
-    if given.dtype.kind not in "biuf":
-        raise TypeError(f"y has the dtype {given.dtype}, and has to be real numbers")
-    return given.astype(np.float64, copy=False)
+def _numbers(y: Any) -> NDArray[np.float64]:
+    given = held(y, "y")
+    if is_masked(y):
+        raise ValueError("y has masked entries: leave these points out first")
+    if given.dtype.kind not in "biuf" or given.dtype.itemsize > 8:
+        raise TypeError(f"{why_none(given, 'y', 'biuf')}, and has to be real numbers of up to 64 bits")
+    numbers = given.astype(np.float64, copy=False)
+    if given.dtype.kind in "iu" and given.dtype.itemsize == 8 and given.size and max(-int(given.min()), int(given.max())) > _EXACT:
+        # (doubles below 2^64 lie at most 2^11 apart)
+        is_rounded = numbers % 2048 != given % 2048
+        if is_rounded.any():
+            place = np.unravel_index(is_rounded.argmax(), given.shape)
+            raise ValueError(f"y[{', '.join(map(str, place))}] is {given[place]}, which a double would round: take the least of each column off first")
+    return numbers
 
 
 def _are_distances(points: NDArray[np.float64]) -> bool:
@@ -318,11 +346,12 @@ def _warn(words: str) -> None:
 def _of_distances(distances: NDArray[np.float64]) -> Forest:
     if not len(distances):
         raise ValueError("there is no point and no distance: one point is a row, [[x, y]]")
+    if not np.isfinite(distances).all() or (distances < 0).any():
+        place = (~np.isfinite(distances) | (distances < 0)).argmax()
+        raise ValueError(f"y[{place}] is {distances[place]}: a distance isn't finite, or is negative")
     n = (1 + round((1 + 8 * len(distances)) ** 0.5)) // 2
     if n * (n - 1) // 2 != len(distances):
-        raise ValueError(f"{len(distances)} distances aren't those between all pairs of any number of points")
-    if not np.isfinite(distances).all() or (distances < 0).any():
-        raise ValueError("a distance isn't finite, or is negative")
+        raise ValueError(f"{len(distances)} distances aren't those between all pairs of any number of points: points in one dimension are y[:, None]")
     return minimum_spanning_forest(n, *_pairs(n), distances)
 
 
@@ -334,10 +363,12 @@ def _expect_points(metric: str, min_samples: int | None, given: str) -> None:
 def _of_entries(matrix: Any) -> Forest:
     entries = matrix.tocoo()
     if entries.shape[0] != entries.shape[1]:
-        raise ValueError(f"y has the shape {entries.shape}, and a matrix of distances is square")
+        raise ValueError(f"y has the shape {entries.shape}, and a sparse matrix of distances is square: points are y.toarray()")
     distances = _numbers(entries.data)
-    if not np.isfinite(distances).all() or (distances < 0).any():
-        raise ValueError("a distance isn't finite, or is negative")
+    is_wrong = ~np.isfinite(distances) | (distances < 0)
+    if is_wrong.any():
+        row, column = (it[is_wrong.argmax()] for it in (entries.row, entries.col))
+        raise ValueError(f"y[{row}, {column}] is {distances[is_wrong.argmax()]}: a distance isn't finite, or is negative")
     return minimum_spanning_forest(entries.shape[0], entries.row, entries.col, distances)
 
 

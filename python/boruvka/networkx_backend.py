@@ -21,6 +21,8 @@ from numpy.typing import NDArray
 
 from boruvka._forest import places
 
+#: its ends, in a multigraph its key, and its data
+Edge = tuple[Any, ...]
 # how many edges make up for putting them into arrays
 _WORTHWHILE = 500
 _WHOLE = {bool, int, np.bool_, np.int8, np.int16, np.int32, np.int64, np.uint8, np.uint16, np.uint32}
@@ -63,18 +65,18 @@ class ArrayGraph:
         self.u, self.v = u[u <= v], v[u <= v]
 
     def is_directed(self) -> bool:
-        return self.graph.is_directed()
+        return bool(self.graph.is_directed())
 
     def is_multigraph(self) -> bool:
-        return self.graph.is_multigraph()
+        return bool(self.graph.is_multigraph())
 
-    def edges(self, index: NDArray[np.intp]) -> list[tuple]:
+    def edges(self, index: NDArray[np.intp]) -> list[Edge]:
         """Edges as networkx has them: their ends, their keys in a multigraph, their data."""
         columns = [map(self.names.__getitem__, it[index].tolist()) for it in (self.u, self.v)]
         columns += [map(it.__getitem__, index.tolist()) for it in (self.keys, self.data) if it is not None]
         return list(zip(*columns))
 
-    def forest(self, weight: str, is_minimum: bool, ignore_nan: bool) -> list[tuple]:
+    def forest(self, weight: str, is_minimum: bool, ignore_nan: bool) -> list[Edge]:
         """The edges of the forest in the order in which Kruskal's algorithm takes them.
 
         An Unsuited says that the weights can't be put in order.
@@ -96,7 +98,7 @@ def minimum_spanning_edges(
     keys: bool = True,
     data: bool = True,
     ignore_nan: bool = False,
-) -> Iterator[tuple]:
+) -> Iterator[Edge]:
     """As `networkx.minimum_spanning_edges`, whose words it takes."""
     return _edges(G, nx.minimum_spanning_edges, algorithm, weight, keys, data, ignore_nan)
 
@@ -108,7 +110,7 @@ def maximum_spanning_edges(
     keys: bool = True,
     data: bool = True,
     ignore_nan: bool = False,
-) -> Iterator[tuple]:
+) -> Iterator[Edge]:
     """As `networkx.maximum_spanning_edges`, whose words it takes."""
     return _edges(G, nx.maximum_spanning_edges, algorithm, weight, keys, data, ignore_nan)
 
@@ -137,18 +139,18 @@ def convert_to_nx(result: Any, **_: Any) -> Any:
     return result.graph if isinstance(result, ArrayGraph) else result
 
 
-def can_run(name: str, args: tuple, kwargs: dict) -> bool:
+def can_run(name: str, args: tuple[Any, ...], kwargs: dict[str, Any]) -> bool:
     """Whether a call can be answered: each can, if need be by networkx."""
     return True
 
 
-def should_run(name: str, args: tuple, kwargs: dict) -> bool | str:
+def should_run(name: str, args: tuple[Any, ...], kwargs: dict[str, Any]) -> bool | str:
     """Whether a call is answered sooner here, if the user named no backend for it."""
     graph = args[0] if args else kwargs["G"]
     return graph.number_of_edges() > _WORTHWHILE or "a small graph is done as fast by networkx"
 
 
-def info() -> dict:
+def info() -> dict[str, Any]:
     """What networkx's documents tell of this backend."""
     functions = minimum_spanning_edges, maximum_spanning_edges, minimum_spanning_tree, maximum_spanning_tree
     return {
@@ -161,17 +163,18 @@ def info() -> dict:
 
 
 def _edges(
-    G: ArrayGraph | nx.Graph, of_networkx: Callable, algorithm: str, weight: str, keys: bool, data: bool, ignore_nan: bool
-) -> Iterator[tuple]:
+    G: ArrayGraph | nx.Graph, of_networkx: Callable[..., Iterator[Edge]], algorithm: str, weight: str, keys: bool, data: bool, ignore_nan: bool
+) -> Iterator[Edge]:
     held = G if isinstance(G, ArrayGraph) else ArrayGraph(G)
     if held.is_directed():
         raise nx.NetworkXNotImplemented("not implemented for directed type")
     own = getattr(of_networkx, "orig_func", of_networkx)
     words = {"algorithm": algorithm, "weight": weight, "keys": keys, "data": data, "ignore_nan": ignore_nan}
-    return _found(held, own, **words) if algorithm == "kruskal" else own(held.graph, **words)
+    found: Iterator[Edge] = _found(held, own, **words) if algorithm == "kruskal" else own(held.graph, **words)
+    return found
 
 
-def _found(held: ArrayGraph, own: Callable, **words: Any) -> Iterator[tuple]:
+def _found(held: ArrayGraph, own: Callable[..., Iterator[Edge]], **words: Any) -> Iterator[Edge]:
     """The edges of the forest. As networkx does, it looks at weights when the first is asked for."""
     try:
         found = held.forest(words["weight"], own.__name__ == "minimum_spanning_edges", words["ignore_nan"])
@@ -183,7 +186,7 @@ def _found(held: ArrayGraph, own: Callable, **words: Any) -> Iterator[tuple]:
         yield (*it[:ends], it[-1]) if words["data"] else it[:ends]
 
 
-def _tree(G: ArrayGraph | nx.Graph, edges: Iterator[tuple]) -> nx.Graph:
+def _tree(G: ArrayGraph | nx.Graph, edges: Iterator[Edge]) -> nx.Graph:
     """A graph of the same class, with the same vertices and these edges."""
     graph = convert_to_nx(G)
     tree = graph.__class__()
@@ -193,16 +196,16 @@ def _tree(G: ArrayGraph | nx.Graph, edges: Iterator[tuple]) -> nx.Graph:
     return tree
 
 
-def _held(group: Mapping) -> dict:
+def _held(group: Mapping[Any, Any]) -> dict[Any, Any]:
     """What a mapping holds."""
     return group if type(group) is dict else dict(group)
 
 
-def _lengths(groups: Iterable[Collection]) -> NDArray[np.intp]:
+def _lengths(groups: Iterable[Collection[Any]]) -> NDArray[np.intp]:
     return np.array([len(it) for it in groups], np.intp)
 
 
-def _array_of(weights: list) -> np.ndarray:
+def _array_of(weights: list[Any]) -> NDArray[Any]:
     """Numbers in the order of these weights, equal for equal ones; an Unsuited if 64 bits can't tell them apart."""
     types = set(map(type, weights))
     if not types <= _WHOLE | _FLOATS:
@@ -217,7 +220,7 @@ def _array_of(weights: list) -> np.ndarray:
     return np.fromiter(weights, np.float64, len(weights))
 
 
-def _ranks(weights: np.ndarray, is_minimum: bool) -> NDArray[np.int64]:
+def _ranks(weights: NDArray[Any], is_minimum: bool) -> NDArray[np.int64]:
     """The place of each weight when they are sorted as Kruskal's algorithm does; of equal ones the first comes first."""
     m = len(weights)
     # the greatest come first, if what comes last when they are sorted backwards comes first

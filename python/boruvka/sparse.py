@@ -2,6 +2,8 @@
 
 from __future__ import annotations
 
+from typing import Any
+
 import numpy as np
 from numpy.typing import ArrayLike
 from scipy.sparse import csr_matrix, issparse, spmatrix
@@ -59,7 +61,8 @@ def minimum_spanning_tree(csgraph: spmatrix | ArrayLike, overwrite: bool = False
     n = graph.shape[0]
     rows = np.repeat(np.arange(n, dtype=np.int32), np.diff(graph.indptr))
     if np.isnan(graph.data).any():
-        raise ValueError("csgraph has a NaN")
+        place = np.isnan(graph.data).argmax()
+        raise ValueError(f"csgraph[{rows[place]}, {graph.indices[place]}] is NaN")
     taken = np.zeros(len(rows), bool)
     taken[places(n, rows, graph.indices, graph.data, maximum)] = True
     taken &= graph.data != 0
@@ -68,14 +71,13 @@ def minimum_spanning_tree(csgraph: spmatrix | ArrayLike, overwrite: bool = False
     return csr_matrix((graph.data[taken], graph.indices[taken], starts), shape=graph.shape)
 
 
-def _as_csr(csgraph: spmatrix | ArrayLike) -> csr_matrix:
+def _as_csr(csgraph: Any) -> csr_matrix:
     """The graph with its edges as scipy's own functions over graphs find them."""
+    shape = csgraph.shape if issparse(csgraph) else np.shape(csgraph)
+    if len(shape) != 2 or shape[0] != shape[1]:
+        raise ValueError(f"csgraph has the shape {shape}, and a graph's matrix is square")
     if issparse(csgraph):
-        graph = csr_matrix(csgraph, dtype=np.float64)
-    elif np.ma.isMaskedArray(csgraph):
-        graph = csgraph_from_masked(csgraph)
-    else:
-        graph = csgraph_from_dense(csgraph)
-    if graph.shape[0] != graph.shape[1]:
-        raise ValueError(f"csgraph has the shape {graph.shape}, and a graph's matrix is square")
-    return graph
+        return csr_matrix(csgraph, dtype=np.float64)
+    if isinstance(csgraph, np.ma.MaskedArray):
+        return csgraph_from_masked(csgraph)
+    return csgraph_from_dense(csgraph)

@@ -33,11 +33,17 @@ def draw_both(picture, points, tree, cluster):
     for u, v in zip(tree.u, tree.v):
         is_cut = cluster[u] != cluster[v]
         left.plot(*points[[u, v]].T, "--" if is_cut else "-", color="silver" if is_cut else "black", zorder=1)
-    left.scatter(*points.T, c=cluster, cmap="tab10", zorder=2)
+    left.scatter(*points.T, c=cluster, cmap="tab10", vmin=0, vmax=9, zorder=2)
     left.set(title="points, and their tree cut into four", aspect="equal")
     # the third heaviest edge is the lightest that was cut
     height = (tree.w[-4] + tree.w[-3]) / 2
-    dendrogram(merges(len(points), tree), ax=right, color_threshold=height, above_threshold_color="silver")
+    matrix = merges(len(points), tree)
+    # each merge in the colour of its points' cluster
+    member = list(range(len(points)))
+    for one, _, _, _ in matrix:
+        member.append(member[int(one)])
+    colours = [f"C{cluster[member[it]]}" if it < len(points) or matrix[it - len(points), 2] < height else "silver" for it in range(len(member))]
+    dendrogram(matrix, ax=right, link_color_func=colours.__getitem__)
     right.axhline(height, color="grey", linestyle=":")
     right.set(title="single linkage", ylabel="distance")
     figure.savefig(picture, dpi=100)

@@ -13,7 +13,7 @@ import unittest
 import numpy as np
 
 import boruvka
-from boruvka import _forest, _frames, linkage
+from boruvka import _forest, _frames, _gr, linkage
 
 TOP = os.path.dirname(os.path.dirname(os.path.abspath(__file__)))
 EXAMPLES = f"{TOP}/examples"
@@ -30,6 +30,17 @@ def there(*names):
     return True
 
 
+@contextlib.contextmanager
+def in_new_folder():
+    here = os.getcwd()
+    with tempfile.TemporaryDirectory() as folder:
+        os.chdir(folder)
+        try:
+            yield
+        finally:
+            os.chdir(here)
+
+
 def printed(name, *words):
     """The lines that an example prints."""
     path = [os.path.dirname(os.path.dirname(boruvka.__file__)), *filter(None, [os.environ.get("PYTHONPATH")])]
@@ -42,8 +53,9 @@ def printed(name, *words):
 
 class Docstrings(unittest.TestCase):
     def expect_examples(self, module, least):
+        """In a folder of their own, as some write files."""
         told = io.StringIO()
-        with contextlib.redirect_stdout(told):
+        with in_new_folder(), contextlib.redirect_stdout(told):
             failed, tried = doctest.testmod(module, verbose=False)
         self.assertEqual((failed, told.getvalue()), (0, ""))
         self.assertGreaterEqual(tried, least)
@@ -51,6 +63,7 @@ class Docstrings(unittest.TestCase):
     def test_modules(self):
         self.expect_examples(_forest, 5)
         self.expect_examples(_frames, 4)
+        self.expect_examples(_gr, 6)
         self.expect_examples(linkage, 10)
         if there("sklearn"):
             from boruvka import cluster
@@ -62,9 +75,10 @@ class Docstrings(unittest.TestCase):
             self.expect_examples(sparse, 2)
 
     def test_each_public_function_has_parameters_returns_and_raises(self):
-        for it in (boruvka.minimum_spanning_forest, boruvka.from_edges, linkage.single_linkage, linkage.spanning_tree, linkage.merges, linkage.labels):
+        for it in (boruvka.minimum_spanning_forest, boruvka.from_edges, boruvka.read_gr, boruvka.write_gr, linkage.single_linkage, linkage.spanning_tree, linkage.merges, linkage.labels):
             for part in ("Parameters", "Returns", "Raises", "Examples"):
-                self.assertIn(f"    {part}\n    ---", it.__doc__, it.__name__)
+                if (it, part) != (boruvka.write_gr, "Returns"):
+                    self.assertIn(f"    {part}\n    ---", it.__doc__, it.__name__)
 
 
 class Readme(unittest.TestCase):
@@ -77,15 +91,11 @@ class Readme(unittest.TestCase):
         (points,) = [it.removeprefix("text\n") for it in blocks if it.startswith("text\n")]
         self.assertGreaterEqual(len(shown), 3)
         test = doctest.DocTestParser().get_doctest(kept, {}, "README.md", "README.md", 0)
-        told, here = io.StringIO(), os.getcwd()
-        with tempfile.TemporaryDirectory() as folder:
-            with open(f"{folder}/points.csv", "w", encoding="utf-8") as it:
+        told = io.StringIO()
+        with in_new_folder():
+            with open("points.csv", "w", encoding="utf-8") as it:
                 it.write(points)
-            os.chdir(folder)
-            try:
-                doctest.DocTestRunner(verbose=False).run(test, out=told.write)
-            finally:
-                os.chdir(here)
+            doctest.DocTestRunner(verbose=False).run(test, out=told.write)
         self.assertEqual(told.getvalue(), "")
         self.assertGreaterEqual(len(test.examples), 5)
 

@@ -188,6 +188,9 @@ class Knowing(unittest.TestCase):
         points = np.random.default_rng(1).random((7, 2))
         axes = self.forest.plot(points, labels=self.forest.labels(clusters=3))
         self.assertEqual((len(axes.collections[0].get_segments()), len(axes.collections[1].get_offsets())), (5, 7))
+        grey = self.forest.plot(points, labels=[-1, 0, 1, -1, 11, 2, 3]).collections[-1].get_facecolors()
+        self.assertEqual([grey[0].tolist(), grey[2].tolist()], [grey[3].tolist(), grey[4].tolist()])
+        self.assertEqual(len(np.unique(grey, axis=0)), 5)
         with self.assertRaisesRegex(ValueError, "shape"):
             self.forest.plot(points[:3])
 
@@ -231,53 +234,6 @@ class Called(unittest.TestCase):
         if sparse:
             with self.assertRaisesRegex(TypeError, "boruvka.sparse"):
                 minimum_spanning_forest(sparse.csr_matrix((2, 2)))
-
-
-class Frames(unittest.TestCase):
-    ROADS = {"from": ["Ely", "Bath", "Ely", "Rye"], "to": ["Bath", "York", "York", "Rye"], "km": [226, 330, 235, 1]}
-
-    def frames(self):
-        yield self.ROADS
-        yield {it: tuple(held) for it, held in self.ROADS.items()}
-        try:
-            import pandas
-        except ImportError:
-            return
-        yield pandas.DataFrame(self.ROADS)
-        yield pandas.DataFrame(self.ROADS).astype({"from": "category", "to": "string", "km": "Int64"})
-        yield pandas.DataFrame(self.ROADS, index=[7, 7, 1, 0])
-
-    def test_names_of_any_kind(self):
-        for frame in self.frames():
-            forest = boruvka.from_edges(frame, "from", "to", weight="km")
-            self.assertEqual((list(forest.names), forest.n, forest.total), (["Ely", "Bath", "Rye", "York"], 4, 461))
-            self.assertEqual(listed(forest), [[0, 0], [1, 3], [226, 235], [0, 2]])
-            self.assertEqual(boruvka.from_edges(frame, "from", "to", weight="km", maximum=True).total, 565)
-            self.assertEqual(forest.labels(height=230).tolist(), [0, 0, 1, 2])
-        mixed = boruvka.from_edges({"u": [("a", 1), 5, None.__class__], "v": [5, 2.5, 5], "w": [1.0, 2.0, 3.0]})
-        self.assertEqual(list(mixed.names), [("a", 1), 5, None.__class__, 2.5])
-
-    def test_names_are_handed_on(self):
-        forest = boruvka.from_edges(self.ROADS, "from", "to", weight="km")
-        self.assertNotEqual(forest, forest._replace(names=None))
-        try:
-            import pandas  # noqa: F401
-        except ImportError:
-            self.skipTest("there is no pandas")
-        self.assertEqual(forest.to_frame()["v"].tolist(), ["Bath", "York"])
-
-    def test_refused(self):
-        with self.assertRaises(KeyError):
-            boruvka.from_edges(self.ROADS)
-        for wrong in (None, math.nan):
-            with self.assertRaisesRegex(ValueError, "^row 1 has no name in the column 'v'"):
-                boruvka.from_edges({"u": [1, 2], "v": [3, wrong], "w": [1, 1]})
-        with self.assertRaisesRegex(ValueError, "differ in length"):
-            boruvka.from_edges({"u": [1], "v": [3, 1], "w": [1, 1]})
-        with self.assertRaises(TypeError):
-            boruvka.from_edges({"u": [[1]], "v": [3], "w": [1]})
-        with self.assertRaisesRegex(ValueError, r"^w\[1\] is NaN"):
-            boruvka.from_edges({"u": [1, 2], "v": [3, 1], "w": [1, math.nan]})
 
 
 class Limits(unittest.TestCase):
@@ -527,7 +483,7 @@ class Threads(unittest.TestCase):
 
 class Names(unittest.TestCase):
     def test_each_public_name_says_what_it_is(self):
-        self.assertEqual(boruvka.__all__, ["Forest", "from_edges", "minimum_spanning_forest", "show"])
+        self.assertEqual(boruvka.__all__, ["Forest", "from_edges", "minimum_spanning_forest", "read_gr", "show", "write_gr"])
         self.assertIs(boruvka.linkage.labels, __import__("boruvka.linkage").linkage.labels)
         self.assertIn("sparse", dir(boruvka))
         # (as it is installed, if it is)
@@ -535,7 +491,7 @@ class Names(unittest.TestCase):
             self.assertRegex(boruvka.__version__, r"^\d+\.\d+\.\d+$")
         with self.assertRaises(AttributeError):
             boruvka.no_such_name
-        for it in (boruvka, boruvka.Forest, boruvka.from_edges, boruvka.minimum_spanning_forest):
+        for it in map(boruvka.__dict__.get, boruvka.__all__):
             self.assertGreater(len(it.__doc__), 80)
 
 

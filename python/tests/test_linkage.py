@@ -9,7 +9,7 @@ from unittest import mock
 import numpy as np
 from graphs import Components, Graph, kruskal
 
-from boruvka import Forest, minimum_spanning_forest
+from boruvka import Forest, _points, minimum_spanning_forest
 from boruvka.linkage import labels, merges, single_linkage, spanning_tree
 
 
@@ -211,6 +211,39 @@ class Exact(unittest.TestCase):
                     with self.subTest(dimensions=dimensions, n=n, kind=kind):
                         self.expect_all_pairs(points)
 
+    def test_by_a_grid_too(self):
+        """It is for many points, and so is made here for few. Which it fits depends on how they lie."""
+        draw, fitting = np.random.default_rng(10), []
+
+        def fitting_grid(columns):
+            fitting.append(own(columns))
+            return fitting[-1]
+
+        own = _points.fitting_grid
+        with mock.patch("boruvka._grid._FEW", 2), mock.patch("boruvka._points.fitting_grid", fitting_grid):
+            for dimensions in (2, 3):
+                for n in (3, 50, 200):
+                    for kind, points in enumerate(clouds(draw, n, dimensions)):
+                        with self.subTest(dimensions=dimensions, n=n, kind=kind):
+                            self.expect_all_pairs(points)
+                for width in (1e-9, 1e-3, 0.1, 30):
+                    rounded = np.round(draw.normal(size=(150, dimensions)) / width) * width
+                    self.expect_all_pairs(rounded + draw.choice([0, 1, 100], (150, 1)))
+        self.assertGreater(sum(it is not None for it in fitting), len(fitting) // 3)
+
+    def test_as_many_as_a_grid_is_worth(self):
+        draw = np.random.default_rng(11)
+        for points in (draw.random((5000, 2)), draw.normal(size=(5000, 3)), np.round(draw.random((5000, 2)), 2)):
+            if there("scipy"):
+                self.assertIsNotNone(_points.fitting_grid(points.T))
+            for words in WORDS:
+                found = spanning_tree(points, **words).w
+                with mock.patch("boruvka._points.fitting_grid", lambda _: None):
+                    np.testing.assert_allclose(found, spanning_tree(points, **words).w, rtol=1e-13, atol=0)
+            if hierarchy:
+                wanted = hierarchy.linkage(points, "single")[:, 2]
+                np.testing.assert_allclose(spanning_tree(points).w, wanted, rtol=1e-12, atol=0)
+
     def test_by_rows_too(self):
         draw = np.random.default_rng(9)
         with mock.patch("boruvka._points._trees_for", lambda _: None):
@@ -257,6 +290,7 @@ class Exact(unittest.TestCase):
                     np.testing.assert_allclose(spanning_tree(points).w, wanted, rtol=1e-12, atol=0)
 
 
+WORDS = [{}, {"metric": "manhattan"}, {"metric": "chebyshev"}, {"metric": "minkowski", "p": 2.5}, {"min_samples": 6}]
 METRICS = {
     "euclidean": math.dist,
     "manhattan": lambda a, b: math.fsum(abs(x - y) for x, y in zip(a, b)),

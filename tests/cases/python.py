@@ -1,5 +1,6 @@
 """The package for Python: what its wheel has, that pip installs it, and its own tests over the wheel. They are run by a
 Python that has numpy, and are skipped where there is none; so is a part that wants one more package than is there."""
+import ast
 import base64
 import configparser
 import csv
@@ -15,7 +16,7 @@ import zipfile
 
 from cases.embedding import LIBRARIES
 from cases.release import AT, PLAIN, expect_proved, is_so, major, packed, version
-from cases.running import ROOT, Skipped, case, expect, run, written
+from cases.running import ROOT, Program, Skipped, case, expect, run, written
 
 PACKAGE = f"{ROOT}/python"
 PYTHONS = (sys.executable, "/usr/bin/python3", "/usr/local/bin/python3")
@@ -164,6 +165,55 @@ def forests_of_arrays(room):
 
 
 @case
+def forests_of_frames(room):
+    expect_tests(room, "test_frames")
+
+
+@case
+def gr_files(room):
+    expect_tests(room, "test_gr")
+
+
+@case
+def faults_as_the_program_tells_them(room):
+    """The line and the name of each fault that test_gr has, after the file's name."""
+    code = "import sys; sys.path.insert(0, sys.argv[1]); import test_gr; print([it[0] for it in test_gr.FAULTS])"
+    status, told, errors = run([python(), "-c", code, f"{PACKAGE}/tests"], env={**WITHOUT, "PYTHONPATH": site(room)})
+    texts = ast.literal_eval(told.decode()) if status == 0 else []
+    is_so((status, errors, len(texts) > 20), (0, b"", True))
+    code = "import boruvka, sys\nfor it in sys.argv[1:]:\n    try:\n        boruvka.read_gr(it)\n    except ValueError as error:\n        print(error)"
+    paths = [f"{room}/{number}.gr" for number in range(len(texts))]
+    for path, text in zip(paths, texts):
+        written(path, text)
+    told = run([python(), "-c", code, *paths], env={**WITHOUT, "PYTHONPATH": f"{room}/site"})[1].decode().splitlines()
+    wanted = [run([Program.path, "--plain", it])[2].decode() for it in paths]
+    is_so([f"{it}\n" for it in told], [f"{path}{it.removeprefix('boruvka')}" for path, it in zip(paths, wanted)])
+
+
+@case
+def mistakes_that_people_make(room):
+    expect_tests(room, "test_mistakes")
+
+
+@case
+def types_by_mypy(room):
+    """`mypy --strict` finds nothing in the package, nothing in typical uses, and just the lines that say so in mistakes."""
+    if run([python(), "-m", "mypy", "--version"], env=WITHOUT)[0]:
+        raise Skipped("the Python that has numpy has no mypy")
+    written(f"{room}/mypy.ini", f"[mypy]\nstrict = True\ncache_dir = {room}/cache\n[mypy-{'.*,'.join(USED)}.*,pandas.*]\nignore_missing_imports = True\n".encode())
+    env = {**WITHOUT, "MYPYPATH": site(room)}
+    words = [python(), "-m", "mypy", "--config-file", f"{room}/mypy.ini", "--no-error-summary"]
+    expect(run([*words, f"{room}/site/boruvka"], env=env, cwd=room, seconds=300), 0, b"", b"")
+    expect(run([*words, f"{PACKAGE}/tests/typed_uses.py"], env=env, cwd=room, seconds=300), 0, b"", b"")
+    expect(run([python(), f"{PACKAGE}/tests/typed_uses.py"], env={**WITHOUT, "PYTHONPATH": f"{room}/site"}, cwd=room), 0, b"", b"")
+    mistakes = f"{PACKAGE}/tests/typed_mistakes.py"
+    told = run([*words, mistakes], env=env, cwd=room, seconds=300)[1].decode()
+    with open(mistakes, encoding="utf-8") as lines:
+        wanted = {number for number, line in enumerate(lines, 1) if "# wrong" in line}
+    is_so(({int(it) for it in re.findall(r"^\S+\.py:(\d+): error: ", told, re.M)}, len(wanted) > 20), (wanted, True))
+
+
+@case
 def linkage_and_clusters(room):
     expect_tests(room, "test_linkage.Worked", "test_linkage.Refused", "test_linkage.Drawn")
 
@@ -171,6 +221,11 @@ def linkage_and_clusters(room):
 @case
 def exact_trees_of_points(room):
     expect_tests(room, "test_linkage.Exact", "test_linkage.Metrics")
+
+
+@case
+def ctrl_c_ends_a_long_call(room):
+    expect_tests(room, "test_interrupt")
 
 
 @case

@@ -1,0 +1,101 @@
+"""Columns by the dataframe interchange protocol, which an object that has `__dataframe__` speaks.
+
+https://data-apis.org/dataframe-protocol says what its words mean.
+"""
+
+from __future__ import annotations
+
+import ctypes
+from typing import Any
+
+import numpy as np
+from numpy.typing import NDArray
+
+# kinds of columns, and how they say what is missing
+_INT, _UINT, _FLOAT, _BOOL, _STRING, _CATEGORICAL = 0, 1, 2, 20, 21, 23
+_NEVER, _NAN, _SENTINEL, _BITS, _BYTES = range(5)
+_LETTERS = {_INT: "i", _UINT: "u", _FLOAT: "f"}
+
+
+def names_of(table: Any) -> list[Any]:
+    return list(table.column_names())
+
+
+def column_of(table: Any, name: Any) -> list[Any]:
+    """The entries of a column, None where one is missing."""
+    column = table.get_column_by_name(name)
+    chunks = [column] if column.num_chunks() == 1 else column.get_chunks()
+    return [it for chunk in chunks for it in _entries(chunk, name)]
+
+
+def _entries(chunk: Any, name: Any) -> list[Any]:
+    """Those of a column that is in one piece."""
+    size = chunk.size() if callable(chunk.size) else chunk.size
+    kind, buffers = int(chunk.dtype[0]), chunk.get_buffers()
+    if kind in _LETTERS or kind == _BOOL:
+        each = _numbers(buffers["data"], chunk.offset, size).tolist()
+    elif kind == _STRING:
+        each = _strings(buffers, chunk.offset, size)
+    elif kind == _CATEGORICAL:
+        each = _named(_codes(buffers["data"], chunk.offset, size), chunk.describe_categorical, name)
+    else:
+        raise TypeError(f"the column {name!r} has entries of the kind {chunk.dtype[0]!r}, and numbers, texts and categories are taken")
+    return [None if missing else it for it, missing in zip(each, _missing(chunk, size))]
+
+
+def _bytes_of(buffer: Any) -> NDArray[np.uint8]:
+    """Its bytes, which are there as long as it is."""
+    if not buffer.bufsize:
+        return np.empty(0, np.uint8)
+    held = (ctypes.c_uint8 * buffer.bufsize).from_address(buffer.ptr)
+    return np.frombuffer(held, np.uint8)
+
+
+def _numbers(told: tuple[Any, Any], offset: int, size: int) -> NDArray[Any]:
+    """So many entries of a buffer, which stands before what it holds, from the one at the offset on."""
+    buffer, (kind, bits, _, order) = told
+    held: NDArray[Any] = _bytes_of(buffer)
+    if bits == 1:
+        held = np.unpackbits(held, bitorder="little").astype(bool)
+    else:
+        letter = "?" if int(kind) == _BOOL else f"{_LETTERS[int(kind)]}{bits // 8}"
+        held = held[: len(held) // (bits // 8) * (bits // 8)].view(np.dtype((order if order == ">" else "") + letter))
+    if len(held) < offset + size:
+        raise ValueError(f"a buffer of the frame has {len(held)} entries, and {offset + size} are told")
+    return held[offset : offset + size]
+
+
+def _codes(told: tuple[Any, Any], offset: int, size: int) -> NDArray[Any]:
+    """Whole numbers that stand for something else."""
+    buffer, (kind, *more) = told
+    return _numbers((buffer, (kind if int(kind) in _LETTERS else _INT, *more)), offset, size)
+
+
+def _strings(buffers: Any, offset: int, size: int) -> list[str]:
+    text = _bytes_of(buffers["data"][0]).tobytes()
+    starts = _numbers(buffers["offsets"], offset, size + 1).tolist()
+    return [text[start:end].decode() for start, end in zip(starts, starts[1:])]
+
+
+def _named(codes: NDArray[Any], about: Any, name: Any) -> list[Any]:
+    """What codes name."""
+    about = about() if callable(about) else about
+    if not about["is_dictionary"]:
+        raise TypeError(f"the column {name!r} has categories without a dictionary")
+    names = _entries(about["categories"], name)
+    # (codes of missing entries name nothing)
+    return [names[it] if 0 <= it < len(names) else None for it in codes.tolist()]
+
+
+def _missing(chunk: Any, size: int) -> list[bool]:
+    """Which entries are missing."""
+    how, value = chunk.describe_null
+    if how in (_NEVER, _NAN):
+        return [False] * size
+    buffers = chunk.get_buffers()
+    if how == _SENTINEL:
+        return [it == value for it in _codes(buffers["data"], chunk.offset, size).tolist()]
+    if buffers["validity"] is None:
+        return [False] * size
+    marks, _ = buffers["validity"]
+    return [it == bool(value) for it in _numbers((marks, (_BOOL, 1 if how == _BITS else 8, "", "")), chunk.offset, size).tolist()]

@@ -1,0 +1,270 @@
+"""`from_edges`, over dicts, arrays, frames of pandas, and frames that speak the interchange protocol alone."""
+
+import ctypes
+import math
+import unittest
+
+import numpy as np
+
+import boruvka
+
+try:
+    import pandas
+except ImportError:
+    pandas = None
+
+ROADS = {"from": ["Ely", "Bath", "Ely", "Rye"], "to": ["Bath", "York", "York", "Rye"], "km": [226, 330, 235, 1]}
+
+
+class Buffer:
+    def __init__(self, array):
+        self.held = array
+        self.ptr, self.bufsize = array.ctypes.data, array.nbytes
+
+
+class Column:
+    """A column of the protocol: a kind, how wide an entry is, its buffers, and how it says what is missing."""
+
+    def __init__(self, kind, bits, size, data, offset=0, offsets=None, null=(0, None), validity=None, categories=None, order="="):
+        self.kind, self.dtype, self.size, self.offset, self.describe_null = kind, (kind, bits, "", order), size, offset, null
+        letter = {0: "i", 1: "u", 2: "f", 20: "b", 21: "U", 23: "i"}[kind]
+        self.buffers = {"data": (Buffer(data), (0 if kind == 23 else kind, bits, letter, order)), "offsets": None, "validity": None}
+        if offsets is not None:
+            self.buffers["offsets"] = Buffer(offsets), (0, 8 * offsets.itemsize, "l", "=")
+        if validity is not None:
+            self.buffers["validity"] = Buffer(validity), (20, 1 if null[0] == 3 else 8, "b", "=")
+        self.describe_categorical = {"is_ordered": False, "is_dictionary": True, "categories": categories}
+
+    def num_chunks(self):
+        return 1
+
+    def get_buffers(self):
+        return self.buffers
+
+
+class Chunks:
+    """A column in several pieces."""
+
+    def __init__(self, *chunks):
+        self.chunks = chunks
+
+    def num_chunks(self):
+        return len(self.chunks)
+
+    def get_chunks(self):
+        return iter(self.chunks)
+
+
+class Table:
+    """A frame that speaks the protocol alone."""
+
+    def __init__(self, columns):
+        self.columns = columns
+
+    def __dataframe__(self, nan_as_null=False, allow_copy=True):
+        return self
+
+    def column_names(self):
+        return iter(self.columns)
+
+    def get_column_by_name(self, name):
+        return self.columns[name]
+
+
+def whole(numbers, dtype="i8", **more):
+    array = np.array(numbers, dtype)
+    kind = {"i": 0, "u": 1, "f": 2}[array.dtype.kind]
+    return Column(kind, 8 * array.itemsize, len(array), array, **more)
+
+
+def texts(names, width="i4", **more):
+    data = np.frombuffer("".join(it or "" for it in names).encode() or b"\0", np.uint8)
+    offsets = np.cumsum([0, *(len((it or "").encode()) for it in names)]).astype(width)
+    return Column(21, 8, len(names), data, offsets=offsets, **more)
+
+
+class Frames(unittest.TestCase):
+    def expect_roads(self, frame):
+        forest = boruvka.from_edges(frame, "from", "to", weight="km")
+        self.assertEqual((forest.names, forest.n, forest.total), (["Ely", "Bath", "Rye", "York"], 4, 461))
+        self.assertEqual([it.tolist() for it in forest], [[0, 0], [1, 3], [226, 235], [0, 2]])
+        self.assertEqual(boruvka.from_edges(frame, "from", "to", weight="km", maximum=True).total, 565)
+        self.assertEqual(forest.labels(height=230).tolist(), [0, 0, 1, 2])
+
+    def test_dicts_of_columns(self):
+        self.expect_roads(ROADS)
+        self.expect_roads({it: tuple(held) for it, held in ROADS.items()})
+        self.expect_roads({it: np.array(held) for it, held in ROADS.items()})
+        self.expect_roads({it: np.array(held, object) for it, held in ROADS.items()})
+
+    def test_names_of_any_kind(self):
+        mixed = boruvka.from_edges({"u": [("a", 1), 5, None.__class__], "v": [5, 2.5, 5], "w": [1.0, 2.0, 3.0]})
+        self.assertEqual(mixed.names, [("a", 1), 5, None.__class__, 2.5])
+        days = np.array(["2020-01-01", "2020-01-02"], "M8[ns]")
+        self.assertEqual(boruvka.from_edges({"u": days, "v": days[::-1], "w": [1, 2]}).names, list(days))
+
+    def test_arrays(self):
+        rows = np.array([[10, 20, 5], [20, 30, 4], [10, 30, 9], [7, 7, 1]])
+        wanted = boruvka.from_edges({"u": rows[:, 0], "v": rows[:, 1], "w": rows[:, 2]})
+        self.assertEqual((wanted.names, wanted.total), ([10, 20, 7, 30], 9))
+        for frame in (rows, np.asfortranarray(rows), rows.astype(np.int16)):
+            self.assertEqual(boruvka.from_edges(frame, 0, 1, weight=2).index.tolist(), wanted.index.tolist())
+        fields = np.array([(10, 20, 5.0), (20, 30, 4.0), (10, 30, 9.0), (7, 7, 1.0)], [("u", "i4"), ("v", "i8"), ("w", "f4")])
+        self.assertEqual(boruvka.from_edges(fields).index.tolist(), wanted.index.tolist())
+
+        class Held:
+            def __array__(self, dtype=None, copy=None):
+                return fields
+
+        self.assertEqual(boruvka.from_edges(Held()).names, wanted.names)
+
+    @unittest.skipUnless(pandas, "there is no pandas")
+    def test_frames_of_pandas(self):
+        frame = pandas.DataFrame(ROADS)
+        for one in [
+            frame,
+            frame.astype({"from": "category", "to": "string", "km": "Int64"}),
+            frame.astype({"km": "UInt8"} if max(ROADS["km"]) < 256 else {"km": "Float32"}),
+            frame.set_index(pandas.Index([7, 7, 1, 0])),
+        ]:
+            self.expect_roads(one)
+        numbers = pandas.DataFrame({"u": [1, 2], "v": [2, 3], "w": [1, 1]}).astype("Int64")
+        self.assertEqual(boruvka.from_edges(numbers).names, [1, 2, 3])
+        numbers.loc[1, "v"] = pandas.NA
+        with self.assertRaisesRegex(ValueError, "^row 1 has no name in the column 'v': leave such edges out first$"):
+            boruvka.from_edges(numbers)
+        with self.assertRaisesRegex(ValueError, "^the column 'u' has 2 dimensions: do two have this name"):
+            boruvka.from_edges(pandas.DataFrame([[1, 2, 3, 4]], columns=["u", "u", "v", "w"]))
+
+    @unittest.skipUnless(pandas and hasattr(pandas.DataFrame, "__dataframe__"), "there is no pandas that speaks the protocol")
+    def test_pandas_by_the_protocol(self):
+        class Spoken:
+            def __init__(self, frame):
+                self.frame = frame
+
+            def __dataframe__(self, nan_as_null=False, allow_copy=True):
+                return self.frame.__dataframe__()
+
+        frame = pandas.DataFrame(ROADS)
+        for kinds in ({}, {"from": "category", "to": "category"}, {"km": np.float32}, {"km": np.uint16}, {"to": "string"}):
+            self.expect_roads(Spoken(frame.astype(kinds)))
+        with self.assertRaisesRegex(ValueError, "^row 3 has no name in the column 'to'"):
+            boruvka.from_edges(Spoken(frame.assign(to=pandas.Categorical(["a", "b", "c", None]))), "from", "to", weight="km")
+        with self.assertRaisesRegex(TypeError, "^the column 'from' has entries of the kind"):
+            boruvka.from_edges(Spoken(frame.assign(**{"from": pandas.Timestamp(0)})), "from", "to", weight="km")
+
+    def test_names_are_handed_on(self):
+        forest = boruvka.from_edges(ROADS, "from", "to", weight="km")
+        self.assertNotEqual(forest, forest._replace(names=None))
+        if not pandas:
+            self.skipTest("there is no pandas")
+        self.assertEqual(forest.to_frame()["v"].tolist(), ["Bath", "York"])
+
+
+class Protocol(unittest.TestCase):
+    def names(self, column):
+        """What a column holds, by the names that it gives to vertices."""
+        size = sum(it.size for it in column.chunks) if isinstance(column, Chunks) else column.size
+        return boruvka.from_edges(Table({"u": column, "v": column, "w": whole(range(size))})).names
+
+    def test_numbers(self):
+        for dtype in "i1 i2 i4 i8 u1 u2 u4 u8 f4 f8".split():
+            self.assertEqual(self.names(whole([7, 0, 100], dtype)), [7, 0, 100])
+        self.assertEqual(self.names(whole([2**63, 1], "u8")), [2**63, 1])
+        self.assertEqual(self.names(Column(0, 32, 2, np.array([1, 256], ">i4"), order=">")), [1, 256])
+        self.assertEqual(self.names(Column(20, 8, 2, np.array([True, False]))), [True, False])
+        # (from the third bit on)
+        self.assertEqual(self.names(Column(20, 1, 2, np.array([0b1011], np.uint8), offset=2)), [False, True])
+        self.assertEqual(self.names(Column(0, 64, 2, np.arange(5), offset=3)), [3, 4])
+
+    def test_texts(self):
+        for width in ("i4", "i8"):
+            self.assertEqual(self.names(texts(["Ely", "", "Zürich", "東京"], width)), ["Ely", "", "Zürich", "東京"])
+        cut = texts(["a", "bc", "def"])
+        cut.offset, cut.size = 1, 2
+        self.assertEqual(self.names(cut), ["bc", "def"])
+
+    def test_categories(self):
+        for about in (lambda it: it, lambda it: lambda: it):
+            column = Column(23, 8, 3, np.array([1, 0, 1], np.int8), categories=texts(["a", "b"]))
+            column.describe_categorical = about(column.describe_categorical)
+            self.assertEqual(self.names(column), ["b", "a"])
+
+    def test_several_pieces(self):
+        self.assertEqual(self.names(Chunks(texts(["a", "b"]), texts([]), texts(["c"]))), ["a", "b", "c"])
+
+    def test_what_is_missing(self):
+        bits, bytes_ = np.array([0b101], np.uint8), np.array([1, 0, 1], np.uint8)
+        for column in [
+            whole([1, 2, 3], null=(2, 2)),
+            whole([1.0, math.nan, 3.0], "f8", null=(1, None)),
+            whole([1, 2, 3], null=(3, 0), validity=bits),
+            whole([1, 2, 3], null=(3, 1), validity=~bits),
+            whole([1, 2, 3], null=(4, 0), validity=bytes_),
+            whole([1, 2, 3], null=(4, 1), validity=1 - bytes_),
+            texts(["a", None, "c"], null=(3, 0), validity=bits),
+            Column(23, 8, 3, np.array([0, -1, 1], np.int8), categories=texts(["a", "b"]), null=(2, -1)),
+            Column(23, 8, 3, np.array([0, 5, 1], np.int8), categories=texts(["a", "b"])),
+        ]:
+            with self.assertRaisesRegex(ValueError, "^row 1 has no name in the column 'u'"):
+                self.names(column)
+        # (marks that are there, and mark nothing)
+        self.assertEqual(self.names(whole([1, 2], null=(3, 0), validity=np.array([3], np.uint8))), [1, 2])
+        self.assertEqual(self.names(whole([1, 2], null=(3, 0))), [1, 2])
+
+    def test_weights(self):
+        ends = {"u": whole([0, 1, 2]), "v": whole([1, 2, 0])}
+        self.assertEqual(boruvka.from_edges(Table({**ends, "w": whole([2**62 + 1, 2**62, 2**62 + 2])})).w.tolist(), [2**62, 2**62 + 1])
+        with self.assertRaisesRegex(TypeError, r"^w has the dtype object, as w\[2\] is None: weights are"):
+            boruvka.from_edges(Table({**ends, "w": whole([1, 2, 3], null=(2, 3))}))
+
+    def test_buffers_that_are_too_short(self):
+        for wrong in (Column(0, 64, 3, np.arange(2)), Column(0, 64, 2, np.arange(2), offset=1), texts(["a", "b"])):
+            wrong.size = 3
+            with self.assertRaisesRegex(ValueError, "^a buffer of the frame has "):
+                boruvka.from_edges(Table({"u": wrong, "v": wrong, "w": whole([1, 2, 3])}))
+
+    def test_buffers_may_go_once_they_are_read(self):
+        column = whole([5, 6])
+        names = self.names(column)
+        ctypes.memset(column.buffers["data"][0].ptr, 255, 16)
+        self.assertEqual(names, [5, 6])
+
+
+class Refused(unittest.TestCase):
+    def expect(self, error, words, *given, **more):
+        with self.assertRaisesRegex(error, words):
+            boruvka.from_edges(*given, **more)
+
+    def test_columns_that_are_not_there(self):
+        self.expect(KeyError, "the frame has no column 'u', but 'from', 'to', 'km'", ROADS)
+        self.expect(KeyError, "no column 'w', but 'u', 'v'", Table({"u": whole([1]), "v": whole([1])}))
+        self.expect(KeyError, "no column 'w', but 'u', 'v'", np.zeros(3, [("u", "i4"), ("v", "i4")]))
+        for name in (3, -1, "u", 1.5):
+            self.expect(KeyError, f"no column {name!r}, but 0, 1, 2", np.zeros((4, 3), int), name, 1, weight=2)
+
+    def test_entries_that_are_missing(self):
+        for wrong in (None, math.nan, np.datetime64("NaT")):
+            self.expect(ValueError, "^row 1 has no name in the column 'v'", {"u": [1, 2], "v": [3, wrong], "w": [1, 1]})
+        self.expect(ValueError, "^row 0 has no name in the column 'u'", {"u": np.ma.masked_equal([1, 2], 1), "v": [3, 1], "w": [1, 1]})
+        self.expect(ValueError, r"^w\[1\] is NaN", {"u": [1, 2], "v": [3, 1], "w": [1, math.nan]})
+        self.expect(TypeError, r"as w\[1\] is None", {"u": [1, 2], "v": [3, 1], "w": [1, None]})
+
+    def test_columns_that_do_not_fit(self):
+        self.expect(ValueError, "^the columns 'u' and 'v' differ in length: 1 and 2$", {"u": [1], "v": [3, 1], "w": [1, 1]})
+        self.expect(ValueError, "differ in length: 1, 1 and 2$", {"u": [1], "v": [3], "w": [1, 1]})
+        self.expect(TypeError, "unhashable", {"u": [[1]], "v": [3], "w": [1]})
+        self.expect(TypeError, "^the column 'u' is a set, which has no order$", {"u": {1, 2}, "v": [1, 2], "w": [1, 1]})
+        self.expect(TypeError, "^the column 'v' is a dict, ", {"u": [1], "v": {1: 2}, "w": [1]})
+        self.expect(ValueError, "^the column 'u' has 2 dimensions", {"u": np.zeros((2, 2)), "v": [1, 2], "w": [1, 1]})
+
+    def test_what_is_no_frame(self):
+        for rows in ([("a", "b", 1)], (("a", "b", 1),)):
+            self.expect(TypeError, r"^a (list|tuple) is no frame: pandas\.DataFrame\(rows", rows)
+            self.expect(TypeError, "is no frame", rows, 0, 1, weight=2)
+        self.expect(TypeError, "^a int is no frame: it has no columns", 5)
+        self.expect(TypeError, r"^an array of the shape \(4,\) is no frame", np.zeros(4))
+
+
+if __name__ == "__main__":
+    unittest.main()

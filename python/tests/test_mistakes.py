@@ -1,0 +1,178 @@
+"""Mistakes that people make, each with what it gets: a refusal that names place, value, rule or remedy, or a right answer."""
+
+import decimal
+import math
+import unittest
+import warnings
+
+import numpy as np
+
+import boruvka
+from boruvka import Forest
+from boruvka import minimum_spanning_forest as forest_of
+from boruvka.linkage import labels, merges, single_linkage, spanning_tree
+
+try:
+    import pandas
+except ImportError:
+    pandas = None
+try:
+    import networkx
+except ImportError:
+    networkx = None
+try:
+    from scipy import sparse
+
+    from boruvka.sparse import minimum_spanning_tree
+except ImportError:
+    sparse = None
+
+U, V, W = [0, 1], [1, 2], [1, 2]
+POINTS = np.random.default_rng(0).random((10, 2))
+PATH = forest_of(4, [0, 1, 2], [1, 2, 3], [1.0, 2.0, 3.0])
+
+# what is called, and the words of its refusal
+EDGES = {
+    "vertices by names": (lambda: forest_of(3, ["a", "b"], ["b", "c"], W), TypeError, r"^u has the dtype <U1, as u\[0\] is 'a', .*boruvka\.from_edges takes names$"),
+    "vertices as floats": (lambda: forest_of(3, [0.0, 1.0], [1.0, 2.0], W), TypeError, r"^u has the dtype float64, and vertices are whole numbers: \.astype\(int\) makes them$"),
+    "vertices as fractions": (lambda: forest_of(3, [0.0, 0.5], V, W), TypeError, r"^u has the dtype float64, as u\[1\] is 0\.5, and vertices are whole numbers$"),
+    "vertices as floats, one missing": (lambda: forest_of(3, U, [1.0, math.nan], W), TypeError, r"as v\[1\] is nan, and vertices are whole numbers$"),
+    "vertices as truths": (lambda: forest_of(3, [True, False], [False, True], W), TypeError, r"^u has the dtype bool, .*\.astype\(int\)"),
+    "vertices from 1": (lambda: forest_of(3, [1, 2], [2, 3], W), ValueError, r"^v\[1\] is 3, and a vertex is at least 0 and below n = 3: are they numbered from 1\?$"),
+    "too small an n": (lambda: forest_of(2, U, V, W), ValueError, r"^v\[1\] is 2, and a vertex is at least 0 and below n = 2$"),
+    "too large an n": (lambda: forest_of(2**27, U, V, W), ValueError, r"^n is 134217728, and has to be from 0 to 2\^26$"),
+    "n as a float": (lambda: forest_of(3.0, U, V, W), TypeError, "^n is 3.0, and has to be a whole number: the number of vertices$"),
+    "numbers of another kind as vertices": (lambda: forest_of([10**12], [5], [1]), ValueError, r"^u\[0\] is 1000000000000, and vertices are below 2\^26: boruvka\.from_edges"),
+    "a negative vertex": (lambda: forest_of(3, [0, -1], V, W), ValueError, r"^u\[1\] is -1, "),
+    "columns of different lengths": (lambda: forest_of(3, U, [1], W), ValueError, "^u, v and w differ in length: 2, 1 and 2$"),
+    "masked vertices": (lambda: forest_of(3, np.ma.array(U, mask=[0, 1]), V, W), ValueError, r"^u has masked entries, as u\[1\] is: leave these edges out first$"),
+    "masked edges": (lambda: forest_of(np.ma.array([[0, 1]], mask=[[0, 1]]), [1]), ValueError, "^edges have masked entries"),
+    "single numbers": (lambda: forest_of(3, 0, 1, 2.0), ValueError, "^u has 0 dimensions, and needs one$"),
+    "edges twice": (lambda: forest_of(3, [U, V], [U, V], W), ValueError, "^u has 2 dimensions, and needs one: an array of two columns stands for u and v$"),
+    "three columns": (lambda: forest_of(3, [[0, 1, 5], [1, 2, 6]], W), TypeError, r"^edges have the shape \(2, 3\), and need two columns"),
+    "nothing at all": (lambda: forest_of(), TypeError, "n may be left out"),
+    "a generator": (lambda: forest_of(3, (it for it in U), V, W), TypeError, "^u is a generator, and has to be an array or a list$"),
+    "a set": (lambda: forest_of(3, {0, 1}, V, W), TypeError, "^u is a set, "),
+    "rows of different lengths": (lambda: forest_of(3, [[0, 1], [1]], W), ValueError, "^edges is no array: "),
+}
+WEIGHTS = {
+    "NaN": ([1, math.nan], ValueError, r"^w\[1\] is NaN$"),
+    "None": ([1, None], TypeError, r"^w has the dtype object, as w\[1\] is None: weights are whole numbers or floats of up to 64 bits$"),
+    "texts": (["1", "2"], TypeError, r"^w has the dtype <U1, as w\[0\] is '1': weights are"),
+    "complex numbers": ([1j, 2], TypeError, "^w has the dtype complex128: weights are"),
+    "long doubles": (np.array(W, np.longdouble), TypeError, "^w has the dtype float128: weights are"),
+    "dates": (np.array(["2020-01-01", "2020-01-02"], "M8[D]"), TypeError, r"^w has the dtype datetime64\[D\]: weights are"),
+    "times": (np.array(W, "m8[s]"), TypeError, r"^w has the dtype timedelta64\[s\]: weights are"),
+    "decimals": ([1, decimal.Decimal(2)], TypeError, r"^w has the dtype object, as w\[1\] is Decimal\('2'\): weights are"),
+    "past 2^63": (np.array([1, 2**64 - 1], np.uint64), ValueError, r"^w\[1\] is 18446744073709551615, past 2\^63 - 1$"),
+    "past 2^64": ([1, 2**64], TypeError, r"as w\[1\] is 18446744073709551616: weights are"),
+    "what doubles round": ([0.5, 2**53 + 1], ValueError, r"^w\[1\] is 9007199254740993, which numpy would round to 9007199254740992.0"),
+    "in two dimensions": ([[1], [2]], ValueError, "^w has 2 dimensions, and needs one$"),
+}
+CUTS = {
+    "a number of clusters without its name": (lambda: labels(4, PATH, 2), TypeError, "positional arguments"),
+    "both": (lambda: labels(4, PATH, clusters=2, height=1.0), TypeError, "^give either `clusters` or `height`, not both$"),
+    "neither": (lambda: labels(4, PATH), TypeError, "^give either `clusters` or `height`, not neither$"),
+    "n and forest exchanged": (lambda: labels(PATH, 4, clusters=2), TypeError, "^a int is no Forest, as `spanning_tree`"),
+    "too many clusters": (lambda: labels(4, PATH, clusters=9), ValueError, "^9 clusters can't be cut: there may be 1 to 4$"),
+    "no cluster": (lambda: labels(4, PATH, clusters=0), ValueError, "^0 clusters can't be cut: there may be 1 to 4$"),
+    "fewer clusters than components": (lambda: labels(5, PATH, clusters=1), ValueError, "^1 clusters can't be cut: there may be 2 to 5$"),
+    "a height as a text": (lambda: labels(4, PATH, height="2"), TypeError, "^the height is a str, and has to be a real number$"),
+    "a linkage matrix": (lambda: labels(10, single_linkage(POINTS), clusters=2), TypeError, "^a ndarray is no Forest"),
+    "a tuple of arrays": (lambda: labels(4, tuple(PATH), clusters=2), TypeError, "^a tuple is no Forest"),
+    "points": (lambda: labels(10, POINTS, clusters=2), TypeError, "^a ndarray is no Forest"),
+    "another n": (lambda: labels(3, PATH, clusters=2), ValueError, "^n is 3, and has to be from 4, the number of the forest's vertices"),
+    "merges of several components": (lambda: merges(5, PATH), ValueError, "^3 edges don't make one tree of 5 vertices: a forest of several components has no linkage$"),
+    "n and tree exchanged": (lambda: merges(PATH, 4), TypeError, "^a int is no Forest"),
+    "a forest without places": (lambda: Forest([0], [1], [2]), TypeError, "'index'"),
+    "arrays of different lengths": (lambda: Forest([0, 1], [1], [2], [0]), ValueError, r"^the arrays of the forest have the shapes \(2,\), \(1,\)"),
+}
+OF_POINTS = {
+    "a coordinate that is NaN": (lambda: spanning_tree([[0, 0], [math.nan, 1]]), ValueError, r"^a coordinate of the point 1 isn't finite: y\[1, 0\] is nan$"),
+    "a masked coordinate": (lambda: spanning_tree(np.ma.masked_equal([[0.0], [1.0]], 1)), ValueError, "masked entries"),
+    "points of one dimension": (lambda: spanning_tree([1.0, 2.0, 3.0, 4.0]), ValueError, r"^4 distances aren't .*: points in one dimension are y\[:, None\]$"),
+    "objects": (lambda: spanning_tree([None, 1]), TypeError, r"^y has the dtype object, as y\[0\] is None, and has to be real numbers"),
+    "a generator": (lambda: single_linkage(it for it in POINTS), TypeError, "^y is a generator, "),
+    "no metric": (lambda: spanning_tree(POINTS, metric="euclid"), ValueError, "^there is no metric 'euclid': it is one of euclidean, manhattan, "),
+    "no point": (lambda: spanning_tree(np.empty((0, 2))), ValueError, "^there is no point$"),
+    "a distance that is negative": (lambda: spanning_tree([1, -2, 3]), ValueError, r"^y\[1\] is -2.0: a distance isn't finite, or is negative$"),
+    "complex coordinates": (lambda: spanning_tree([[1j], [2]]), TypeError, "^y has the dtype complex128, and has to be real numbers"),
+    "long doubles": (lambda: spanning_tree(np.zeros((2, 2), np.longdouble)), TypeError, "^y has the dtype float128, .* of up to 64 bits$"),
+    "dates": (lambda: spanning_tree(np.zeros((2, 2), "M8[s]")), TypeError, r"^y has the dtype datetime64\[s\]"),
+    "whole numbers that doubles round": (lambda: spanning_tree([[2**53 + 2], [2**53 + 1]]), ValueError, r"^y\[1, 0\] is 9007199254740993, which a double would round: take the least"),
+    "distances, and a metric": (lambda: spanning_tree([1.0, 2.0, 3.0], metric="cosine"), TypeError, r"y\[:, None\]$"),
+    "more samples than points": (lambda: spanning_tree(POINTS, min_samples=11), ValueError, "^min_samples is 11, and has to be from 1 to 10, the number of points$"),
+    "degrees": (lambda: spanning_tree([[48.1, 11.5], [52.5, 13.4]], metric="haversine"), ValueError, "^the latitude of the point 0 is 48.1, .* numpy.radians"),
+}
+
+
+class Mistakes(unittest.TestCase):
+    def expect(self, table):
+        for name, (call, error, words) in table.items():
+            with self.subTest(name), warnings.catch_warnings():
+                warnings.simplefilter("error")
+                with self.assertRaisesRegex(error, words):
+                    call()
+
+    def test_edges(self):
+        self.expect(EDGES)
+
+    def test_weights(self):
+        self.expect({name: (lambda w=w: forest_of(3, U, V, w), *more) for name, (w, *more) in WEIGHTS.items()})
+
+    def test_cuts(self):
+        self.expect(CUTS)
+
+    def test_points(self):
+        self.expect(OF_POINTS)
+
+    @unittest.skipUnless(pandas, "there is no pandas")
+    def test_of_pandas(self):
+        gaps = pandas.array([1.0, None], dtype="Float64")
+        named = pandas.DataFrame({"name": ["a", "b"], "x": [1, 2]})
+        self.expect({
+            "a weight that is NA": (lambda: forest_of(3, U, V, gaps), ValueError, r"^w has masked entries, as w\[1\] is"),
+            "a weight that is NA, of a series": (lambda: forest_of(3, U, V, pandas.Series(gaps)), TypeError, r"as w\[1\] is <NA>: weights are"),
+            "a vertex that is NA": (lambda: forest_of(3, pandas.Series([0, None], dtype="Int64"), V, W), TypeError, r"^u has the dtype object, as u\[1\] is <NA>, and vertices are"),
+            "a column of names": (lambda: spanning_tree(named), TypeError, r"^y has the dtype object, as y\[0, 0\] is 'a', and has to be real numbers"),
+            "a column that isn't there": (lambda: boruvka.from_edges(named), KeyError, "the frame has no column 'u', but 'name', 'x'"),
+        })
+        for nullable in (pandas.array(U, dtype="Int64"), pandas.Series(U, dtype="Int32"), np.array(U, object)):
+            self.assertEqual(forest_of(3, nullable, V, nullable).index.tolist(), [0, 1])
+
+    @unittest.skipUnless(networkx, "there is no networkx")
+    def test_of_networkx(self):
+        self.expect({"a graph": (lambda: forest_of(networkx.path_graph(3)), TypeError, r'minimum_spanning_tree\(G, backend="boruvka"\)$')})
+
+    @unittest.skipUnless(sparse, "there is no scipy")
+    def test_of_sparse_matrices(self):
+        gap = sparse.csr_matrix(np.array([[0, math.nan], [0, 0]]))
+        self.expect({
+            "a matrix in place of edges": (lambda: forest_of(sparse.csr_matrix(np.eye(3))), TypeError, "boruvka.sparse.minimum_spanning_tree$"),
+            "sparse points": (lambda: spanning_tree(sparse.csr_matrix(POINTS)), ValueError, r"^y has the shape \(10, 2\), .*: points are y\.toarray\(\)$"),
+            "an oblong array": (lambda: minimum_spanning_tree(np.ones((2, 3))), ValueError, r"^csgraph has the shape \(2, 3\), and a graph's matrix is square$"),
+            "a list": (lambda: minimum_spanning_tree([1, 2, 3]), ValueError, r"^csgraph has the shape \(3,\)"),
+            "a NaN that is stored": (lambda: minimum_spanning_tree(gap), ValueError, r"^csgraph\[0, 1\] is NaN$"),
+            "a negative distance": (lambda: spanning_tree(sparse.coo_matrix(([-1.0], ([1], [0])), shape=(2, 2))), ValueError, r"^y\[1, 0\] is -1.0: "),
+        })
+        self.assertEqual(minimum_spanning_tree(sparse.csr_matrix((0, 0))).shape, (0, 0))
+        array = getattr(sparse, "coo_array", sparse.coo_matrix)
+        self.assertEqual(minimum_spanning_tree(array(np.diag([2.0, 3.0], 1))).toarray()[[0, 1], [1, 2]].tolist(), [2, 3])
+
+    def test_what_isnt_one(self):
+        self.assertEqual(forest_of(U, V, W).n, 3)
+        self.assertEqual(forest_of(None, U, V, W), forest_of(3, U, V, W))
+        self.assertEqual(forest_of(u=[0], v=[1], w=[2]).n, 2)
+        self.assertEqual(forest_of(3, np.array([U, V]).T, W), forest_of(3, U, V, W))
+        self.assertEqual(forest_of(3, [0, 1, 2], [1, 2, 0], [1, 2, 3], maximum=True).total, 5)
+        self.assertEqual(single_linkage([[1.0, 2.0]]).shape, (0, 4))
+        for one, other in [("cityblock", "manhattan"), ("l1", "manhattan"), ("l2", "euclidean")]:
+            self.assertEqual(spanning_tree(POINTS, metric=one), spanning_tree(POINTS, metric=other))
+        # (which no longer need all pairs)
+        self.assertEqual(spanning_tree(np.zeros((60_000, 4))).total, 0)
+        with self.assertWarnsRegex(UserWarning, "its rows are taken as points, not as distances"):
+            single_linkage(np.abs(POINTS[:, :1] - POINTS[:, 0]))
+
+
+if __name__ == "__main__":
+    unittest.main()
