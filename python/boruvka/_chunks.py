@@ -63,7 +63,7 @@ def forest_of_chunks(n: SupportsIndex, chunks: Iterable[Sequence[ArrayLike]], *,
 
     Cost: at most 8 n edges are kept, or 65,536 if that is more. Each takes 8 bytes and its weight's, and about 20 more
     while they are reduced to their forest. Beside them there is one chunk. Each is copied, so that its arrays may be
-    used again for the next. A chunk should have thousands of edges: each costs some 20 microseconds.
+    used again for the next. A chunk should have thousands of edges: it takes up to 0.1 ms beside them.
 
     Examples
     --------
