@@ -255,7 +255,7 @@ def minimum_spanning_forest(n: Any = None, u: Any = None, v: Any = None, w: Any 
     maximum : bool, optional
         Whether the total weight shall be the greatest instead. Then the heaviest edge comes first.
     threads : int, optional
-        How many threads may find it: the same forest. It gains from about 16 edges a vertex on; see Notes.
+        How many threads may find it: the same forest. From 16 edges a vertex on it gains time, if processors are idle.
 
     Returns
     -------
@@ -288,9 +288,8 @@ def minimum_spanning_forest(n: Any = None, u: Any = None, v: Any = None, w: Any 
     Any number of threads may call at once, and run side by side. A child that was forked from a process with threads
     must not call.
 
-    Threads: with `threads` above 1 each has a part of the edges, and the forests of the parts are merged. Only as many
-    work as have 4 edges a vertex each. The merging, and turning weights and ends into what the library takes, is done by
-    one. It pays in time only where processors are idle; memory is at most 12 bytes an edge more.
+    Threads: with `threads` above 1 each has a part of the edges, and one merges the forests of the parts. Each has at
+    least 4 edges a vertex, and below 16 edges a vertex there is one. Memory is that of one, and 4 bytes an edge.
 
     Examples
     --------

@@ -35,6 +35,10 @@ def bounded(most):
     return mock.patch.multiple(_chunks, _A_VERTEX=most, _AT_LEAST=most)
 
 
+def each_part_is_worth_a_thread():
+    return mock.patch.multiple(_threads, _WORTH=0, _A_PART=0)
+
+
 class Documented(unittest.TestCase):
     def test_the_small_net_in_two_chunks(self):
         forest = forest_of_chunks(6, chunks_of(SMALL, [0, 3, 8]))
@@ -373,7 +377,7 @@ class Threads(unittest.TestCase):
         for seed in range(200):
             graph = Graph(seed)
             maximum = seed % 2 == 1
-            with self.subTest(seed=seed, kind=graph.kind), mock.patch.object(_threads, "_A_VERTEX", 0):
+            with self.subTest(seed=seed, kind=graph.kind), each_part_is_worth_a_thread():
                 for threads in (1, 2, 3 + seed % 5):
                     found = minimum_spanning_forest(graph.n, *graph.held, maximum=maximum, threads=threads)
                     self.assertEqual(found.index.tolist(), by_key(graph, maximum))
@@ -399,7 +403,7 @@ class Threads(unittest.TestCase):
             return whole(count, u, v, w)
 
         whole = _library.places
-        for edges, threads, parts in [(1, 4, 1), (2 * _threads._A_VERTEX - 1, 4, 1), (2 * _threads._A_VERTEX, 4, 2), (64, 4, 4), (64, 1, 1), (64, 3, 3)]:
+        for edges, threads, parts in [(1, 4, 1), (15, 4, 1), (15, 2, 1), (16, 4, 4), (16, 2, 2), (16, 9, 4), (17, 9, 4), (64, 1, 1), (64, 3, 3)]:
             m = n * edges // parts * parts
             ends = np.arange(m) % n
             together = threading.Barrier(parts)
@@ -411,7 +415,7 @@ class Threads(unittest.TestCase):
             self.assertEqual(len({it[1] for it in calls[:parts]}), parts)
 
     def test_errors_name_the_rows_of_the_whole(self):
-        with mock.patch.object(_threads, "_A_VERTEX", 0):
+        with each_part_is_worth_a_thread():
             for words, column, wrong in [(r"^u\[17\] is 9, ", 0, 9), (r"^v\[17\] is -1, ", 1, -1), (r"^w\[17\] is NaN", 2, math.nan)]:
                 columns = [[0] * 20, [1] * 20, [0.5] * 20]
                 columns[column][17] = wrong
@@ -430,7 +434,7 @@ class Threads(unittest.TestCase):
         def places(count, u, v, w):
             raise MemoryError("no memory for the forest")
 
-        with mock.patch.object(_library, "places", places), mock.patch.object(_threads, "_A_VERTEX", 0):
+        with mock.patch.object(_library, "places", places), each_part_is_worth_a_thread():
             with self.assertRaises(MemoryError):
                 minimum_spanning_forest(2, [0, 0], [1, 1], [1, 2], threads=2)
 
