@@ -1,30 +1,33 @@
 """Minimum spanning forests of numpy arrays.
 
-`minimum_spanning_forest` answers which edges are in the forest, and `from_edges` does for edges in a frame. They call
-libboruvka, which is proved to answer just these. The package itself is tested, not proved. `read_gr` and `write_gr` are
-for the program's files, and `show` opens points in a page.
+`minimum_spanning_forest` answers which edges are in the forest, `from_edges` does for edges in a frame, and
+`forest_of_chunks` for edges that come in chunks. They call libboruvka, which is proved to answer just these. The package
+itself is tested, not proved. `read_gr` and `write_gr` are for the program's files, and `show` opens points in a page.
 
 These modules are loaded when they are first used:
 
 - `boruvka.linkage` finds the tree of points, cuts trees into clusters, and lists single linkage. Numpy is all it needs.
 - `boruvka.cluster` has single linkage and HDBSCAN as estimators of scikit-learn, and needs that.
+- `boruvka.dask` finds the forest of a frame of dask, part by part.
 - `boruvka.sparse` stands in for scipy's function over sparse matrices, and needs scipy.
 - `boruvka.networkx_backend` is what networkx calls if you write `backend="boruvka"`.
 """
 
 from typing import TYPE_CHECKING
 
+from boruvka._chunks import forest_of_chunks
 from boruvka._forest import Forest, minimum_spanning_forest
 from boruvka._frames import from_edges
 from boruvka._gr import read_gr, write_gr
 from boruvka._page import show
 
-__all__ = ["Forest", "from_edges", "minimum_spanning_forest", "read_gr", "show", "write_gr"]
+__all__ = ["Forest", "forest_of_chunks", "from_edges", "minimum_spanning_forest", "read_gr", "show", "write_gr"]
 
-_MODULES = ("cluster", "linkage", "networkx_backend", "sparse")
+_MODULES = ("cluster", "dask", "linkage", "networkx_backend", "sparse")
 
 if TYPE_CHECKING:
     from boruvka import cluster as cluster
+    from boruvka import dask as dask
     from boruvka import linkage as linkage
     from boruvka import networkx_backend as networkx_backend
     from boruvka import sparse as sparse

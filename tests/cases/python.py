@@ -20,7 +20,7 @@ from cases.running import ROOT, Program, Skipped, case, expect, run, written
 
 PACKAGE = f"{ROOT}/python"
 PYTHONS = (sys.executable, "/usr/bin/python3", "/usr/local/bin/python3")
-USED = ("numpy", "scipy", "networkx", "sklearn", "matplotlib")
+USED = ("numpy", "scipy", "networkx", "sklearn", "matplotlib", "pandas", "dask", "distributed")
 WITHOUT = {it: word for it, word in PLAIN.items() if it != "BORUVKA_LIBRARY"}
 
 
@@ -211,6 +211,21 @@ def types_by_mypy(room):
     with open(mistakes, encoding="utf-8") as lines:
         wanted = {number for number, line in enumerate(lines, 1) if "# wrong" in line}
     is_so(({int(it) for it in re.findall(r"^\S+\.py:(\d+): error: ", told, re.M)}, len(wanted) > 20), (wanted, True))
+
+
+@case
+def forests_of_chunks_and_by_threads(room):
+    expect_tests(room, "test_chunks")
+
+
+@case
+def rows_of_dask_frames_in_one_process(room):
+    expect_tests(room, "test_dask.OneProcess", "test_dask.Page")
+
+
+@case
+def rows_of_dask_frames_in_two_processes(room):
+    expect_tests(room, "test_dask.TwoProcesses")
 
 
 @case
