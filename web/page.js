@@ -226,6 +226,9 @@ async function open(files) {
 
 const openText = text => open([new File([text], 'pasted.csv')]);
 
+// Opens what was dropped or pasted: files, or else a text.
+const openAll = data => data.files.length ? open([...data.files]) : openText(data.getData('text/plain'));
+
 // ---- events
 
 function listenToOpening() {
@@ -294,10 +297,7 @@ function listenToWindow() {
     if ((event.ctrlKey || event.metaKey) && event.key === 'z' && !event.target.matches('input, textarea')) undo();
   });
   addEventListener('paste', event => {
-    if (event.target.matches('input, textarea')) return;
-    const { files } = event.clipboardData, text = event.clipboardData.getData('text/plain');
-    if (files.length) open([...files]);
-    else openText(text);
+    if (!event.target.matches('input, textarea')) openAll(event.clipboardData);
   });
   addEventListener('hashchange', () => openFirst());
   document.ondragover = event => {
@@ -308,7 +308,7 @@ function listenToWindow() {
   document.ondrop = event => {
     event.preventDefault();
     document.body.classList.remove('over');
-    open([...event.dataTransfer.files]);
+    openAll(event.dataTransfer);
   };
 }
 
