@@ -2,9 +2,10 @@
 //
 // points in: sources, rows, columns, tables, geojson, graphs (in the worker), address, choosing
 // tree and forest: spaces, tree, weights, boruvka, kruskal; then merges, rounds, layout (in the worker)
-// what is shown: state, clusters; view, scene, picture, dendrogram, playing, reading; out and saving
+// what is shown: state, clusters; view, scene, picture, dendrogram, fading, playing, reading; out and saving; card
 
 import { carried, inside } from './address.js';
+import { tellSums } from './card.js';
 import { askColumns } from './choosing.js';
 import { clustersTold, greatest, numbersOf } from './clusters.js';
 import { branchAt, countAt, countAtBar, drawBars, drawDendrogram } from './dendrogram.js';
@@ -322,12 +323,6 @@ function settle() {
   tellSoon();
 }
 
-async function tellSums() {
-  if (!crypto.subtle) return;
-  const sum = new Uint8Array(await crypto.subtle.digest('SHA-256', solver.bytes));
-  $('sum').textContent = Array.from(sum, it => it.toString(16).padStart(2, '0')).join('');
-}
-
 // Shows what the address or the page carries, or else an example.
 async function openFirst() {
   const file = await carried() ?? inside();
@@ -348,7 +343,7 @@ async function begin() {
   listenToSaving(solver, fault);
   settle();
   $('unproved').hidden = Boolean(solver.module);
-  await tellSums();
+  await tellSums(solver.bytes);
   try {
     if (!await openFirst()) await showPoints(drawnPoints(1500));
   } catch (error) {
