@@ -9,8 +9,9 @@ import { tellSums } from './card.js';
 import { askColumns } from './choosing.js';
 import { clustersTold, greatest, numbersOf } from './clusters.js';
 import { branchAt, countAt, countAtBar, drawBars, drawDendrogram } from './dendrogram.js';
+import { fade } from './fading.js';
 import { onInks } from './inks.js';
-import { Picture } from './picture.js';
+import { Picture, isDrawnAtOnce } from './picture.js';
 import { canPlay, isPlaying, play, roundsTold, stopPlaying } from './playing.js';
 import { listenToKeys, listenToPointer, placeAt, vertexTold } from './reading.js';
 import { listenToSaving, tellSaving } from './saving.js';
@@ -129,6 +130,14 @@ const note = notes => { $('notes').textContent = notes.join(' '); };
 
 // ---- points in
 
+// Shows an answer in place of another one, which fades away if both pictures are there at once.
+async function showOther(shown, more) {
+  const isOther = more.view === null && state.shown, isSoft = isOther && isDrawnAtOnce(state.shown) && isDrawnAtOnce(shown);
+  busy(1);
+  await (isSoft ? fade(() => show(shown, more)) : show(shown, more));
+  busy(-1);
+}
+
 async function showPoints(points, more) {
   fault(null);
   note([]);
@@ -136,7 +145,7 @@ async function showPoints(points, more) {
   if (!points.length) return show(null, { file: null, ...more });
   try {
     const shown = await solver.ask({ task: 'points', points });
-    if (shown) show(shown, { file: null, ...more });
+    if (shown) await showOther(shown, { file: null, ...more });
   } catch (error) {
     fault(error);
   }
@@ -203,7 +212,7 @@ async function openFile(file) {
   }
   if (!answer) return;
   if (answer.kind === 'places') await putPlaces(answer.points);
-  else show(answer, { file, view: null, penned: 0, cross: null });
+  else await showOther(answer, { file, view: null, penned: 0, cross: null });
   note(answer.notes ?? []);
 }
 

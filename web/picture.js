@@ -13,6 +13,8 @@ const MOST_NUMBERED = 100; // vertices of a graph
 const MOST_SVG = 100_000; // places
 const SLICE = 6; // milliseconds that a part takes
 
+export const isDrawnAtOnce = ({ places }) => places.length <= 2 * MOST_SHAPES;
+
 // ---- as shapes
 
 const radiusOf = (n, zoomed) => (n > 1000 ? 2 : n > 200 ? 3 : 4.5) * Math.max(1, Math.min(2, zoomed));
@@ -161,7 +163,7 @@ export class Picture {
 
   draw() {
     const scene = sceneNow(), { pen, sharp } = emptied(this.canvas, scene.plain.paper);
-    if (scene.shown?.places.length > 2 * MOST_SHAPES) this.drawPixels(pen, sharp);
+    if (scene.shown && !isDrawnAtOnce(scene.shown)) this.drawPixels(pen, sharp);
     else {
       [this.job, this.of, this.isOld] = [null, null, false];
       paint(pen, shapesOf(scene, lens()));
