@@ -22,6 +22,7 @@ import { free, lens, viewNow } from './view.js';
 const $ = id => document.getElementById(id);
 const MOST_DRAWN = 1_000_000;
 const SLIDER = 99; // clusters more than the least
+const LEAST_PULL = 30; // pixels
 
 const picture = new Picture($('picture'));
 let solver;
@@ -272,13 +273,30 @@ function listenToBar() {
   $('stop').onclick = () => solver.stop();
   $('save').onclick = () => $('saving').showModal();
   $('about').onclick = () => $('card').showModal();
-  $('tree').onclick = () => {
-    $('tree').ariaExpanded = String(document.body.classList.toggle('pulled'));
-    drawn = {};
-    settle();
-  };
   $('scale').onchange = () => change({ scale: $('scale').value });
   for (const it of document.querySelectorAll('dialog .close')) it.onclick = () => it.closest('dialog').close();
+}
+
+function pull(isUp) {
+  document.body.classList.toggle('pulled', isUp);
+  $('tree').ariaExpanded = String(isUp);
+  drawn = {};
+  settle();
+}
+
+// On a phone the tree is a sheet, which its button or a finger pulls up and down.
+function listenToSheet() {
+  let begun = null;
+  $('tree').onclick = () => pull(!document.body.classList.contains('pulled'));
+  for (const it of [$('bar'), $('side')]) {
+    it.addEventListener('pointerdown', ({ pointerType, target, clientY }) => {
+      begun = pointerType === 'touch' && !target.matches('input, select, canvas') ? clientY : null;
+    });
+    it.addEventListener('pointerup', ({ clientY }) => {
+      if (begun !== null && Math.abs(clientY - begun) >= LEAST_PULL) pull(clientY < begun);
+      begun = null;
+    });
+  }
 }
 
 // A drag moves the dashed line; without a button the branch under the pointer is shown.

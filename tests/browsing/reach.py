@@ -3,6 +3,7 @@ import re
 import statistics
 
 from browsing.page import Page, forest_by_program, is_so, quick
+from browsing.reading import pointer
 from cases.running import case
 
 TAB = "\ue004"
@@ -66,6 +67,12 @@ def the_sheet_of_a_phone(_room):
         page.browser.click("tree")
         page.frames()
         is_so(page.browser.run("return document.getElementById('dendrogram').checkVisibility({ visibilityProperty: true })"), False)
+        # a finger pulls it up from the bar, and down; a short way, or one on the slider, does nothing
+        for begin, by, is_up in [("bar", -100, True), ("side", 10, True), ("side", 100, False), ("bar", -10, False), ("cut", -100, False)]:
+            x, y = page.browser.run("const it = document.getElementById(arguments[0]).getBoundingClientRect(); return [it.left + it.width / 2, it.top + 5]", begin)
+            pointer(page, (x, y), "down", (x, y + by), "up", kind="touch")
+            is_so((begin, by, page.browser.run("return document.getElementById('tree').ariaExpanded")), (begin, by, str(is_up).lower()))
+            is_so(page.browser.run("return document.getElementById('dendrogram').checkVisibility({ visibilityProperty: true })"), is_up)
 
 
 @case
