@@ -174,7 +174,8 @@ function drawnClouds(unit) {
 // n points in nine clouds: others at each call, the same at each visit.
 let draws = 0;
 function drawnPoints(n) {
-  const unit = unitsOf(625769211 + 7919 * draws++), clouds = drawnClouds(unit), points = new Float64Array(2 * n), hundredth = it => Math.round(100 * it) / 100;
+  const unit = unitsOf(625769211 + 7919 * draws++), clouds = drawnClouds(unit), points = new Float64Array(2 * n);
+  const hundredth = it => Math.round(100 * it) / 100;
   for (let i = 0; i < n; i++) {
     const { x, y, size } = clouds[i % clouds.length], angle = 2 * Math.PI * unit(), far = 0.6 * size * Math.sqrt(-Math.log(unit() + 1e-9));
     points[2 * i] = hundredth(x + far * Math.cos(angle));
@@ -365,6 +366,7 @@ async function begin() {
   listenToKeys($('picture'), { set: addPoint, undo });
   listenToOpening();
   listenToBar();
+  listenToSheet();
   listenToDendrogram();
   listenToWindow();
   listenToSaving(solver, fault);
