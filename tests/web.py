@@ -6,8 +6,8 @@ usage: tests/web.py [--strict] [--module FILE] [--program FILE] [--pictures FOLD
 FILE is boruvka.wasm and the built program, if they aren't where `make` puts them; FOLDER gets pictures of the page, to
 look at. A CASE is a word of a case's name; all are tried if there is none. Forests are compared with what the program
 writes, or with Kruskal's algorithm in Python where it isn't built. What wants Chromium, its driver or Node is skipped
-where they aren't; with --strict that is a failure. So are times past their limits, and only then large inputs are tried. The last line is `N passed, M failed`, without those that were
-skipped, and the status is 0 only where none failed.
+where they aren't. With --strict that is a failure, and so are times past their limits; large inputs are tried then too.
+The last line is `N passed, M failed`, without those that were skipped, and the status is 0 only where none failed.
 """
 import argparse
 import os

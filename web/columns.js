@@ -25,25 +25,31 @@ export function numberOf(field, commas) {
 
 export const hasComma = field => WITH_COMMA.test(field);
 
-const found = (header, words) => header.findIndex(it => words.includes(it.toLowerCase()));
+const found = (header, words) => [...header.keys()].filter(i => words.includes(header[i].toLowerCase()));
 
-// The choice that a header leaves, or null.
+// The choice of a kind that a header allows, or null; `isPlain` if no role has two columns.
+function byWords(header, kind) {
+  const all = Object.entries(WORDS[kind]).map(([role, words]) => [role, found(header, words)]);
+  if (all.some(([role, columns]) => role !== 'weight' && !columns.length)) return null;
+  const roles = Object.fromEntries(all.map(([role, columns]) => [role, columns[0] ?? -1]));
+  if (kind !== 'links') roles.name = NAMES.flatMap(it => found(header, [it]))[0] ?? -1;
+  return { choice: { kind, roles, hasHeader: true }, isPlain: all.every(([, columns]) => columns.length < 2) };
+}
+
+// What a header leaves to choose, as chosenBy answers it, or null. Two kinds, or two columns for one role, leave a choice.
 function byHeader(header) {
-  const name = NAMES.map(it => found(header, [it])).find(it => it >= 0) ?? -1;
-  for (const kind of ['globe', 'plane']) {
-    const [across, up] = [WORDS[kind].across, WORDS[kind].up].map(it => found(header, it));
-    if (across >= 0 && up >= 0) return { kind, roles: { across, up, name }, hasHeader: true };
-  }
-  const [from, to, weight] = [WORDS.links.from, WORDS.links.to, WORDS.links.weight].map(it => found(header, it)), roles = { from, to, weight };
-  return roles.from >= 0 && roles.to >= 0 ? { kind: 'links', roles, hasHeader: true } : null;
+  const all = ['globe', 'plane', 'links'].map(kind => byWords(header, kind)).filter(Boolean);
+  if (!all.length) return null;
+  const [{ choice, isPlain }] = all;
+  return all.length === 1 && isPlain ? { choice } : { guess: choice };
 }
 
 // What the first rows of a table leave to choose: { choice } that is plain, or { guess }, to be asked about.
 export function chosenBy(rows, commas) {
   const isNumber = it => !Number.isNaN(numberOf(it, commas)), [header] = rows, hasHeader = !header.some(isNumber);
   const data = hasHeader ? rows.slice(1) : rows, numbers = [...header.keys()].filter(i => data.some(row => isNumber(row[i])));
-  const choice = hasHeader ? byHeader(header) : null;
-  if (choice) return { choice };
+  const told = hasHeader ? byHeader(header) : null;
+  if (told) return told;
   const name = [...header.keys()].find(i => !numbers.includes(i)), [across, up] = numbers;
   const plain = { kind: 'plane', roles: { across, up, name }, hasHeader };
   if (header.length === 2 && numbers.length === 2) return { choice: plain };

@@ -18,7 +18,8 @@ const BENDS = {
 // Where a height stands from left to right. By logarithm it begins at the least height above 0.
 export function scaleOf({ heights }, width) {
   const { to, from } = BENDS[state.scale], positive = heights.find(it => it > 0) ?? 1, isLog = state.scale === 'log';
-  const low = to(isLog ? positive : Math.min(0, heights[0])), high = to(Math.max(heights.at(-1), isLog ? positive : -Infinity)), across = high - low || 1, room = width - 2 * EDGE;
+  const low = to(isLog ? positive : Math.min(0, heights[0])), high = to(Math.max(heights.at(-1), isLog ? positive : -Infinity));
+  const across = high - low || 1, room = width - 2 * EDGE;
   const bounded = it => isLog ? Math.max(it, positive) : it;
   return { to: it => EDGE + room * (high - to(bounded(it))) / across, from: x => from(high - across * (x - EDGE) / room), low, high };
 }
@@ -41,12 +42,12 @@ function mergeShapes({ n, merges }, begin, { xOf, yOf, inkAt }) {
   const { roots, larger, smaller, size, first } = merges, right = xOf(0), lines = new Map(), bars = new Map();
   const put = (map, ink, path) => (map.get(ink) || map.set(ink, []).get(ink)).push(path), r = it => it.toFixed(1);
   const middle = node => yOf(first[node] + size[node] / 2);
-  let filled = -1;
+  let covered = -1;
   const bar = node => {
     if (node < n || node >= n + begin) return;
     const top = yOf(first[node]), tall = Math.max(0.3, yOf(first[node] + size[node]) - top);
-    if (tall < 0.5 && Math.abs(top - filled) < 0.5) return; // there is one already
-    filled = top;
+    if (tall < 0.5 && Math.abs(top - covered) < 0.5) return; // there is one already
+    covered = top;
     put(bars, inkAt(node), `M${r(xOf(node))} ${r(top)}H${r(right)}v${r(tall)}H${r(xOf(node))}z`);
   };
   roots.forEach(bar);
@@ -58,7 +59,8 @@ function mergeShapes({ n, merges }, begin, { xOf, yOf, inkAt }) {
     }
     put(lines, inkAt(n + i), `M${r(x)} ${r(middle(larger[i]))}V${r(middle(smaller[i]))}`);
   }
-  return [...[...bars].map(([ink, paths]) => ({ fill: ink, path: paths.join('') })), ...[...lines].map(([ink, paths]) => ({ stroke: ink, width: 1.2, path: paths.join('') }))];
+  const filled = Array.from(bars, ([ink, paths]) => ({ fill: ink, path: paths.join('') }));
+  return [...filled, ...Array.from(lines, ([ink, paths]) => ({ stroke: ink, width: 1.2, path: paths.join('') }))];
 }
 
 // Where the cut stands, between the last height that is kept and the first that isn't.
@@ -67,7 +69,8 @@ export function cutAt({ heights }, { kept }, scale) {
   return ((Number.isFinite(right) ? right : scale.to(scale.low)) + left) / 2;
 }
 
-const short = it => Number(it.toPrecision(3)).toLocaleString('en', { maximumSignificantDigits: 3, notation: Math.abs(it) >= 1e6 ? 'scientific' : 'standard' });
+const notation = it => Math.abs(it) >= 1e6 ? 'scientific' : 'standard';
+const short = it => Number(it.toPrecision(3)).toLocaleString('en', { maximumSignificantDigits: 3, notation: notation(it) });
 
 function placing({ n, heights }, width, height) {
   const scale = scaleOf({ heights }, width), most = height - FOOT - EDGE;
@@ -77,7 +80,10 @@ function placing({ n, heights }, width, height) {
 function tickShapes(shown, scale, height, { soft, line }) {
   return ticksOf(shown, scale).flatMap(it => {
     const x = scale.to(it);
-    return [{ stroke: line, width: 1, path: `M${x.toFixed(1)} ${EDGE}V${height - FOOT + 4}` }, { text: short(it), x, y: height - FOOT + 18, fill: soft, anchor: 'center' }];
+    return [
+      { stroke: line, width: 1, path: `M${x.toFixed(1)} ${EDGE}V${height - FOOT + 4}` },
+      { text: short(it), x, y: height - FOOT + 18, fill: soft, anchor: 'center' },
+    ];
   });
 }
 
@@ -99,7 +105,10 @@ export function drawDendrogram(canvas) {
   paint(pen, shapesOf(canvas.clientWidth, canvas.clientHeight));
 }
 
-export const dendrogramSvg = canvas => svgOf(shapesOf(canvas.clientWidth || 300, canvas.clientHeight || 500), canvas.clientWidth || 300, canvas.clientHeight || 500, inks().paper);
+export function dendrogramSvg(canvas) {
+  const width = canvas.clientWidth || 300, height = canvas.clientHeight || 500;
+  return svgOf(shapesOf(width, height), width, height, inks().paper);
+}
 
 // How many clusters are left if links are cut at this pixel.
 export function countAt({ n, heights }, x, width) {
@@ -112,7 +121,8 @@ export function countAt({ n, heights }, x, width) {
 // The branch at a pixel: the vertices of the highest node there that is whole to the right, as places in the order.
 export function branchAt(shown, x, y, width, height) {
   const { n, heights, merges: { larger, smaller, first, size, roots } } = shown, { scale } = placing(shown, width, height);
-  const place = (y - EDGE) * n / (height - FOOT - EDGE), most = scale.from(x), has = node => place >= first[node] && place < first[node] + size[node];
+  const place = (y - EDGE) * n / (height - FOOT - EDGE), most = scale.from(x);
+  const has = node => place >= first[node] && place < first[node] + size[node];
   let node = roots.find(has);
   while (node >= n && heights[node - n] > most) node = has(larger[node - n]) ? larger[node - n] : smaller[node - n];
   return node === undefined ? null : { begin: first[node], end: first[node] + size[node] };
@@ -126,8 +136,8 @@ export function drawBars(canvas) {
   if (!clusters || !shown.heights.length) return;
   const all = greatest(shown), step = (width - 2 * EDGE) / all.length, cut = shown.heights.length - clusters.kept, most = all[0] || 1;
   paint(pen, all.map((it, i) => {
-    const tall = Math.max(1, (height - 8) * Math.max(0, it) / most);
-    return { fill: i < cut ? plain.mark : plain.soft, path: `M${(EDGE + i * step).toFixed(1)} ${height}v${(-tall).toFixed(1)}h${Math.max(1, step - 2).toFixed(1)}V${height}z` };
+    const tall = Math.max(1, (height - 8) * Math.max(0, it) / most), [left, up, wide] = [EDGE + i * step, -tall, Math.max(1, step - 2)];
+    return { fill: i < cut ? plain.mark : plain.soft, path: `M${left.toFixed(1)} ${height}v${up.toFixed(1)}h${wide.toFixed(1)}V${height}z` };
   }));
 }
 

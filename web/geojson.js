@@ -26,17 +26,18 @@ function nameOf(feature, number) {
   return String(all[key] ?? feature?.id ?? number);
 }
 
-function parsed(text) {
+function parsed(bytes) {
   try {
-    return JSON.parse(text);
+    return JSON.parse(new TextDecoder('utf-8', { fatal: true }).decode(bytes));
   } catch (error) {
+    if (error instanceof TypeError) throw new Refusal('NoUtf8');
     throw new Refusal('BadJson', 0, error.message.slice(0, 120));
   }
 }
 
 export async function readGeoJson(source) {
   const bytes = await source.whole(MOST_BYTES), points = new Points('globe', true);
-  featuresOf(parsed(new TextDecoder().decode(bytes))).forEach((feature, i) => {
+  featuresOf(parsed(bytes)).forEach((feature, i) => {
     for (const [east, north] of placesOf(feature, i + 1).map(it => Array.isArray(it) ? it : [])) {
       if (!Number.isFinite(east) || !Number.isFinite(north)) throw new Refusal('NoGeoPoint', 0, `feature ${i + 1}: no two numbers`);
       points.add(east, north, nameOf(feature, i + 1), 0);

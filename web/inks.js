@@ -18,15 +18,19 @@ export function rgbOf(lightness, chroma, hue) {
   const turn = hue * Math.PI / 180, a = chroma * Math.cos(turn), b = chroma * Math.sin(turn);
   const l = (lightness + 0.3963377774 * a + 0.2158037573 * b) ** 3, m = (lightness - 0.1055613458 * a - 0.0638541728 * b) ** 3;
   const s = (lightness - 0.0894841775 * a - 1.291485548 * b) ** 3;
-  return [4.0767416621 * l - 3.3077115913 * m + 0.2309699292 * s, -1.2684380046 * l + 2.6097574011 * m - 0.3413193965 * s, -0.0041960863 * l - 0.7034186147 * m + 1.707614701 * s].map(byte);
+  return [
+    4.0767416621 * l - 3.3077115913 * m + 0.2309699292 * s,
+    -1.2684380046 * l + 2.6097574011 * m - 0.3413193965 * s,
+    -0.0041960863 * l - 0.7034186147 * m + 1.707614701 * s,
+  ].map(byte);
 }
 
 export const hexOf = rgb => `#${rgb.map(it => it.toString(16).padStart(2, '0')).join('')}`;
 
 // The inks of clusters by their numbers, on light or on dark paper.
 export function huesOn(paper) {
-  const steps = LIGHTNESS[paper];
-  return Array.from({ length: 2 * HUES }, (_, i) => hexOf(rgbOf(steps[(i + Math.floor(i / HUES)) % steps.length], CHROMA, FIRST[paper] + GOLDEN * (i % HUES))));
+  const steps = LIGHTNESS[paper], lightness = i => steps[(i + Math.floor(i / HUES)) % steps.length];
+  return Array.from({ length: 2 * HUES }, (_, i) => hexOf(rgbOf(lightness(i), CHROMA, FIRST[paper] + GOLDEN * (i % HUES))));
 }
 
 const PLAIN = {

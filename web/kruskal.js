@@ -3,7 +3,7 @@
 
 // The forest of links between the vertices 1 to n, as boruvka.js has them.
 export function forestByKruskal(n, links) {
-  const high = new Int32Array(links.buffer, links.byteOffset, links.length), parent = Uint32Array.from({ length: n + 1 }, (_, v) => v);
+  const high = new Int32Array(links.buffer, links.byteOffset, links.length), parent = new Uint32Array(n + 1).map((_, v) => v);
   const root = v => {
     while (parent[v] !== v) v = parent[v] = parent[parent[v]];
     return v;
@@ -11,7 +11,7 @@ export function forestByKruskal(n, links) {
   const order = (a, b) => high[a + 1] - high[b + 1] || links[a] - links[b] || links[a + 2] - links[b + 2] || links[a + 3] - links[b + 3];
   const forest = new Uint32Array(4 * Math.max(0, n - 1));
   let count = 0;
-  for (const at of Uint32Array.from({ length: links.length / 4 }, (_, i) => 4 * i).sort(order)) {
+  for (const at of new Uint32Array(links.length / 4).map((_, i) => 4 * i).sort(order)) {
     const one = root(links[at + 2]), other = root(links[at + 3]);
     if (one === other) continue;
     parent[one] = other;

@@ -21,7 +21,7 @@ export function mergesOf(n, forest) {
     size[n + i] = size[one] + size[other];
     least[n + i] = Math.min(least[one], least[other]);
   }
-  const roots = Uint32Array.from(parent.keys()).filter(it => parent[it] === it).sort((a, b) => size[b] - size[a] || least[a] - least[b]);
+  const roots = parent.filter((it, node) => it === node).sort((a, b) => size[b] - size[a] || least[a] - least[b]);
   return { roots, larger, smaller, size, least, ...ordered(n, roots, larger, smaller, size) };
 }
 

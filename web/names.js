@@ -4,17 +4,22 @@ const MOST_IN_NAME = 200; // characters
 
 export class Packer {
   constructor() {
-    Object.assign(this, { bytes: new Uint8Array(1024), ends: [0], encoder: new TextEncoder() });
+    Object.assign(this, { bytes: new Uint8Array(1024), ends: [0], encoder: new TextEncoder(), cuts: 0 });
   }
 
   add(name) {
     const end = this.ends.at(-1), text = name.slice(0, MOST_IN_NAME);
+    if (text !== name) this.cuts++;
     if (this.bytes.length - end < 3 * text.length) {
       const more = new Uint8Array(2 * this.bytes.length + 3 * text.length);
       more.set(this.bytes);
       this.bytes = more;
     }
     this.ends.push(end + this.encoder.encodeInto(text, this.bytes.subarray(end)).written);
+  }
+
+  notes() {
+    return this.cuts ? [`${this.cuts} of the names are cut to ${MOST_IN_NAME} characters.`] : [];
   }
 
   packed() {

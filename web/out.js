@@ -36,7 +36,8 @@ export function grOf(n, links) {
 
 // The points or vertices, with the numbers of their clusters if these are given.
 export function pointsCsv({ n, points, names, kind }, numbers = null) {
-  const hasPoints = kind === 'plane' || kind === 'globe', head = hasPoints ? (kind === 'globe' ? ['longitude', 'latitude'] : ['x', 'y']) : names ? [] : ['vertex'];
+  const hasPoints = kind === 'plane' || kind === 'globe', own = names ? [] : ['vertex'];
+  const head = { plane: ['x', 'y'], globe: ['longitude', 'latitude'] }[kind] ?? own;
   const text = new Text(`${[...(names ? ['name'] : []), ...head, ...(numbers ? ['cluster'] : [])].join(',')}\n`);
   for (let v = 0; v < n; v++) {
     const fields = hasPoints ? [points[2 * v], points[2 * v + 1]] : names ? [] : [v + 1];

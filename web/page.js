@@ -2,14 +2,16 @@
 //
 // points in: sources, rows, columns, tables, geojson, graphs (in the worker), address, choosing
 // tree and forest: spaces, tree, weights, boruvka, kruskal; then merges, rounds, layout (in the worker)
-// what is shown: state, clusters; view, scene, picture, dendrogram, playing, reading; out and saving
+// what is shown: state, clusters; view, scene, picture, dendrogram, fading, playing, reading; out and saving; card
 
 import { carried, inside } from './address.js';
+import { tellSums } from './card.js';
 import { askColumns } from './choosing.js';
 import { clustersTold, greatest, numbersOf } from './clusters.js';
 import { branchAt, countAt, countAtBar, drawBars, drawDendrogram } from './dendrogram.js';
+import { fade } from './fading.js';
 import { onInks } from './inks.js';
-import { Picture } from './picture.js';
+import { Picture, isDrawnAtOnce } from './picture.js';
 import { canPlay, isPlaying, play, roundsTold, stopPlaying } from './playing.js';
 import { listenToKeys, listenToPointer, placeAt, vertexTold } from './reading.js';
 import { listenToSaving, tellSaving } from './saving.js';
@@ -20,6 +22,7 @@ import { free, lens, viewNow } from './view.js';
 const $ = id => document.getElementById(id);
 const MOST_DRAWN = 1_000_000;
 const SLIDER = 99; // clusters more than the least
+const LEAST_PULL = 30; // pixels
 
 const picture = new Picture($('picture'));
 let solver;
@@ -128,6 +131,14 @@ const note = notes => { $('notes').textContent = notes.join(' '); };
 
 // ---- points in
 
+// Shows an answer in place of another one, which fades away if both pictures are there at once.
+async function showOther(shown, more) {
+  const isOther = more.view === null && state.shown, isSoft = isOther && isDrawnAtOnce(state.shown) && isDrawnAtOnce(shown);
+  busy(1);
+  await (isSoft ? fade(() => show(shown, more)) : show(shown, more));
+  busy(-1);
+}
+
 async function showPoints(points, more) {
   fault(null);
   note([]);
@@ -135,7 +146,7 @@ async function showPoints(points, more) {
   if (!points.length) return show(null, { file: null, ...more });
   try {
     const shown = await solver.ask({ task: 'points', points });
-    if (shown) show(shown, { file: null, ...more });
+    if (shown) await showOther(shown, { file: null, ...more });
   } catch (error) {
     fault(error);
   }
@@ -163,7 +174,8 @@ function drawnClouds(unit) {
 // n points in nine clouds: others at each call, the same at each visit.
 let draws = 0;
 function drawnPoints(n) {
-  const unit = unitsOf(625769211 + 7919 * draws++), clouds = drawnClouds(unit), points = new Float64Array(2 * n), hundredth = it => Math.round(100 * it) / 100;
+  const unit = unitsOf(625769211 + 7919 * draws++), clouds = drawnClouds(unit), points = new Float64Array(2 * n);
+  const hundredth = it => Math.round(100 * it) / 100;
   for (let i = 0; i < n; i++) {
     const { x, y, size } = clouds[i % clouds.length], angle = 2 * Math.PI * unit(), far = 0.6 * size * Math.sqrt(-Math.log(unit() + 1e-9));
     points[2 * i] = hundredth(x + far * Math.cos(angle));
@@ -202,7 +214,7 @@ async function openFile(file) {
   }
   if (!answer) return;
   if (answer.kind === 'places') await putPlaces(answer.points);
-  else show(answer, { file, view: null, penned: 0, cross: null });
+  else await showOther(answer, { file, view: null, penned: 0, cross: null });
   note(answer.notes ?? []);
 }
 
@@ -225,6 +237,9 @@ async function open(files) {
 }
 
 const openText = text => open([new File([text], 'pasted.csv')]);
+
+// Opens what was dropped or pasted: files, or else a text.
+const openAll = data => data.files.length ? open([...data.files]) : openText(data.getData('text/plain'));
 
 // ---- events
 
@@ -259,13 +274,30 @@ function listenToBar() {
   $('stop').onclick = () => solver.stop();
   $('save').onclick = () => $('saving').showModal();
   $('about').onclick = () => $('card').showModal();
-  $('tree').onclick = () => {
-    $('tree').ariaExpanded = String(document.body.classList.toggle('pulled'));
-    drawn = {};
-    settle();
-  };
   $('scale').onchange = () => change({ scale: $('scale').value });
   for (const it of document.querySelectorAll('dialog .close')) it.onclick = () => it.closest('dialog').close();
+}
+
+function pull(isUp) {
+  document.body.classList.toggle('pulled', isUp);
+  $('tree').ariaExpanded = String(isUp);
+  drawn = {};
+  settle();
+}
+
+// On a phone the tree is a sheet, which its button or a finger pulls up and down.
+function listenToSheet() {
+  let begun = null;
+  $('tree').onclick = () => pull(!document.body.classList.contains('pulled'));
+  for (const it of [$('bar'), $('side')]) {
+    it.addEventListener('pointerdown', ({ pointerType, target, clientY }) => {
+      begun = pointerType === 'touch' && !target.matches('input, select, canvas') ? clientY : null;
+    });
+    it.addEventListener('pointerup', ({ clientY }) => {
+      if (begun !== null && Math.abs(clientY - begun) >= LEAST_PULL) pull(clientY < begun);
+      begun = null;
+    });
+  }
 }
 
 // A drag moves the dashed line; without a button the branch under the pointer is shown.
@@ -294,10 +326,7 @@ function listenToWindow() {
     if ((event.ctrlKey || event.metaKey) && event.key === 'z' && !event.target.matches('input, textarea')) undo();
   });
   addEventListener('paste', event => {
-    if (event.target.matches('input, textarea')) return;
-    const { files } = event.clipboardData, text = event.clipboardData.getData('text/plain');
-    if (files.length) open([...files]);
-    else openText(text);
+    if (!event.target.matches('input, textarea')) openAll(event.clipboardData);
   });
   addEventListener('hashchange', () => openFirst());
   document.ondragover = event => {
@@ -308,7 +337,7 @@ function listenToWindow() {
   document.ondrop = event => {
     event.preventDefault();
     document.body.classList.remove('over');
-    open([...event.dataTransfer.files]);
+    openAll(event.dataTransfer);
   };
 }
 
@@ -320,12 +349,6 @@ function settle() {
   const bottom = isEmbedded ? innerHeight : (!isWide && isPulled ? innerHeight - $('side').offsetHeight : box('bar').top) - gap;
   Object.assign(free, { left: 0, top, width: Math.max(40, right), height: Math.max(40, bottom - top) });
   tellSoon();
-}
-
-async function tellSums() {
-  if (!crypto.subtle) return;
-  const sum = new Uint8Array(await crypto.subtle.digest('SHA-256', solver.bytes));
-  $('sum').textContent = Array.from(sum, it => it.toString(16).padStart(2, '0')).join('');
 }
 
 // Shows what the address or the page carries, or else an example.
@@ -343,12 +366,13 @@ async function begin() {
   listenToKeys($('picture'), { set: addPoint, undo });
   listenToOpening();
   listenToBar();
+  listenToSheet();
   listenToDendrogram();
   listenToWindow();
   listenToSaving(solver, fault);
   settle();
   $('unproved').hidden = Boolean(solver.module);
-  await tellSums();
+  await tellSums(solver.bytes);
   try {
     if (!await openFirst()) await showPoints(drawnPoints(1500));
   } catch (error) {

@@ -13,6 +13,8 @@ const MOST_NUMBERED = 100; // vertices of a graph
 const MOST_SVG = 100_000; // places
 const SLICE = 6; // milliseconds that a part takes
 
+export const isDrawnAtOnce = ({ places }) => places.length <= 2 * MOST_SHAPES;
+
 // ---- as shapes
 
 const radiusOf = (n, zoomed) => (n > 1000 ? 2 : n > 200 ? 3 : 4.5) * Math.max(1, Math.min(2, zoomed));
@@ -48,13 +50,16 @@ function shapesOf(scene, through) {
   const { shown } = scene;
   if (!shown?.places.length) return [];
   const { places, kind } = shown, n = places.length / 2, numbers = kind === 'graph' && n <= MOST_NUMBERED ? n : 0;
-  const texts = Array.from({ length: numbers }, (_, v) => ({ text: String(v + 1), x: through.across(places[2 * v]) + 6, y: through.down(places[2 * v + 1]) - 6, fill: scene.plain.ink }));
+  const text = v => ({ text: String(v + 1), x: through.across(places[2 * v]) + 6, y: through.down(places[2 * v + 1]) - 6, fill: scene.plain.ink });
+  const texts = Array.from({ length: numbers }, (_, v) => text(v));
   return [...linkShapes(scene, through), ...markShapes(scene, through, radiusOf(n, 1)), ...texts];
 }
 
 export function pictureSvg(canvas) {
   const scene = sceneNow(), { clientWidth: width, clientHeight: height } = canvas;
-  if (scene.shown?.places.length > 2 * MOST_SVG) throw new Error(`An SVG of more than ${MOST_SVG.toLocaleString('en')} points is too long to be of use. Save PNG.`);
+  if (scene.shown?.places.length > 2 * MOST_SVG) {
+    throw new Error(`An SVG of more than ${MOST_SVG.toLocaleString('en')} points is too long to be of use. Save PNG.`);
+  }
   return svgOf(shapesOf(scene, lens()), width, height, scene.plain.paper);
 }
 
@@ -161,7 +166,7 @@ export class Picture {
 
   draw() {
     const scene = sceneNow(), { pen, sharp } = emptied(this.canvas, scene.plain.paper);
-    if (scene.shown?.places.length > 2 * MOST_SHAPES) this.drawPixels(pen, sharp);
+    if (scene.shown && !isDrawnAtOnce(scene.shown)) this.drawPixels(pen, sharp);
     else {
       [this.job, this.of, this.isOld] = [null, null, false];
       paint(pen, shapesOf(scene, lens()));
@@ -209,7 +214,8 @@ export class Picture {
 function overlay() {
   const { shown, cross, picked, branch } = state, { mark, ink } = inks(), { across, down } = lens(), shapes = [];
   if (branch && shown) shapes.push({ stroke: mark, width: 2, path: branchPath(shown, branch, across, down) });
-  if (picked >= 0 && shown) shapes.push({ stroke: mark, width: 2.5, path: ringAt(across(shown.places[2 * picked]), down(shown.places[2 * picked + 1]), 8) });
+  const ring = v => ringAt(across(shown.places[2 * v]), down(shown.places[2 * v + 1]), 8);
+  if (picked >= 0 && shown) shapes.push({ stroke: mark, width: 2.5, path: ring(picked) });
   if (cross) shapes.push({ stroke: ink, width: 1.5, path: `M${cross.x - 9} ${cross.y}h18M${cross.x} ${cross.y - 9}v18` });
   return shapes;
 }

@@ -1,10 +1,10 @@
 // Borůvka's rounds as a film of six seconds, and as a file.
 
+import { fade, isStill } from './fading.js';
 import { change, state } from './state.js';
 
 const SECONDS = 6;
 
-const isStill = matchMedia('(prefers-reduced-motion: reduce)');
 let playing = 0;
 
 export const canPlay = () => Boolean(state.shown?.rounds && state.shown.heights.length);
@@ -24,9 +24,9 @@ export function play({ isAsked = false } = {}) {
     const step = now => {
       const time = Math.max(0, now - begun) / 1000 / SECONDS * last;
       if (id !== playing || state.shown !== shown) return done();
-      change({ round: time < last ? time : null });
-      if (time < last) requestAnimationFrame(step);
-      else done();
+      if (time >= last) return done(fade(() => change({ round: null })));
+      change({ round: time });
+      return requestAnimationFrame(step);
     };
     step(begun);
   });

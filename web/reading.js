@@ -45,8 +45,9 @@ class Gesture {
 
   // The middle of the pointers, and how far they are apart.
   spread() {
-    const all = [...this.down.values()], x = all.reduce((sum, it) => sum + it.x, 0) / all.length, y = all.reduce((sum, it) => sum + it.y, 0) / all.length;
-    return { x, y, apart: all.length > 1 ? Math.hypot(all[0].x - all[1].x, all[0].y - all[1].y) : 0 };
+    const all = [...this.down.values()], middle = of => all.reduce((sum, it) => sum + of(it), 0) / all.length;
+    const apart = all.length > 1 ? Math.hypot(all[0].x - all[1].x, all[0].y - all[1].y) : 0;
+    return { x: middle(it => it.x), y: middle(it => it.y), apart };
   }
 
   move(event) {
@@ -95,8 +96,9 @@ const ARROWS = { ArrowLeft: [-1, 0], ArrowRight: [1, 0], ArrowUp: [0, -1], Arrow
 // The hand pans by arrows, the pen moves a cross by them.
 export function listenToKeys(picture, { set, undo }) {
   const moveCross = (event, dx, dy) => {
-    const by = event.shiftKey ? 1 : 10, { clientWidth: width, clientHeight: height } = picture, { left, top } = lens(), cross = state.cross ?? { x: Math.round(left), y: Math.round(top) };
-    change({ cross: { x: Math.max(0, Math.min(width, cross.x + dx * by)), y: Math.max(0, Math.min(height, cross.y + dy * by)) } });
+    const by = event.shiftKey ? 1 : 10, { left, top } = lens(), { x, y } = state.cross ?? { x: Math.round(left), y: Math.round(top) };
+    const within = (it, most) => Math.max(0, Math.min(most, it));
+    change({ cross: { x: within(x + dx * by, picture.clientWidth), y: within(y + dy * by, picture.clientHeight) } });
   };
   picture.onkeydown = event => {
     const { left, top } = lens(), [dx, dy] = ARROWS[event.key] ?? [0, 0], isPen = state.tool === 'pen';

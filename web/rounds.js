@@ -11,31 +11,38 @@ export const LOW = 1, HIGH = 2; // which ends of a link reach for it
 // vertex, and `counts` how many there are.
 export function roundsOf(n, forest) {
   const k = forest.length / 4, round = new Uint8Array(k), ends = new Uint8Array(k), pieces = new Pieces(n);
-  const labels = [pieces.label.slice()], counts = [n];
-  let live = Uint32Array.from({ length: k }, (_, i) => i);
+  const labels = [pieces.labels()], counts = [n], first = new Int32Array(n);
+  let live = new Uint32Array(k).map((_, i) => i);
   for (let now = 0; live.length; now++) {
-    const first = new Int32Array(n).fill(-1);
+    first.fill(-1);
     for (const i of live) {
-      [[2, LOW], [3, HIGH]].forEach(([word, end]) => {
-        const piece = pieces.root(forest[4 * i + word] - 1);
-        if (first[piece] < 0) [first[piece], round[i], ends[i]] = [i, now, ends[i] | end];
-      });
+      for (let end = LOW; end <= HIGH; end++) {
+        const piece = pieces.root(forest[4 * i + 1 + end] - 1);
+        if (first[piece] >= 0) continue;
+        first[piece] = i;
+        round[i] = now;
+        ends[i] |= end;
+      }
     }
-    const taken = live.filter(i => ends[i]);
-    for (const i of taken) pieces.join(forest[4 * i + 2] - 1, forest[4 * i + 3] - 1);
-    live = live.filter(i => !ends[i]);
-    labels.push(Uint32Array.from({ length: n }, (_, v) => pieces.label[pieces.root(v)]));
-    counts.push(counts.at(-1) - taken.length);
+    for (const i of live) if (ends[i]) pieces.join(forest[4 * i + 2] - 1, forest[4 * i + 3] - 1);
+    const left = live.filter(i => !ends[i]);
+    labels.push(pieces.labels());
+    counts.push(counts.at(-1) - live.length + left.length);
+    live = left;
   }
   return { round, ends, labels, counts };
 }
 
-// Which vertices are joined so far. Each root has the label of its piece, and how many vertices had that label by themselves.
+// Which vertices are joined so far. A piece is called by its root, which is that of its largest part.
 class Pieces {
   constructor(n) {
-    this.parent = Uint32Array.from({ length: n }, (_, v) => v);
-    this.label = this.parent.slice();
+    this.parent = new Uint32Array(n).map((_, v) => v);
     this.size = new Uint32Array(n).fill(1);
+  }
+
+  // What the piece of each vertex is called.
+  labels() {
+    return this.parent.map((_, v) => this.root(v));
   }
 
   root(v) {

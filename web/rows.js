@@ -5,6 +5,7 @@ import { Refusal } from './boruvka.js';
 const MOST_IN_ROW = 1_000_000; // characters
 const MOST_LINES = 20_000_000;
 const CONTROLS = /[\0-\x08\x0e-\x1f]/; // no text has them
+const BREAKS = /\r\n|\n|\r(?=[^])/; // a CR at the end may have its LF in the next piece
 
 // What parts the fields of a table, by its first row: the first of these that it has outside of quotes, or else spaces.
 export const separatorOf = row => ['\t', ';', ','].find(it => row.replace(/"[^"]*"/g, '').includes(it)) ?? ' ';
@@ -37,7 +38,7 @@ export class Rows {
 
   push(text) {
     if (CONTROLS.test(text)) throw new Refusal('NoText', this.line + 1);
-    const lines = (this.rest + text).split(/\r\n|\n|\r(?=[^])/);
+    const all = this.rest + text, lines = all.split(all.includes('\r') ? BREAKS : '\n');
     this.rest = lines.pop();
     if (this.line + lines.length > MOST_LINES) throw new Refusal('TooManyLines', MOST_LINES + 1);
     for (const it of lines) this.hear(it);

@@ -90,7 +90,8 @@ const number = ({ commas }, column) => `float(row[${column}]${commas ? '.replace
 // Lines that read the rows of the file, or of clusters.csv as this page saves it.
 function rowsInPython(choice, file) {
   const [name, part] = [file?.name ?? 'clusters.csv', choice.separator].map(it => JSON.stringify(it));
-  const split = choice.separator === ' ' ? `line.split() for line in open(${name}, encoding="utf-8-sig")` : `*csv.reader(open(${name}, encoding="utf-8-sig"), delimiter=${part})`;
+  const text = `open(${name}, encoding="utf-8-sig")`;
+  const split = choice.separator === ' ' ? `line.split() for line in ${text}` : `*csv.reader(${text}, delimiter=${part})`;
   return ['import csv', 'import numpy as np', `rows = [row for row in [${split}] if row][${choice.hasHeader ? 1 : 0}:]`];
 }
 

@@ -1,7 +1,8 @@
 // Where points lie: in the plane, or on the globe. A space measures between its places, which it keeps in an order of their own.
 //
-// A space has `axes`, a Float64Array of coordinates each, for boxes around places; `square`, which grows with the distance of
-// two places; `within`, the largest square of boxes' gaps that a nearer place can have; and `length`, the distance of a square.
+// A space has `width` coordinates of each place, one after the other in a Float64Array, for boxes around places; `square`, which
+// grows with the distance of two places; `within`, the largest square of boxes' gaps that a nearer place can have; and `length`,
+// the distance of a square.
 
 export const KILOMETRES_OF_EARTH = 6371;
 const RADIAN = Math.PI / 180;
@@ -9,7 +10,12 @@ const RADIAN = Math.PI / 180;
 // By so much may a chord between two places on the globe be wrong, if it is taken from axes: they are rounded.
 const BLUR = 1e-15;
 
-const picked = (values, order) => Float64Array.from(order, it => values[it]);
+// The values of places in this order, `width` of each.
+function picked(values, order, width = 1) {
+  const all = new Float64Array(order.length * width);
+  for (let i = 0; i < order.length; i++) for (let axis = 0; axis < width; axis++) all[i * width + axis] = values[order[i] * width + axis];
+  return all;
+}
 
 // The least and the greatest of some numbers, or nothing where there are none.
 export function boundsOf(values, step = 1, begin = 0) {
@@ -23,9 +29,8 @@ export function boundsOf(values, step = 1, begin = 0) {
 
 // Distances on paper. Coordinates are scaled by a power of two, so that no square of a distance is past what doubles hold.
 export class Plane {
-  constructor(axes, scale) {
-    Object.assign(this, { axes, scale });
-    [this.x, this.y] = axes;
+  constructor(coordinates, scale) {
+    Object.assign(this, { coordinates, scale, width: 2 });
   }
 
   static of(points) {
@@ -33,16 +38,15 @@ export class Plane {
     const most = Math.max(across.high - across.low, up.high - up.low);
     if (points.length && !Number.isFinite(Math.hypot(across.high - across.low, up.high - up.low))) return null;
     const scale = most > 0 ? 2 ** -Math.max(-1022, Math.min(1022, Math.floor(Math.log2(most)))) : 1;
-    const axis = it => Float64Array.from({ length: points.length / 2 }, (_, v) => points[2 * v + it] * scale);
-    return new Plane([axis(0), axis(1)], scale);
+    return new Plane(points.map(it => it * scale), scale);
   }
 
   inOrder(order) {
-    return new Plane(this.axes.map(it => picked(it, order)), this.scale);
+    return new Plane(picked(this.coordinates, order, 2), this.scale);
   }
 
   square(one, other) {
-    const dx = this.x[one] - this.x[other], dy = this.y[one] - this.y[other];
+    const it = this.coordinates, dx = it[2 * one] - it[2 * other], dy = it[2 * one + 1] - it[2 * other + 1];
     return dx * dx + dy * dy;
   }
 
@@ -57,19 +61,21 @@ export class Plane {
 
 // Kilometres on great circles, by the haversine formula. Points are degrees east and north; axes lead out of the earth.
 export class Globe {
-  constructor(axes, east, north) {
-    Object.assign(this, { axes, east, north, shrink: Float64Array.from(north, Math.cos) });
+  constructor(coordinates, east, north) {
+    Object.assign(this, { coordinates, width: 3, east, north, shrink: north.map(Math.cos) });
   }
 
   static of(points) {
-    const radians = it => Float64Array.from({ length: points.length / 2 }, (_, v) => points[2 * v + it] * RADIAN);
-    const east = radians(0), north = radians(1);
-    const axis = call => Float64Array.from(east, (it, v) => Math.cos(north[v]) * call(it));
-    return new Globe([axis(Math.cos), axis(Math.sin), Float64Array.from(north, Math.sin)], east, north);
+    const n = points.length / 2, east = new Float64Array(n), north = new Float64Array(n), coordinates = new Float64Array(3 * n);
+    for (let v = 0; v < n; v++) {
+      [east[v], north[v]] = [points[2 * v] * RADIAN, points[2 * v + 1] * RADIAN];
+      coordinates.set([Math.cos(north[v]) * Math.cos(east[v]), Math.cos(north[v]) * Math.sin(east[v]), Math.sin(north[v])], 3 * v);
+    }
+    return new Globe(coordinates, east, north);
   }
 
   inOrder(order) {
-    return new Globe(this.axes.map(it => picked(it, order)), picked(this.east, order), picked(this.north, order));
+    return new Globe(picked(this.coordinates, order, 3), picked(this.east, order), picked(this.north, order));
   }
 
   // Of the chord through the earth, whose radius is 1.
@@ -90,7 +96,7 @@ export class Globe {
 // Where points of the globe are drawn: each degree up as long as one across in the middle. It is cut open where most degrees
 // east have no point.
 export function drawnGlobe(points) {
-  const n = points.length / 2, east = Float64Array.from({ length: n }, (_, v) => (points[2 * v] % 360 + 360) % 360), sorted = east.slice().sort();
+  const n = points.length / 2, east = new Float64Array(n).map((_, v) => (points[2 * v] % 360 + 360) % 360), sorted = east.slice().sort();
   let cut = 0, most = n ? sorted[0] + 360 - sorted[n - 1] : 0;
   for (let i = 1; i < n; i++) if (sorted[i] - sorted[i - 1] > most) [cut, most] = [sorted[i], sorted[i] - sorted[i - 1]];
   const { low, high } = boundsOf(points, 2, 1), narrow = Math.cos((low + high) / 2 * RADIAN) || 1;

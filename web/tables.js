@@ -26,10 +26,15 @@ class Reader {
   number(field, line) {
     const it = numberOf(field, this.commas);
     if (!Number.isFinite(it)) throw new Refusal('NoNumber', line, `‘${field.slice(0, 40)}’`);
+    if (this.commas) this.hearPoint(field, line);
+    return it;
+  }
+
+  // Within a table all numbers have a point, or all have a comma.
+  hearPoint(field, line) {
     if (hasComma(field)) this.comma ||= field;
     else if (field.includes('.')) this.point ||= field;
     if (this.comma && this.point) throw new Refusal('PointAndComma', line, `‘${field.slice(0, 40)}’`);
-    return it;
   }
 
   notes() {
@@ -53,7 +58,8 @@ export class Points {
 
   all(notes) {
     if (!this.places.length) throw new Refusal('NoPoint');
-    return { kind: this.kind, points: Float64Array.from(this.places), names: this.names?.packed() ?? null, notes };
+    notes.push(...this.names?.notes() ?? []);
+    return { kind: this.kind, points: new Float64Array(this.places), names: this.names?.packed() ?? null, notes };
   }
 }
 
@@ -99,7 +105,8 @@ class LinkTable {
     if (!this.weights.length) throw new Refusal('NoLink');
     if (this.loops) notes.push(`${this.loops} of the links join a name with itself, and are left out.`);
     if (this.roles.weight < 0) notes.push('No column is a weight: each link weighs 1.');
-    return { kind: 'links', ends: Uint32Array.from(this.ends), weights: Float64Array.from(this.weights), names: this.names.packed(), notes };
+    notes.push(...this.names.notes());
+    return { kind: 'links', ends: new Uint32Array(this.ends), weights: new Float64Array(this.weights), names: this.names.packed(), notes };
   }
 }
 

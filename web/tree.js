@@ -8,95 +8,135 @@
 
 const LEAF = 8; // so few points are looked through one by one
 
-// Moves ids[low..high) until the one in the middle parts them by these values.
-function partAtMiddle(values, ids, low, high) {
-  const middle = (low + high) >> 1;
-  for (let from = low, to = high - 1; from < to;) {
-    const pivot = values[ids[(from + to) >> 1]];
-    let i = from, j = to;
-    while (i <= j) {
-      while (values[ids[i]] < pivot) i++;
-      while (values[ids[j]] > pivot) j--;
-      if (i <= j) {
-        const id = ids[i];
-        ids[i++] = ids[j];
-        ids[j--] = id;
-      }
-    }
-    if (middle <= j) to = j;
-    else if (middle >= i) from = i;
-    else break;
-  }
-  return middle;
-}
-
-// The points of a space in an order where each node has those from `low` to `high`. Its first child follows it, and `second`
-// is the other one, or 0 for a leaf. Of each axis `box` has the least and the greatest coordinate of each node.
+// The points of a space in an order, as places, where each node has those from `low` to `high`. Its first child follows it, and
+// `second` is the other one, or 0 for a leaf. Its `box` has the least and the greatest of each coordinate.
 class Tree {
   constructor(space) {
-    const n = space.axes[0].length, nodes = Math.max(1, Math.ceil(4 * n / LEAF));
-    this.ids = Uint32Array.from({ length: n }, (_, i) => i);
-    [this.low, this.high, this.second] = Array.from({ length: 3 }, () => new Uint32Array(nodes));
-    this.width = 2 * space.axes.length;
-    this.box = new Float64Array(nodes * this.width);
+    const n = space.coordinates.length / space.width, nodes = Math.max(1, Math.ceil(4 * n / LEAF));
+    this.ids = new Uint32Array(n).map((_, i) => i);
+    [this.low, this.high, this.second, this.parent] = Array.from({ length: 4 }, () => new Uint32Array(nodes));
+    this.leaf = new Uint32Array(n);
+    this.coordinates = space.coordinates.slice();
+    this.width = space.width;
+    this.box = new Float64Array(2 * nodes * this.width);
     this.count = 0;
-    if (n) this.build(space.axes, 0, n);
+    if (n) this.build(0, n);
     this.space = space.inOrder(this.ids);
   }
 
   // A box is parted across its longest side, so that equal coordinates part nothing.
-  build(axes, low, high) {
-    const node = this.count++, longest = this.measure(axes, node, low, high);
+  build(low, high) {
+    const node = this.count++, longest = this.measure(node, low, high);
     [this.low[node], this.high[node]] = [low, high];
-    if (high - low > LEAF) {
-      const middle = partAtMiddle(axes[longest], this.ids, low, high);
-      this.build(axes, low, middle);
-      this.second[node] = this.build(axes, middle, high);
+    if (high - low <= LEAF) this.leaf.fill(node, low, high);
+    else {
+      const middle = this.partAtMiddle(longest, low, high), first = this.build(low, middle), second = this.build(middle, high);
+      this.second[node] = second;
+      this.parent[first] = this.parent[second] = node;
     }
     return node;
   }
 
-  // Puts a box around these points, and answers which of its sides is the longest.
-  measure(axes, node, low, high) {
+  // Puts a box around these places, and answers which of its sides is the longest.
+  measure(node, low, high) {
+    const { coordinates, width, box } = this;
     let longest = 0, most = -1;
-    axes.forEach((axis, i) => {
+    for (let axis = 0; axis < width; axis++) {
       let least = Infinity, greatest = -Infinity;
-      for (let at = low; at < high; at++) {
-        const it = axis[this.ids[at]];
+      for (let at = low * width + axis; at < high * width; at += width) {
+        const it = coordinates[at];
         if (it < least) least = it;
         if (it > greatest) greatest = it;
       }
-      this.box[node * this.width + 2 * i] = least;
-      this.box[node * this.width + 2 * i + 1] = greatest;
-      if (greatest - least > most) [longest, most] = [i, greatest - least];
-    });
+      box[2 * (node * width + axis)] = least;
+      box[2 * (node * width + axis) + 1] = greatest;
+      if (greatest - least > most) [longest, most] = [axis, greatest - least];
+    }
     return longest;
+  }
+
+  // Moves these places until the one in the middle parts them along an axis.
+  partAtMiddle(axis, low, high) {
+    const { coordinates, width } = this, middle = (low + high) >> 1;
+    for (let from = low, to = high - 1; from < to;) {
+      const pivot = coordinates[((from + to) >> 1) * width + axis];
+      let i = from, j = to;
+      while (i <= j) {
+        while (coordinates[i * width + axis] < pivot) i++;
+        while (coordinates[j * width + axis] > pivot) j--;
+        if (i <= j) this.swap(i++, j--);
+      }
+      if (middle <= j) to = j;
+      else if (middle >= i) from = i;
+      else break;
+    }
+    return middle;
+  }
+
+  swap(one, other) {
+    const { ids, coordinates, width } = this, id = ids[one];
+    ids[one] = ids[other];
+    ids[other] = id;
+    for (let axis = 0; axis < width; axis++) {
+      const it = coordinates[one * width + axis];
+      coordinates[one * width + axis] = coordinates[other * width + axis];
+      coordinates[other * width + axis] = it;
+    }
   }
 
   // The square of the gap between a node's box and a place.
   gap(node, place) {
-    const { box, width, space: { axes } } = this;
+    const { coordinates, box, width } = this;
     let sum = 0;
-    for (let i = 0, at = node * width; i < axes.length; i++, at += 2) {
-      const it = axes[i][place], out = it < box[at] ? box[at] - it : it > box[at + 1] ? it - box[at + 1] : 0;
+    for (let i = 0, at = 2 * node * width, from = place * width; i < width; i++, at += 2) {
+      const it = coordinates[from + i], out = it < box[at] ? box[at] - it : it > box[at + 1] ? it - box[at + 1] : 0;
       sum += out * out;
     }
     return sum;
   }
+
+  // The square of the gap between the boxes of two nodes.
+  apart(one, other) {
+    const { box, width } = this;
+    let sum = 0;
+    for (let i = 0, at = 2 * one * width, to = 2 * other * width; i < 2 * width; i += 2) {
+      const out = Math.max(0, box[at + i] - box[to + i + 1], box[to + i] - box[at + i + 1]);
+      sum += out * out;
+    }
+    return sum;
+  }
+
+  // Whether all that is nearer to a place than this square lies between the sides of a node's box, and so in the node.
+  holds(node, place, square) {
+    const { coordinates, box, width } = this;
+    for (let i = 0, at = 2 * node * width, from = place * width; i < width; i++, at += 2) {
+      const it = coordinates[from + i], low = it - box[at], high = box[at + 1] - it;
+      if (low * low < square || high * high < square) return false;
+    }
+    return true;
+  }
+
+  // The other child of a node's parent.
+  sibling(node) {
+    const up = this.parent[node], second = this.second[up];
+    return second === node ? up + 1 : second;
+  }
 }
 
-// The components of places, and of each the least square to a place outside that this round has found.
+// The components of places, and of each the shortest link that leaves it, of those that this round has found.
 class Rounds {
   constructor(tree) {
     const n = tree.ids.length;
     Object.assign(this, { tree, left: n, inside: new Int32Array(tree.count) });
-    this.parent = Int32Array.from({ length: n }, (_, i) => i);
+    this.parent = new Int32Array(n).map((_, i) => i);
     this.component = this.parent.slice();
     [this.from, this.to] = [new Int32Array(n), new Int32Array(n)];
     this.best = new Float64Array(n);
     // of each place the nearest outside that it found last, or -1; what lies outside now is as far as that at least
     this.seen = new Int32Array(n).fill(-1);
     this.far = new Float64Array(n);
+    // the search that goes on: for a place, what it has found, its square, and that of the gaps that are worth a look
+    Object.assign(this, { place: 0, own: 0, hit: -1, least: 0, within: 0 });
   }
 
   root(place) {
@@ -116,30 +156,88 @@ class Rounds {
     }
   }
 
-  // The nearest place outside the component of a place, if it is nearer than the best of the component.
-  find(place) {
+  // Whether what a place found last still lies outside of its component: then nothing outside is nearer.
+  isOut(place) {
+    return this.seen[place] >= 0 && this.component[this.seen[place]] !== this.component[place];
+  }
+
+  // Both components of a link may take it.
+  keep(place, other, square) {
+    this.offer(place, other, square);
+    this.offer(other, place, square);
+  }
+
+  offer(place, other, square) {
     const own = this.component[place];
-    Object.assign(this, { place, own, hit: -1, least: this.best[own], within: this.tree.space.within(this.best[own]) });
-    this.search(0);
-    this.far[place] = Math.max(this.far[place], this.least);
-    this.seen[place] = this.hit;
+    if (square >= this.best[own]) return;
+    this.best[own] = square;
+    this.from[own] = place;
+    this.to[own] = other;
+  }
+
+  // Finds for the places of a node. `top` is the highest node around it that lies in one component, or the node itself.
+  visit(node, top) {
+    const { tree, inside, best } = this, own = inside[node], second = tree.second[node];
+    if (own >= 0 && best[own] < Infinity && !this.reaches(node, top)) return;
+    if (second) {
+      this.visit(node + 1, own < 0 ? node + 1 : top);
+      this.visit(second, own < 0 ? second : top);
+    } else for (let place = tree.low[node]; place < tree.high[node]; place++) this.find(place, top);
+  }
+
+  // Whether a place outside of a node's component may be nearer to the node than the component's best.
+  reaches(node, top) {
+    const { tree, inside } = this, within = tree.space.within(this.best[inside[node]]);
+    for (let it = top; it > 0; it = tree.parent[it]) if (this.meets(node, tree.sibling(it), within)) return true;
+    return false;
+  }
+
+  meets(node, other, within) {
+    const { tree, inside } = this, second = tree.second[other];
+    if (inside[other] === inside[node] || tree.apart(node, other) >= within) return false;
+    return second ? this.meets(node, other + 1, within) || this.meets(node, second, within) : this.meetsPlace(node, other, within);
+  }
+
+  meetsPlace(node, leaf, within) {
+    const { tree, component } = this, own = this.inside[node];
+    for (let at = tree.low[leaf]; at < tree.high[leaf]; at++) if (component[at] !== own && tree.gap(node, at) < within) return true;
+    return false;
+  }
+
+  // The nearest place outside the component of a place, if it is nearer than the component's best. `top` is a node around the
+  // place: a leaf, or one that lies in the component.
+  find(place, top) {
+    const { tree, far, seen } = this, own = this.component[place], best = this.best[own];
+    if (far[place] >= best || this.isOut(place)) return;
+    this.place = place;
+    this.own = own;
+    this.hit = -1;
+    this.least = best;
+    this.within = tree.space.within(best);
+    if (this.inside[top] !== own) this.look(tree.low[top], tree.high[top]);
+    for (let it = top; it > 0 && !tree.holds(it, place, this.within); it = tree.parent[it]) {
+      const other = tree.sibling(it);
+      if (this.gap(other) < this.within) this.search(other);
+    }
+    far[place] = Math.max(far[place], this.least);
+    seen[place] = this.hit >= 0 || this.from[own] !== place ? this.hit : this.to[own];
+    if (this.hit >= 0) this.keep(place, this.hit, this.least);
+  }
+
+  // How far it is to a node that may have what is looked for.
+  gap(node) {
+    return this.inside[node] === this.own ? Infinity : this.tree.gap(node, this.place);
   }
 
   search(node) {
-    const { tree, inside } = this, second = tree.second[node];
-    if (inside[node] === this.own) return;
-    if (!second) {
-      this.look(tree.low[node], tree.high[node]);
+    const { low, high, second } = this.tree, first = node + 1, other = second[node];
+    if (!other) {
+      this.look(low[node], high[node]);
       return;
     }
-    const here = tree.gap(node + 1, this.place), there = tree.gap(second, this.place);
-    if (here <= there) {
-      if (here < this.within) this.search(node + 1);
-      if (there < this.within) this.search(second);
-    } else {
-      if (there < this.within) this.search(second);
-      if (here < this.within) this.search(node + 1);
-    }
+    const here = this.gap(first), there = this.gap(other), isFirst = here <= there;
+    if ((isFirst ? here : there) < this.within) this.search(isFirst ? first : other);
+    if ((isFirst ? there : here) < this.within) this.search(isFirst ? other : first);
   }
 
   look(low, high) {
@@ -147,22 +245,21 @@ class Rounds {
     for (let at = low; at < high; at++) {
       if (component[at] === own) continue;
       const square = space.square(place, at);
-      if (square < this.least) [this.least, this.hit, this.within] = [square, at, space.within(square)];
+      if (square >= this.least) continue;
+      this.least = square;
+      this.hit = at;
+      this.within = space.within(square);
     }
   }
 
   // One round: the links that it takes go to `links` as two ids each.
   run(links) {
-    const { component, parent, best, far, seen } = this, n = parent.length;
+    const { component, best, seen, far } = this, n = component.length;
     for (let place = 0; place < n; place++) component[place] = this.root(place);
     this.mark();
     best.fill(Infinity);
-    for (let place = 0; place < n; place++) {
-      const own = component[place];
-      if (far[place] >= best[own]) continue;
-      if (seen[place] < 0 || component[seen[place]] === own) this.find(place);
-      if (seen[place] >= 0) [best[own], this.from[own], this.to[own]] = [far[place], place, seen[place]];
-    }
+    for (let place = 0; place < n; place++) if (this.isOut(place)) this.keep(place, seen[place], far[place]);
+    this.visit(0, 0);
     for (let own = 0; own < n; own++) if (best[own] < Infinity) this.take(own, links);
   }
 

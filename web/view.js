@@ -30,7 +30,8 @@ export const viewNow = () => state.view ?? wholeView();
 // Functions from places to pixels and back, for one picture.
 export function lens(view = viewNow()) {
   const left = free.left + free.width / 2, top = free.top + free.height / 2, { x, y, zoom } = view;
-  return { left, top, x, y, zoom, across: it => left + (it - x) * zoom, down: it => top - (it - y) * zoom, placeX: it => x + (it - left) / zoom, placeY: it => y - (it - top) / zoom };
+  const toPixels = { across: it => left + (it - x) * zoom, down: it => top - (it - y) * zoom };
+  return { left, top, x, y, zoom, ...toPixels, placeX: it => x + (it - left) / zoom, placeY: it => y - (it - top) / zoom };
 }
 
 // The view after `by` times the zoom with the place at this pixel where it is, and a shift by pixels.

@@ -63,8 +63,9 @@ function shown(n, forest, begun, more) {
   const milliseconds = performance.now() - begun, { isExact = false, kind, points } = more;
   const merges = n <= MOST_CUT ? mergesOf(n, forest) : null, isDrawn = n <= MOST_POINTS;
   const places = !isDrawn ? new Float64Array() : kind === 'globe' ? drawnGlobe(points) : points ?? placed(n, forest, merges);
-  const rounds = n <= MOST_PLAYED ? roundsOf(n, forest) : null, all = { n, forest, merges, rounds, milliseconds, isExact, isProved: !!module };
-  return { ...all, heights: weightsOf(forest, isExact), total: totalOf(forest, isExact), names: null, notes: [], ...more, points: points ?? new Float64Array(), places };
+  const rounds = n <= MOST_PLAYED ? roundsOf(n, forest) : null, heights = weightsOf(forest, isExact), total = totalOf(forest, isExact);
+  const found = { n, forest, merges, rounds, heights, total, milliseconds, isExact, isProved: !!module };
+  return { ...found, names: null, notes: [], ...more, points: points ?? new Float64Array(), places };
 }
 
 function solved(n, links, more) {

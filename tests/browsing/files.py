@@ -155,7 +155,9 @@ def files_that_are_taken(_room):
     is_so(page.text("notes"), "A comma is read as the decimal point: 1,5 is 1.5.")
     page.drop(("links.csv", b"source,target\nc,c\na,b\n"))
     is_so(page.text("notes"), "1 of the links join a name with itself, and are left out. No column is a weight: each link weighs 1.")
-    page.expect()
+    page.drop(("long.csv", b"name,x,y\n%s,0,0\n%s,3,4\nc,3,4\n" % (b"a" * 200, b"b" * 201)))
+    is_so(page.text("notes"), "1 of the names are cut to 200 characters.")
+    page.expect(points="3", total="5")
 
 
 @case
@@ -192,6 +194,13 @@ def columns_that_are_chosen(_room):
     page.browser.run("document.querySelector('#columns button[value=take]').click()")
     page.settle()
     page.expect(points="3", size="2", total="5")
+    # a header that allows two kinds, or two columns for a role, is asked about too
+    for text, points, total in [(b"x,y,lon,lat\n0,0,0,0\n3,4,1,0\n", "2", "111.1949 km"), (b"x,y,X\n0,0,9\n3,4,9\n9,4,1\n", "3", "11")]:
+        page.browser.run(DROP_SOON, [("table.csv", base64.b64encode(text).decode())])
+        page.browser.wait("document.getElementById('columns').open")
+        page.browser.run("document.querySelector('#columns button[value=take]').click()")
+        page.settle()
+        page.expect(points=points, total=total)
     page.browser.run(DROP_SOON, [("table.csv", base64.b64encode(b"1,2,3\n").decode())])
     page.browser.wait("document.getElementById('columns').open")
     page.browser.press(ESCAPE)
@@ -212,6 +221,11 @@ def a_table_that_is_pasted(_room):
     page.browser.click("take")
     page.settle()
     page.expect(points="3", total="2")
+    # and one that is dropped
+    drop = "const data = new DataTransfer(); data.setData('text/plain', arguments[0]); document.body.dispatchEvent(new DragEvent('drop', { dataTransfer: data, bubbles: true, cancelable: true }))"
+    page.browser.run(drop, "0 0\n5 12\n")
+    page.settle()
+    page.expect(points="2", total="13")
     page.browser.run(paste, "nothing")
     page.settle()
     is_so(page.text("fault")[:39], "pasted.csv: line 1: OneColumn (‘nothing")
@@ -263,6 +277,7 @@ FAULTS = [
     ("bad.geojson", b'[{"type": "Point", "coordinates": [1, 2]}, {"type": "Point", "coordinates": ["1", 2]}]', "NoGeoPoint (feature 2: no two numbers)"),
     ("bad.geojson", b'{"type": "Point", "coordinates": [1, 200]}', "NoLatitude (200)"),
     ("bad.geojson", b"null", "NoGeoPoint (feature 1: nothing)"),
+    ("bad.geojson", b'{"type": "Feature", "properties": {"name": "\xe4"}, "geometry": {"type": "Point", "coordinates": [1, 2]}}', "NoUtf8"),
     ("far.csv", b"0,0\n1e308,1e308\n-1e308,0\n", "TooFarApart"),
     ("bad.co", b"v 1 2 3\n", "line 1: NoProblemYet"),
     ("bad.co", b"p aux sp co 1\np aux sp co 1\n", "line 2: SecondProblem"),

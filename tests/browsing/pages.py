@@ -1,8 +1,10 @@
 """How the page begins, over a server and from a file, what it carries, and where it can't."""
 import base64
 import gzip
+import hashlib
 import json
 import os
+import re
 import subprocess
 import sys
 import zlib
@@ -111,6 +113,31 @@ def the_packed_page_works_from_a_file(room):
     is_so(page.saved("forest.gr"), SMALL_FOREST)
     page.expect(points="6", total="13")
     return f"{len(content):,} bytes"
+
+
+@case
+def the_card_names_what_runs(room):
+    """The sums of the packed page's parts, and other ones where a part is another."""
+    sum_of, page, path = lambda it: hashlib.sha256(it).hexdigest(), Page.opened(), packed_page(room)
+    with open(Page.module, "rb") as it:
+        module = sum_of(it.read())
+    names = ["sum-module", "sum-scripts", "sum-worker", "sum-style"]
+    is_so(page.shown(*names), [module, "", "", ""])
+    with open(path, encoding="utf-8") as it:
+        text = it.read()
+    parts = [r'<script type="module">(.*?)</script>', r'<script type="text/plain" id="packed-worker">(.*?)</script>', r"<style>(.*?)</style>"]
+    sums = [module, *(sum_of(re.search(it, text, re.S)[1].encode()) for it in parts)]
+    page.browser.open(f"file://{path}")
+    page.settle()
+    is_so(page.shown(*names), sums)
+    page.click("about")
+    page.keep("card")
+    with open(path, "w", encoding="utf-8") as it:
+        it.write(text.replace("<style>", "<style>/* another */", 1))
+    page.browser.open(f"file://{path}")
+    page.settle()
+    is_so([one == other for one, other in zip(page.shown(*names), sums)], [True, True, True, False])
+    page.browser.complaints()
 
 
 @case

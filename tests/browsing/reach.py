@@ -3,6 +3,7 @@ import re
 import statistics
 
 from browsing.page import Page, forest_by_program, is_so, quick
+from browsing.reading import pointer
 from cases.running import case
 
 TAB = "\ue004"
@@ -66,6 +67,12 @@ def the_sheet_of_a_phone(_room):
         page.browser.click("tree")
         page.frames()
         is_so(page.browser.run("return document.getElementById('dendrogram').checkVisibility({ visibilityProperty: true })"), False)
+        # a finger pulls it up from the bar, and down; a short way, or one on the slider, does nothing
+        for begin, by, is_up in [("bar", -100, True), ("side", 10, True), ("side", 100, False), ("bar", -10, False), ("cut", -100, False)]:
+            x, y = page.browser.run("const it = document.getElementById(arguments[0]).getBoundingClientRect(); return [it.left + it.width / 2, it.top + 5]", begin)
+            pointer(page, (x, y), "down", (x, y + by), "up", kind="touch")
+            is_so((begin, by, page.browser.run("return document.getElementById('tree').ariaExpanded")), (begin, by, str(is_up).lower()))
+            is_so(page.browser.run("return document.getElementById('dendrogram').checkVisibility({ visibilityProperty: true })"), is_up)
 
 
 @case
@@ -232,6 +239,35 @@ def a_hundred_thousand_points_stay_fluid(_room):
     is_so(page.saved("forest.gr") == forest_by_program(page.saved("links.gr")), True)
     told = f"the page's thread worked {solved - begin:.0f} ms until the forest was there, {step:.0f} ms a step of the slider, {moved:.0f} ms a picture of a pan"
     return quick(solved - begin <= MOST_WORKED and step <= MOST_STEP and moved <= 20, told)
+
+
+# drops a table of so many points in twelve clouds, and answers the seconds until their picture is there
+DROPPED = """
+const data = new DataTransfer(), rows = ['x,y'], picture = document.getElementById('picture');
+let word = 84;
+const next = () => { word ^= word << 13; word ^= word >>> 17; word ^= word << 5; return (word >>> 0) / 2 ** 32; };
+for (let i = 0; i < arguments[0]; i++) rows.push(`${(i % 4 * 250 + 60 * (next() + next() + next())).toFixed(3)},${(i % 3 * 200 + 50 * (next() + next())).toFixed(3)}`);
+data.items.add(new File([rows.join('\\n')], 'clouds.csv'));
+return new Promise(done => {
+    const begun = performance.now(), isDone = () => document.body.ariaBusy === 'false' && picture.ariaBusy !== 'true';
+    for (const kind of ['dragover', 'drop']) document.body.dispatchEvent(new DragEvent(kind, { dataTransfer: data, bubbles: true, cancelable: true }));
+    const look = () => isDone() ? done((performance.now() - begun) / 1000) : setTimeout(look, 5);
+    look();
+});
+"""
+
+
+@case
+def from_drop_to_picture(_room):
+    """The best of five turns; a million points, once, only with --strict."""
+    page, told, are_quick = Page.opened(), [], True
+    for n, turns, most in [(10_000, 5, 0.4), (100_000, 5, 3), (1_000_000, int(Page.strict), 30)]:
+        seconds = [page.browser.run(DROPPED, n) for _ in range(turns)]
+        if seconds:
+            page.expect(points=f"{n:,}", size=f"{n - 1:,}")
+            told.append(f"{n:,} points in {min(seconds):.2f} s")
+            are_quick = are_quick and min(seconds) <= most
+    return quick(are_quick, ", ".join(told))
 
 
 @case

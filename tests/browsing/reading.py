@@ -77,6 +77,22 @@ def the_rounds_are_played_once(_room):
     is_so("clusters, of " in page.text("say"), True)
 
 
+@case
+def another_picture_fades_in(_room):
+    """The one before fades away, with as few points, unless somebody wants less motion. What is shown is the same."""
+    count = "window.fades = 0; const real = document.startViewTransition.bind(document); document.startViewTransition = call => { window.fades++; return real(call); }"
+    many = drawn_points(7, 5000)[1]
+    for motion, wanted in [("no-preference", [1, 2, 2]), ("reduce", [0, 0, 0])]:
+        page, found = Page.opened(), []
+        page.look(motion=motion)
+        page.browser.run(count)
+        for name, text, points in [("square.csv", SQUARE, "4"), ("line.csv", b"0,0\n1,0\n", "2"), ("many.csv", many, "5,000")]:
+            page.drop((name, text))
+            page.expect(points=points)
+            found.append(page.browser.run("return window.fades"))
+        is_so((motion, found), (motion, wanted))
+
+
 PLACES = "const { lens } = await import('./view.js'), { state } = await import('./state.js'), it = lens(); return [0, 1, 2, 3].map(v => [it.across(state.shown.places[2 * v]), it.down(state.shown.places[2 * v + 1])])"
 SQUARE = b"name,x,y\n<b>one</b>,0,0\ntwo,10,0\nthree,10,10\nfour,0,30\n"
 
