@@ -5,3 +5,4 @@ pub mod Merging
 pub mod Starting
 pub mod Rows
 pub mod Reading
+pub mod Cutting

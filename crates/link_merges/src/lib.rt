@@ -5,12 +5,15 @@
 //! ```
 //!
 //! What it promises:
-//! - [`merges_of`] gives exactly the merges of the links in the order in which they come, and none where they close a cycle.
+//! - [`merges_of`] gives exactly the merges of the links in the order in which they come, and none if they close a cycle.
+//! - Cut at a height, the merges of a graph's forest give the components of the graph: the theorem of single linkage
+//!   ([`laws`]).
 //!
-//! Where to start a change: what clusters and merges are stands in `specs/Merges`; `merges` goes over the links, and `slots`
-//! keeps the vertices of each cluster in a list, as `specs/Slots` says.
+//! Where to start a change: what clusters and merges are stands in `specs/Merges`, the theorem in `specs/Cuts`. `merges` goes
+//! over the links; `slots` keeps the vertices of each cluster in a list, as `specs/Slots` says.
 #![tactic(auto)]
 
+pub mod laws;
 mod merges;
 mod slots;
 
