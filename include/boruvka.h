@@ -43,15 +43,21 @@ enum boruvka_refusal {
     BORUVKA_UNKNOWN_LINE = -6, BORUVKA_NO_PROBLEM_YET = -7, BORUVKA_SECOND_PROBLEM = -8, BORUVKA_BAD_PROBLEM = -9,
     BORUVKA_TOO_LARGE = -10, BORUVKA_BAD_ARC = -11, BORUVKA_END_OUT_OF_RANGE = -12, BORUVKA_WEIGHT_OUT_OF_RANGE = -13,
     BORUVKA_TOO_MANY_ARCS = -14, BORUVKA_MISSING_PROBLEM = -15, BORUVKA_MISSING_ARCS = -16,
-    BORUVKA_LENGTHS_DIFFER = -17, /* u, v and w are not of one length */
+    BORUVKA_LENGTHS_DIFFER = -17, /* u, v and w, or links and merges, are not of one length */
     BORUVKA_TOO_FEW_PLACES = -18, /* there is no room for the places of all links of the forest */
-    BORUVKA_CYCLE = -19           /* links close a cycle: a loop, a link given twice, or one whose ends others join */
+    BORUVKA_CYCLE = -19,          /* links close a cycle: a loop, a link given twice, or one whose ends others join */
+    BORUVKA_DESCENDING = -20      /* a link weighs less than the one before it */
 };
 
 /* What boruvka_forest_text puts there: its refusal and the line, from 1, of a faulty text, else 0. Both are 0 at a forest. */
 struct boruvka_fault {
     int64_t kind;
     uint64_t line;
+};
+
+/* Two clusters that become one of `size` points: first < second. */
+struct boruvka_merge {
+    uint32_t first, second, size;
 };
 
 /* A sum of weights in two words: it is high times 2^64, and low. */
@@ -95,6 +101,21 @@ int64_t boruvka_labels_in(const struct boruvka_link *links, size_t k, uint32_t *
 /* The same, where `label` has room for n numbers. */
 static inline int64_t boruvka_labels(uint32_t n, const struct boruvka_link *links, size_t k, uint32_t *label) {
     return boruvka_labels_in(links, k, label, n);
+}
+
+/* Writes the merges of the clusters of n points by these k links, and answers k. The clusters 0 to n - 1 are the points, of
+ * which cluster v - 1 is vertex v; the link at place i joins the two clusters of merges[i] into the cluster n + i. With the
+ * weights for heights the merges are a linkage matrix, those of a forest that of single linkage. boruvka_labels over the
+ * first links cuts them there.
+ *
+ * The links come as boruvka_forest leaves them, or in any other ascending order of weight, and close no cycle. Another `room`
+ * than k is refused first, then what boruvka_labels refuses, in its order, then a link that weighs less than the one before
+ * it; a refusal leaves `merges` as it was. */
+int64_t boruvka_merges_in(uint32_t n, const struct boruvka_link *links, size_t k, struct boruvka_merge *merges, size_t room);
+
+/* The same, where `merges` has room for k. */
+static inline int64_t boruvka_merges(uint32_t n, const struct boruvka_link *links, size_t k, struct boruvka_merge *merges) {
+    return boruvka_merges_in(n, links, k, merges, k);
 }
 
 /* Writes the sum of the weights of k links, each as often as it stands there, whatever its ends are. It is exact. */

@@ -94,6 +94,15 @@ inline answer<std::vector<std::uint32_t>> labels(std::uint32_t n, std::span<cons
     return found;
 }
 
+/* The merges of the clusters of n points by links that close no cycle, in ascending order of weight, as boruvka_merges has
+ * them. */
+inline answer<std::vector<boruvka_merge>> merges(std::uint32_t n, std::span<const boruvka_link> links) {
+    std::vector<boruvka_merge> found(links.size());
+    const std::int64_t count = boruvka_merges(n, first_of(links), links.size(), first_of(std::span(found)));
+    if (count < 0) return refuse<std::vector<boruvka_merge>>(count);
+    return found;
+}
+
 } // inline namespace
 } // namespace boruvka
 

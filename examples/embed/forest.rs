@@ -15,6 +15,15 @@ struct Link {
     high: u32,
 }
 
+/// `struct boruvka_merge`.
+#[repr(C)]
+#[derive(Clone, Debug, Default, PartialEq)]
+struct Merge {
+    first: u32,
+    second: u32,
+    size: u32,
+}
+
 /// `struct boruvka_sum`.
 #[repr(C)]
 struct Sum {
@@ -30,6 +39,7 @@ unsafe extern "C" {
         places: *mut u32, room: usize,
     ) -> i64;
     fn boruvka_labels_in(links: *const Link, k: usize, label: *mut u32, n: usize) -> i64;
+    fn boruvka_merges_in(n: u32, links: *const Link, k: usize, merges: *mut Merge, room: usize) -> i64;
     fn boruvka_total(links: *const Link, k: usize, total: *mut Sum);
     fn boruvka_fault_text(kind: i64, into: *mut c_char, room: usize) -> usize;
 }
@@ -63,6 +73,15 @@ fn labels(n: u32, links: &[Link]) -> Result<Vec<u32>, String> {
     Ok(labels)
 }
 
+/// The clusters that each link joins, whose points are the clusters 0 to n - 1, with the size of the one that it makes.
+fn merges(n: u32, links: &[Link]) -> Result<Vec<Merge>, String> {
+    let mut merges = vec![Merge::default(); links.len()];
+    // SAFETY: as above.
+    let answer = unsafe { boruvka_merges_in(n, links.as_ptr(), links.len(), merges.as_mut_ptr(), merges.len()) };
+    count_of(answer)?;
+    Ok(merges)
+}
+
 /// The sum of the links' weights.
 fn total(links: &[Link]) -> i128 {
     let mut sum = Sum { high: 0, low: 0 };
@@ -91,10 +110,12 @@ fn run() -> Result<(), String> {
     for link in found {
         println!("a {} {} {}", link.low, link.high, link.weight);
     }
-    // the same net in columns: which of its arcs they are, and what they join and weigh
+    // the same net in columns: which of its arcs they are, and what they join, in which steps, and weigh
     let (u, v, w) = (net.map(|it| it.1), net.map(|it| it.2), net.map(|it| it.0));
     assert_eq!(places(6, 1, &u, &v, &w)?, [6, 4, 3, 5, 1]);
     assert_eq!(labels(6, &found[..3])?, [1, 2, 2, 2, 2, 6]);
+    let rows = [(1, 4, 2), (2, 3, 2), (6, 7, 4), (5, 8, 5), (0, 9, 6)];
+    assert_eq!(merges(6, found)?, rows.map(|(first, second, size)| Merge { first, second, size }));
     assert_eq!(total(found), 13);
     Ok(())
 }

@@ -361,6 +361,125 @@ static void compare_labels(uint64_t seed, uint32_t n, size_t m, uint64_t weights
     free(links);
 }
 
+/* The merges by union-find, whose roots know their clusters' numbers and sizes. */
+static struct boruvka_merge *merges_of(uint32_t n, const struct boruvka_link *links, size_t k) {
+    uint32_t *parents = taken((size_t)n + 1, sizeof *parents), *number = taken((size_t)n + 1, sizeof *number);
+    uint32_t *size = taken((size_t)n + 1, sizeof *size);
+    struct boruvka_merge *merges = taken(k, sizeof *merges);
+    for (uint32_t v = 0; v <= n; v++) {
+        parents[v] = v;
+        number[v] = v - 1;
+        size[v] = 1;
+    }
+    for (size_t i = 0; i < k; i++) {
+        const uint32_t u = root(parents, links[i].low), v = root(parents, links[i].high);
+        const uint32_t one = number[u], other = number[v];
+        parents[u] = v;
+        size[v] += size[u];
+        number[v] = n + (uint32_t)i;
+        merges[i] = (struct boruvka_merge){one < other ? one : other, one < other ? other : one, size[v]};
+    }
+    free(parents);
+    free(number);
+    free(size);
+    return merges;
+}
+
+static const struct boruvka_merge no_merge = {untouched, untouched, untouched};
+
+static void expect_no_merges(uint32_t n, const struct boruvka_link *links, size_t k, int64_t refusal) {
+    struct boruvka_merge *merges = taken(k, sizeof *merges);
+    for (size_t i = 0; i < k; i++) {
+        merges[i] = no_merge;
+    }
+    CHECK(boruvka_merges(n, links, k, merges) == refusal);
+    for (size_t i = 0; i < k; i++) {
+        CHECK(!memcmp(merges + i, &no_merge, sizeof no_merge));
+    }
+    free(merges);
+}
+
+static void expect_merges(uint32_t n, const struct boruvka_link *links, size_t k) {
+    struct boruvka_merge *found = taken(k + BEHIND, sizeof *found), *wanted = merges_of(n, links, k);
+    for (size_t i = 0; i < k + BEHIND; i++) {
+        found[i] = no_merge;
+    }
+    CHECK(boruvka_merges(n, links, k, found) == (int64_t)k);
+    CHECK(!memcmp(found, wanted, k * sizeof *found));
+    CHECK(!memcmp(found + k, &no_merge, sizeof no_merge) && !memcmp(found + k + BEHIND - 1, &no_merge, sizeof no_merge));
+    free(found);
+    free(wanted);
+}
+
+/* The merges of a drawn list's forest, with ends turned and links of equal weight exchanged, beside those of union-find; of
+ * its first half; and none with one link more, or with the lightest link last. */
+static void compare_merges(uint64_t seed, uint32_t n, size_t m, uint64_t weights) {
+    struct boruvka_link *given = draw(seed, n, m, weights);
+    size_t count;
+    struct boruvka_link *links = kruskal(n, given, m, &count);
+    for (size_t i = 0; i < count; i++) {
+        const struct boruvka_link own = links[i];
+        if (i > 0 && links[i - 1].weight == own.weight && drawn(&seed) % 2) {
+            links[i] = links[i - 1];
+            links[i - 1] = own;
+        }
+        if (drawn(&seed) % 2) {
+            const uint32_t low = links[i].low;
+            links[i].low = links[i].high;
+            links[i].high = low;
+        }
+    }
+    expect_merges(n, links, count);
+    expect_merges(n, links, count / 2);
+    struct boruvka_link *more = taken(count + 1, sizeof *more);
+    memcpy(more, links, count * sizeof *more);
+    for (size_t i = 0; i < m && i < 5; i++) {
+        more[count] = given[i]; /* a loop, a link of the forest, or one whose ends it joins */
+        expect_no_merges(n, more, count + 1, BORUVKA_CYCLE);
+    }
+    if (count > 1 && links[0].weight < links[count - 1].weight) {
+        more[count] = links[0];
+        expect_no_merges(n, more + 1, count, BORUVKA_DESCENDING);
+    }
+    free(more);
+    free(given);
+    free(links);
+}
+
+static void limits_of_merges(void) {
+    struct boruvka_merge merges[2] = {no_merge, no_merge};
+    CHECK(boruvka_merges(0, forest, 0, merges) == 0 && boruvka_merges(3, forest, 0, merges) == 0);
+    const struct boruvka_link one[] = {{-4, 2, 1}, {-5, 3, 2}};
+    CHECK(boruvka_merges(2, one, 1, merges) == 1);
+    CHECK(merges[0].first == 0 && merges[0].second == 1 && merges[0].size == 2);
+    CHECK(!memcmp(merges + 1, &no_merge, sizeof no_merge));
+    expect_no_merges(3, one, 2, BORUVKA_DESCENDING);
+    merges[0] = no_merge;
+    CHECK(boruvka_merges_in(3, one, 1, merges, 2) == BORUVKA_LENGTHS_DIFFER);
+    CHECK(boruvka_merges_in(3, one, 2, merges, 1) == BORUVKA_LENGTHS_DIFFER && !memcmp(merges, &no_merge, sizeof no_merge));
+    const struct boruvka_link bad[][2] = {{{1, 2, 1}, {1, 0, 1}}, {{2, 1, 2}, {1, 4, 3}}, {{1, 1, 1}, {0, 1, 4}}};
+    for (size_t i = 0; i < sizeof bad / sizeof *bad; i++) {
+        expect_no_merges(3, bad[i], 2, BORUVKA_BAD_END);
+    }
+    const struct boruvka_link loops[] = {{5, 1, 2}, {4, 3, 3}};
+    expect_no_merges(3, loops, 2, BORUVKA_CYCLE);
+    expect_no_merges(BORUVKA_MAX_VERTICES + 1, one, 1, BORUVKA_TOO_MANY_VERTICES);
+}
+
+/* A path, a star and a random tree of n vertices. */
+static void many_merges(uint32_t n) {
+    struct boruvka_link *links = taken(n - 1, sizeof *links);
+    uint64_t seed = 3;
+    for (int kind = 0; kind < 3; kind++) {
+        for (uint32_t v = 2; v <= n; v++) {
+            const uint32_t from = kind == 0 ? v - 1 : kind == 1 ? 1 : (uint32_t)(1 + drawn(&seed) % (v - 1));
+            links[v - 2] = (struct boruvka_link){kind == 1 ? 0 : v, from, v};
+        }
+        expect_merges(n, links, n - 1);
+    }
+    free(links);
+}
+
 static void limits_of_labels(void) {
     uint32_t label[4] = {untouched, untouched, untouched, untouched};
     CHECK(boruvka_labels(0, forest, 0, label) == 0 && label[0] == untouched);
@@ -385,6 +504,7 @@ static void limits_of_labels(void) {
     expect_cycle(3, loop, 1, label);
     for (uint64_t seed = 1; seed <= 300; seed++) {
         compare_labels(seed, 1 + seed % 60, seed * 7 % 400, seed % 3 ? 1 + seed % 40 : 0);
+        compare_merges(seed, 1 + seed % 60, seed * 7 % 400, seed % 3 ? 1 + seed % 40 : 0);
     }
 }
 
@@ -464,6 +584,7 @@ static void limits(void) {
     }
     limits_of_places();
     limits_of_labels();
+    limits_of_merges();
     limits_of_total();
     char text[32];
     for (int64_t kind = -20; kind <= 3; kind++) {
@@ -863,6 +984,8 @@ int main(int count, char **words) {
         compare(5, 1000000, 10000000, 1000000);
         compare_places(5, 1000000, 10000000, 1000000, 1);
         compare_labels(5, 1000000, 10000000, 1000000);
+        compare_merges(5, 1000000, 10000000, 1000000);
+        many_merges(1000001);
     } else if (!strcmp(what, "memory")) {
         memory();
     } else if (!strcmp(what, "again")) {

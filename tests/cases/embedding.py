@@ -10,8 +10,8 @@ from cases.running import ROOT, SMALL_FOREST, SMALL_NET, Skipped, case, drawn_gr
 
 LIBRARIES = f"{ROOT}/crates/boruvka_c/out"
 INCLUDE = f"-I{ROOT}/include"
-NAMES = {"boruvka_fault_text", "boruvka_forest", "boruvka_forest_text", "boruvka_labels_in", "boruvka_places_in", "boruvka_total",
-         "boruvka_version"}
+NAMES = {"boruvka_fault_text", "boruvka_forest", "boruvka_forest_text", "boruvka_labels_in", "boruvka_merges_in",
+         "boruvka_places_in", "boruvka_total", "boruvka_version"}
 MINUTES = 90  # it took 19 where nothing had been built before
 ENVIRONMENT = {it: word for it, word in os.environ.items() if it not in ("MAKEFLAGS", "MAKELEVEL", "MFLAGS", "DESTDIR")}
 # What is wrong with each of these texts, by the names of docs/GR_FORMAT.md, and where.

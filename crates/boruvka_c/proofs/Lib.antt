@@ -1,3 +1,4 @@
 mod Columns
 mod Chains
 mod FirstPlaces
+mod NoLoops

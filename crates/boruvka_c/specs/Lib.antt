@@ -1,5 +1,6 @@
 pub mod Arcs
 pub mod Index
 pub mod Labels
+pub mod Merges
 pub mod Places
 pub mod Totals

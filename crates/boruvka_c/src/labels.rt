@@ -10,7 +10,7 @@ use link_key::components_of;
 use std::alloc::Global;
 
 // Whether the ends of each link differ.
-fn have_no_loop(links: &[GivenLink]) -> bool
+pub(crate) fn have_no_loop(links: &[GivenLink]) -> bool
     ensures { IsTrue result ↔ HaveNoLoop links.now }
 {
     links.iter().all(|link| link.low != link.high)

@@ -3,9 +3,9 @@ use Rattle.std.specs.Prelude.{ℕ, ℤ, negsuc, List, codes}
 use Rattle.gr_text.specs.FaultText.{kind_text}
 use Rattle.gr_text.specs.declared.faults.GrKind.TheVariants.{UnknownLine, NoProblemYet, SecondProblem, BadProblem, TooLarge, BadArc, EndOutOfRange, WeightOutOfRange, TooManyArcs, MissingProblem, MissingArcs}
 use Rattle.caller_forests.specs.declared.refusals.Refusal.{Refusal}
-use Rattle.caller_forests.specs.declared.refusals.Refusal.TheVariants.{NoMemory, BadEnd, TooManyVertices, TooManyLinks, TooLong, Line, LengthsDiffer, TooFewPlaces, Cycle}
+use Rattle.caller_forests.specs.declared.refusals.Refusal.TheVariants.{NoMemory, BadEnd, TooManyVertices, TooManyLinks, TooLong, Line, LengthsDiffer, TooFewPlaces, Cycle, Descending}
 
--- the codes -1 to -19, as the header has them (`negsuc k` is -(k + 1))
+-- the codes -1 to -20, as the header has them (`negsuc k` is -(k + 1))
 abbrev pub code_of : Refusal → ℤ
 code_of NoMemory = negsuc 0
 code_of BadEnd = negsuc 1
@@ -26,6 +26,7 @@ code_of (Line MissingArcs) = negsuc 15
 code_of LengthsDiffer = negsuc 16
 code_of TooFewPlaces = negsuc 17
 code_of Cycle = negsuc 18
+code_of Descending = negsuc 19
 
 -- their texts; of a faulty line the name that the program gives it
 abbrev pub text_of : Refusal → List ℕ
@@ -38,3 +39,4 @@ text_of (Line kind) = kind_text kind
 text_of LengthsDiffer = codes "lengths differ"
 text_of TooFewPlaces = codes "too few places"
 text_of Cycle = codes "a cycle"
+text_of Descending = codes "links descend"

@@ -26,6 +26,8 @@ pub enum Refusal {
     TooFewPlaces,
     /// Links close a cycle: one of them is a loop, stands twice, or joins what others join.
     Cycle,
+    /// A link weighs less than the one before it.
+    Descending,
 }
 
 // The code of what is wrong with a line.
@@ -62,6 +64,7 @@ impl Refusal {
             Refusal::LengthsDiffer => -17,
             Refusal::TooFewPlaces => -18,
             Refusal::Cycle => -19,
+            Refusal::Descending => -20,
         }
     }
 
@@ -89,6 +92,7 @@ impl Refusal {
             -17 => Refusal::LengthsDiffer,
             -18 => Refusal::TooFewPlaces,
             -19 => Refusal::Cycle,
+            -20 => Refusal::Descending,
             _ => return None,
         })
     }
@@ -107,6 +111,7 @@ impl Refusal {
             Refusal::LengthsDiffer => b"lengths differ",
             Refusal::TooFewPlaces => b"too few places",
             Refusal::Cycle => b"a cycle",
+            Refusal::Descending => b"links descend",
         }
     }
 }

@@ -5,7 +5,7 @@ use gr_text::GrKind;
 use std::alloc::Global;
 use std::process::Abort;
 
-const CODES: [(Refusal, i64, &[u8]); 19] = [
+const CODES: [(Refusal, i64, &[u8]); 20] = [
     (Refusal::NoMemory, -1, b"no memory"),
     (Refusal::BadEnd, -2, b"an end is no vertex"),
     (Refusal::TooManyVertices, -3, b"too many vertices"),
@@ -33,6 +33,7 @@ const CODES: [(Refusal, i64, &[u8]); 19] = [
     (Refusal::LengthsDiffer, -17, b"lengths differ"),
     (Refusal::TooFewPlaces, -18, b"too few places"),
     (Refusal::Cycle, -19, b"a cycle"),
+    (Refusal::Descending, -20, b"links descend"),
 ];
 
 // What is in a room of so many bytes, of `~` before, once the text of this code was put there.
@@ -68,7 +69,7 @@ fn codes_and_texts(rt: HostRuntime) {
 
 #[test]
 fn numbers_that_are_no_codes(rt: HostRuntime) {
-    for code in [0, 1, -20, i64::MIN, i64::MAX] {
+    for code in [0, 1, -21, i64::MIN, i64::MAX] {
         expect_room(&rt, rt.alloc(), code, 12, 10, b"no refusal\0~");
     }
 }

@@ -1,0 +1,42 @@
+-- The merges of clusters that links in the caller's memory make.
+use Rattle.std.specs.Prelude.{◌≡◌, ◌≢◌, ℕ, ℤ, ◌<◌, ◌≤◌, List, length, AllPairs}
+use Rattle.std.specs.Int.Signed.{◌≤ℤ◌}
+use Rattle.limits.specs.declared.TheConstants.{MAX_ARCS, MAX_VERTICES}
+use Rattle.link_merges.specs.Merges.{AreMerges}
+use Rattle.link_merges.specs.declared.merges.Merge.{Merge}
+use Rattle.caller_forests.specs.Links.{AreRight, HaveEnds}
+use Rattle.caller_forests.specs.declared.given.GivenLink.{GivenLink}
+use Rattle.caller_forests.specs.declared.refusals.Refusal.{Refusal}
+use Rattle.caller_forests.specs.declared.refusals.Refusal.TheVariants.{NoMemory, BadEnd, TooManyVertices, TooManyLinks, LengthsDiffer, Cycle, Descending}
+use Rattle.caller_forests.specs.Refusals.{code_of}
+use Rattle.boruvka_c.specs.Labels.{HaveNoLoop, CloseNoCycle}
+
+-- no link weighs less than one before it
+abbrev pub NoneDescends : List GivenLink → Type 0
+NoneDescends given = AllPairs (λ l m. l.weight ≤ℤ m.weight) given
+
+-- the merges of the clusters of n points by these links, taken in their order
+pub record AreMergesBy (n : ℕ) (given : List GivenLink) (merges : List Merge) : Type 0 where
+  pub no_cycle : CloseNoCycle given
+  pub none_descends : NoneDescends given
+  pub merges_are : AreMerges n no_cycle.links merges
+
+-- links that have merges, and room for as many
+pub record HaveMerges (n : ℕ) (given : List GivenLink) (room : ℕ) : Type 0 where
+  pub as_many : room ≡ length given
+  pub right : AreRight n given
+
+-- why there are no merges: the first of these causes, or want of memory if none of the first four is and no link is a loop
+abbrev pub IsMergesRefusal : ℕ → List GivenLink → ℕ → Refusal → Type 0
+IsMergesRefusal n given room LengthsDiffer = room ≢ length given
+IsMergesRefusal n given room TooManyVertices = (room ≡ length given) × (MAX_VERTICES < n)
+IsMergesRefusal n given room TooManyLinks = (room ≡ length given) × (n ≤ MAX_VERTICES) × (MAX_ARCS < length given)
+IsMergesRefusal n given room BadEnd = (room ≡ length given) × (n ≤ MAX_VERTICES) × (length given ≤ MAX_ARCS) × ¬ (HaveEnds n given)
+IsMergesRefusal n given room NoMemory = HaveMerges n given room × HaveNoLoop given
+IsMergesRefusal n given room Cycle = HaveMerges n given room × ¬ (CloseNoCycle given)
+IsMergesRefusal n given room Descending = HaveMerges n given room × CloseNoCycle given × ¬ (NoneDescends given)
+IsMergesRefusal n given room other = ⊥
+
+-- the answer is the code of why there are none
+abbrev pub RefusesMerges : ℕ → List GivenLink → ℕ → ℤ → Type 0
+RefusesMerges n given room answer = (why : Refusal) × (answer ≡ code_of why) × IsMergesRefusal n given room why

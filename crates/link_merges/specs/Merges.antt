@@ -1,0 +1,42 @@
+-- Clusters that links join, two at a time, from single points on.
+use Rattle.std.specs.Prelude.{◌≡◌, ◌≢◌, ◌↔◌, ◌⊎◌, ℕ, ◌+◌, ◌<◌, List, length, take, AllPairs, Contains, Some, slice_get}
+use Rattle.links.specs.declared.links.Link.{Link}
+use Rattle.links.specs.Walk.{Joins}
+use Rattle.link_merges.specs.declared.merges.Merge.{Merge}
+
+-- the first k links join u and v
+abbrev pub FirstJoin : List Link → ℕ → ℕ → ℕ → Type 0
+FirstJoin links k u v = Joins (Contains (take k links)) u v
+
+-- Vertex v is in cluster c of n points: cluster c below n is a point, the vertex c + 1 alone; cluster n + i has the
+-- vertices that the first i + 1 links, from link 0 up to link i, join with an end of link i.
+abbrev pub IsInCluster : ℕ → List Link → ℕ → ℕ → Type 0
+IsInCluster n links c v =
+    ((c < n) × (v ≡ c + 1))
+    ⊎ ((i : ℕ) × (l : Link) × (c ≡ n + i) × (slice_get links i ≡ Some l) × FirstJoin links (i + 1) l.low v)
+
+-- cluster c is there once the first k links are taken, and is the component of vertex u under them
+pub record IsClusterOf (n : ℕ) (links : List Link) (k u c : ℕ) : Type 0 where
+  pub there : c < n + k
+  pub same : (v : ℕ) → IsInCluster n links c v ↔ FirstJoin links k u v
+
+-- so many numbers have the property
+pub record HasSize (P : ℕ → Type 0) (size : ℕ) : Type 0 where
+  pub numbers : List ℕ
+  pub distinct : AllPairs (λ u v. u ≢ v) numbers
+  pub exact : (v : ℕ) → Contains numbers v ↔ P v
+  pub counted : length numbers ≡ size
+
+-- Link l at place i joins the two clusters of the merge: under the links before it, one is the component of its one end,
+-- the other that of its other end. The cluster n + i that they become has so many vertices.
+pub record IsMerge (n : ℕ) (links : List Link) (i : ℕ) (l : Link) (merge : Merge) : Type 0 where
+  pub ascending : merge.first < merge.second
+  pub ends :
+      (IsClusterOf n links i l.low merge.first × IsClusterOf n links i l.high merge.second)
+      ⊎ (IsClusterOf n links i l.high merge.first × IsClusterOf n links i l.low merge.second)
+  pub size : HasSize (IsInCluster n links (n + i)) merge.size
+
+-- a merge for each link, in the order of the links
+pub record AreMerges (n : ℕ) (links : List Link) (merges : List Merge) : Type 0 where
+  pub as_many : length merges ≡ length links
+  pub each : (i : ℕ) (l : Link) (merge : Merge) → slice_get links i ≡ Some l → slice_get merges i ≡ Some merge → IsMerge n links i l merge
