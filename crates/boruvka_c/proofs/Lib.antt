@@ -1,3 +1,3 @@
 mod Columns
-mod Chains
+mod LeastPlaces
 mod FirstPlaces
