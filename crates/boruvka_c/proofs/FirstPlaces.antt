@@ -1,17 +1,21 @@
--- The first places of links among arcs, from the last arc on.
-use Rattle.std.proofs.Common.{◌≡◌, ℕ, ◌+◌, ◌<◌, ◌≤◌, ◌⊎◌, ◌==◌, ◌&&◌, Bool, true, false, List, [], ◌∷◌, map, drop, ap₂, Contains, length, get_or, set, min, max, refl, sym, ap, ◌∙◌, subst, inl, inr, get_or-set_same, get_or-set_other, arith}
+-- The first places of links among arcs.
+use Rattle.std.proofs.Common.{◌≡◌, ℕ, ◌-◌, ◌^◌, ◌<◌, ◌≤◌, ◌⊎◌, Bool, true, false, List, [], ◌∷◌, map, drop, ap₂, Contains, length, get_or, min, max, refl, sym, ap, ◌∙◌, subst, inl, inr, arith}
 use Rattle.std.specs.List.{filter}
-use Rattle.std.specs.Ordering.{int_eq}
+use Rattle.std.specs.List.Sorted.{IsPermutation}
 use mathlib.Core.Bool.{false≢true}
-use Rattle.std.proofs.lemmas.Bool.{cases_eq, cases_lt, and_from, eq-eqb}
-use Rattle.std.proofs.lemmas.Bool.Decides.{nat_tests, Decides-int_eq}
+use Rattle.std.proofs.lemmas.Bool.{cases_eq, cases_lt}
+use Rattle.std.proofs.lemmas.Bool.Decides.{nat_tests}
 use Rattle.std.proofs.lemmas.List.{get_or-map, length-map, get_or_default}
 use Rattle.std.proofs.lemmas.List.Elements.{Contains-get_or}
+use Rattle.std.proofs.lemmas.List.Sorted.{Contains-permutation, IsPermutation-sym}
+use Rattle.limits.specs.declared.TheConstants.{MAX_ARCS}
 use Rattle.links.specs.Arc.{Arc}
 use Rattle.links.specs.Link.{Key, AreLinksOf, IsAscending, IsBelow, key_of, arc_key, is_no_loop}
 use Rattle.links.specs.declared.links.Link.{Link}
 use Rattle.links.proofs.Keys.{link_eq, below_irrefl}
 use Rattle.links.proofs.Kept.{kept_in}
+use Rattle.boruvka_c.specs.declared.candidates.Candidate.{Candidate}
+use Rattle.boruvka_c.specs.Candidates.{AreOfArcs, HasCandidate, IsLeastOf}
 use Rattle.boruvka_c.specs.Places.{IsLinkAt, IsAmong, IsFirstFrom}
 
 -- links of one key are one link
@@ -49,38 +53,45 @@ links_among arcs links are l (k, k_in, at) =
     let is : get_or arcs place a ≡ a = found.2 in
     (place, found.1, λ e. ap arc_key (get_or_default arcs place e a found.1 ∙ is) ∙ key)
 
--- the place is that of the first arc from `start` on that is the link, if there is one
-abbrev pub HasFirst : ℕ → List Arc → Link → ℕ → Type 0
-HasFirst start arcs l place = IsFirstFrom start arcs l place ⊎ ((k : ℕ) → start ≤ k → k < length arcs → ¬ (IsLinkAt arcs l k))
+-- of the arcs before `to` the least place of the link; the greatest word if there is none
+pub record IsLeastUpTo (to : ℕ) (arcs : List Arc) (l : Link) (place : ℕ) : Type 0 where
+  pub one : (place ≡ 2 ^ 32 - 1) ⊎ ((place < length arcs) × IsLinkAt arcs l place)
+  pub least : (k : ℕ) → k < to → k < length arcs → IsLinkAt arcs l k → place ≤ k
 
--- no arc from the end on is any link
-pub none_behind : (arcs : List Arc) (l : Link) (place start : ℕ) → length arcs ≤ start → HasFirst start arcs l place
-none_behind arcs l place start end = inr (λ k behind k_in is. omega (arith, end, behind, k_in))
-
--- one arc more, which isn't the link
-pub miss : (arcs : List Arc) (l : Link) (place start : ℕ) → ¬ (IsLinkAt arcs l start) → HasFirst (start + 1) arcs l place → HasFirst start arcs l place
-miss arcs l place start other (inl is) = inl (record {
-  behind = let behind = is.behind in omega (arith, behind);
-  in_range = is.in_range;
-  link = is.link;
-  first = λ k from lt. elim (cases_eq k start) [
-    | inl here ↦ subst (λ j. ¬ (IsLinkAt arcs l j)) (sym here) other
-    | inr later ↦ is.first k (omega (arith, from, later)) lt
+-- the arcs from `from` up to `to` gone over by their candidates, which are then put in order
+pub least_next : (arcs : List Arc) (found sorted : List Candidate) (from to : ℕ) (l : Link) (before after : ℕ) → AreOfArcs arcs found → IsPermutation found sorted
+    → ((place : ℕ) → from ≤ place → place < to → place < length arcs → IsLinkAt arcs l place → HasCandidate found l place)
+    → IsLeastOf sorted l before after → IsLeastUpTo from arcs l before → IsLeastUpTo to arcs l after
+least_next arcs found sorted from to l before after of_arcs same none_missed is had = record {
+  one = elim is.one [
+    | inl stays ↦ subst (λ v. (v ≡ 2 ^ 32 - 1) ⊎ ((v < length arcs) × IsLinkAt arcs l v)) (sym stays) had.one
+    | inr (c, c_in, c_link, c_place) ↦
+        let at = of_arcs c (Contains-permutation sorted found c (IsPermutation-sym found sorted same) c_in) in
+        inr (subst (λ v. v < length arcs) c_place at.0, subst (IsLinkAt arcs l) c_place (subst (λ m. IsLinkAt arcs m c.place) c_link at.1))
   ];
-})
-miss arcs l place start other (inr none) = inr (λ k from k_in. elim (cases_eq k start) [
-  | inl here ↦ subst (λ j. ¬ (IsLinkAt arcs l j)) (sym here) other
-  | inr later ↦ none k (omega (arith, from, later)) k_in
-])
+  least = λ k lt k_in at. elim (cases_lt k from) [
+    | inl earlier ↦ let least = had.least k earlier k_in at in let no_more = is.no_more in omega (arith, least, no_more)
+    | inr ge ↦
+        let has = none_missed k ge lt k_in at in
+        subst (λ v. after ≤ v) has.3 (is.least has.0 (Contains-permutation found sorted has.0 same has.1) has.2)
+  ];
+}
 
--- one arc more, which is the link
-pub hit : (arcs : List Arc) (l : Link) (start : ℕ) → start < length arcs → IsLinkAt arcs l start → HasFirst start arcs l start
-hit arcs l start lt is = inl (record { behind = omega arith; in_range = lt; link = is; first = λ k from before. absurd (omega (arith, from, before)) })
-
--- from the beginning on there is one, if the link is among the arcs
-pub first_of : (arcs : List Arc) (l : Link) (place : ℕ) → IsAmong arcs l → HasFirst 0 arcs l place → IsFirstFrom 0 arcs l place
-first_of arcs l place among (inl is) = is
-first_of arcs l place (k, k_in, is) (inr none) = absurd (none k (omega arith) k_in is)
+-- once all arcs are gone over it is the first place, if the link is among the arcs
+pub first_of : (arcs : List Arc) (l : Link) (to place : ℕ) → length arcs ≤ MAX_ARCS → length arcs ≤ to → IsAmong arcs l → IsLeastUpTo to arcs l place → IsFirstFrom 0 arcs l place
+first_of arcs l to place few all (k, k_in, is) had =
+    let le = had.least k (omega (arith, k_in, all)) k_in is in
+    elim had.one [
+      | inl none ↦ absurd (omega (arith, none, le, k_in, few))
+      | inr (lt, at) ↦ record {
+          behind = omega arith;
+          in_range = lt;
+          link = at;
+          first = λ earlier ge before there.
+              let least = had.least earlier (omega (arith, before, lt, all)) (omega (arith, before, lt)) there in
+              omega (arith, least, before);
+        }
+    ]
 
 -- two places of an ascending list have two links
 pub one_place : (links : List Link) (i j : ℕ) (d : Link) → IsAscending links → i < length links → j < length links → get_or links i d ≡ get_or links j d → i ≡ j
@@ -96,51 +107,6 @@ one_place links i j d up i_in j_in same = elim (cases_lt i j) [
 pub not_true : (b : Bool) → (b ≡ true → false ≡ true) → b ≡ false
 not_true true never = absurd (false≢true (never refl))
 not_true false never = refl
-
--- what the test for equality says of one link
-pub same_link : (l m : Link) → l ≡ m → (int_eq l.weight m.weight && ((l.low == m.low) && (l.high == m.high))) ≡ true
-same_link l m same = subst (λ (k : Link). (int_eq l.weight k.weight && ((l.low == k.low) && (l.high == k.high))) ≡ true) same
-    (and_from (int_eq l.weight l.weight) ((l.low == l.low) && (l.high == l.high)) ((Decides-int_eq l.weight l.weight).1 refl)
-    (and_from (l.low == l.low) (l.high == l.high) (eq-eqb l.low l.low refl) (eq-eqb l.high l.high refl)))
-
--- so far each link has its first place, from an arc on
-abbrev pub HaveFirsts : ℕ → List Arc → List Link → List ℕ → Type 0
-HaveFirsts start arcs links places = (i : ℕ) (d : Link) → i < length links → HasFirst start arcs (get_or links i d) (get_or places i 0)
-
-module _ (arcs : List Arc) (links : List Link) (places : List ℕ) (start : ℕ) (next : ℕ) (next_is : next ≡ start + 1) where
-  -- one arc more, which is no link of the list
-  pub miss_all : ((l : Link) → Contains links l → ¬ (IsLinkAt arcs l start)) → HaveFirsts next arcs links places → HaveFirsts start arcs links places
-  miss_all none firsts i d lt =
-      miss arcs (get_or links i d) (get_or places i 0) start (none (get_or links i d) (Contains-get_or links i d lt))
-      (subst (λ k. HasFirst k arcs (get_or links i d) (get_or places i 0)) next_is (firsts i d lt))
-
-  -- one arc more, which is the link at a place
-  module _ (link : Link) (at : ℕ) (at_in : at < length links) (is : get_or links at link ≡ link) (key : (e : Arc) → key_of link ≡ arc_key (get_or arcs start e)) where
-    pub hit_one : IsAscending links → start < length arcs → at < length places → HaveFirsts next arcs links places → HaveFirsts start arcs links (set places at start)
-    hit_one up start_in at_in' firsts i d lt = elim (cases_eq i at) [
-      | inl here ↦ subst (λ j. HasFirst start arcs (get_or links j d) (get_or (set places at start) j 0)) (sym here)
-          (subst (HasFirst start arcs (get_or links at d)) (sym (get_or-set_same places at start 0 at_in'))
-          (hit arcs (get_or links at d) start start_in (λ e. sym (key e) ∙ ap key_of (sym (is_at d)))))
-      | inr other ↦ subst (HasFirst start arcs (get_or links i d)) (sym (get_or-set_other places at i start 0 other))
-          (miss arcs (get_or links i d) (get_or places i 0) start (differs other)
-          (subst (λ k. HasFirst k arcs (get_or links i d) (get_or places i 0)) next_is (firsts i d lt)))
-    ]
-      where
-        is_at : (e : Link) → get_or links at e ≡ link
-        is_at e = get_or_default links at e link at_in ∙ is
-
-        arc : Arc
-        arc = record { tail = 0; head = 0; weight = link.weight }
-
-        differs : ¬ (i ≡ at) → ¬ (IsLinkAt arcs (get_or links i d) start)
-        differs other found = other (one_place links i at d up lt at_in (one_key (get_or links i d) link (sym (found arc) ∙ sym (key arc)) ∙ sym (is_at d)))
-
--- an arc that is a link which isn't in the list is no link of the list
-pub none_of : (arcs : List Arc) (links : List Link) (start : ℕ) (link : Link) → ¬ (Contains links link) → ((e : Arc) → key_of link ≡ arc_key (get_or arcs start e))
-    → (l : Link) → Contains links l → ¬ (IsLinkAt arcs l start)
-none_of arcs links start link none key l l_in found =
-    let arc : Arc = record { tail = 0; head = 0; weight = link.weight } in
-    none (subst (Contains links) (one_key l link (sym (found arc) ∙ sym (key arc))) l_in)
 
 -- lists of links with the same keys are one list
 pub same_keys : (links others : List Link) → map key_of links ≡ map key_of others → links ≡ others

@@ -1,4 +1,4 @@
 mod Columns
-mod Chains
+mod LeastPlaces
 mod FirstPlaces
 mod NoLoops

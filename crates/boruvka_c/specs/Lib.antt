@@ -1,5 +1,5 @@
 pub mod Arcs
-pub mod Index
+pub mod Candidates
 pub mod Labels
 pub mod Merges
 pub mod Places

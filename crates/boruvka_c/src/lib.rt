@@ -3,7 +3,7 @@
 //!
 //! ```text
 //!   links    --caller_forests::put_forest-->  the first of the links                           boruvka_forest
-//!   columns  --arcs-->  Vec<Link>  --forest_of-->  Forest  --index-->  the caller's places       boruvka_places_in
+//!   columns  --arcs-->  Vec<Link>  --forest_of-->  Forest  --candidates-->  the caller's places       boruvka_places_in
 //!   links    --links_of-->  Vec<Link>  --components_of-->  Labels  -->  the caller's labels       boruvka_labels_in
 //!   links    --links_of-->  Vec<Link>  --merges_of-->  Vec<Merge>  -->  the caller's merges      boruvka_merges_in
 //!   links    --totals-->  their sum in two words                                                 boruvka_total
@@ -25,7 +25,7 @@ ghost use Rattle.std.specs.Prelude.{◌≡◌};
 
 mod arcs;
 mod forests;
-mod index;
+mod candidates;
 mod labels;
 mod merges;
 mod places;

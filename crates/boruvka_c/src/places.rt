@@ -9,31 +9,40 @@ ghost use Rattle.boruvka_c.specs.Arcs.{AreColumns, AreRightArcs, arcs_in};
 ghost use Rattle.boruvka_c.specs.Places.{IsAmong, IsFirstFrom, HoldsPlaces, IsArcsRefusal, FindsPlaces, RefusesPlaces};
 
 use crate::arcs::Arcs;
-use crate::index::LinkIndex;
+use crate::candidates::{Candidate, Sieve, put_candidates, put_least, sort};
 use caller_forests::Refusal;
 use limits::{MAX_ARCS, MAX_VERTICES};
 use link_key::forest_of;
 use std::alloc::Global;
 
-// Writes the place of the first arc of each link of the index, in their order. It goes over the arcs from the last one to
-// the first, and writes each place over that of a later arc.
-fn put_first_places(n: u32, arcs: &Arcs<'_>, index: &LinkIndex<'_>, places: &mut [u32])
+// Writes the place of the first arc of each link of the sieve, in their order. It goes over as many arcs at a time as there
+// is room for candidates.
+fn put_first_places(
+    n: u32,
+    arcs: &Arcs<'_>,
+    sieve: &Sieve<'_>,
+    found: &mut [Candidate],
+    places: &mut [u32],
+)
     requires few_vertices { n ≤ MAX_VERTICES }
     requires few_arcs { length arcs.now ≤ MAX_ARCS }
     requires ends { All (HasEnds n) arcs.now }
-    requires ascending { IsAscending index.now }
-    requires among { All (IsAmong arcs.now) index.now }
-    requires room { length index.now ≤ length places.old }
-    ensures first { (i : ℕ) (d : Link) → i < length index.now
-        → IsFirstFrom 0 arcs.now (slice_index_or index.now i d) (slice_index places.new i) }
-    ensures rest { drop (length index.now) places.new ≡ drop (length index.now) places.old }
+    requires ascending { IsAscending sieve.now }
+    requires among { All (IsAmong arcs.now) sieve.now }
+    requires some { 0 < length found.old }
+    requires few { length found.old ≤ MAX_ARCS }
+    requires number { length places.old ≡ length sieve.now }
+    ensures first { (i : ℕ) (d : Link) → i < length sieve.now
+        → IsFirstFrom 0 arcs.now (slice_index_or sieve.now i d) (slice_index places.new i) }
 {
-    for place in (0..arcs.len()).rev() {
-        if let Some(link) = arcs.link(n, place) {
-            if let Some(i) = index.place_of(&link) {
-                places[i] = place as u32;
-            }
-        }
+    places.fill(u32::MAX);
+    let mut from = 0;
+    while from < arcs.len() {
+        let count = put_candidates(n, arcs, sieve, from, found);
+        let kept = &mut found[..count];
+        sort(kept);
+        put_least(sieve.links(), kept, places);
+        from += found.len();
     }
 }
 
@@ -64,10 +73,26 @@ fn find_places(alloc: Global, n: u32, arcs: &Arcs<'_>, places: &mut [u32]) -> Re
     if links.len() > places.len() {
         return Err(Refusal::TooFewPlaces);
     }
-    let Ok(index) = LinkIndex::of_links(alloc, links) else {
+    let Some(first) = links.first() else {
+        return Ok(0);
+    };
+    let none = Candidate {
+        link: *first,
+        place: 0,
+    };
+    let Ok(mut found) = vec![in alloc; none; links.len()] else {
         return Err(Refusal::NoMemory);
     };
-    put_first_places(n, arcs, &index, places);
+    let Ok(sieve) = Sieve::of_links(alloc, n, links) else {
+        return Err(Refusal::NoMemory);
+    };
+    put_first_places(
+        n,
+        arcs,
+        &sieve,
+        found.as_mut_slice(),
+        &mut places[..links.len()],
+    );
     Ok(links.len())
 }
 

@@ -1,0 +1,12 @@
+use Rattle.std.proofs.Common.{ℕ, ◌+◌, ◌<◌, ◌≤◌, length, take, Contains}
+use Rattle.links.specs.declared.links.Link.{Link}
+use Rattle.boruvka_c.specs.Places.{IsLinkAt}
+use Rattle.boruvka_c.specs.Candidates.{AreOfArcs, HasCandidate}
+use Rattle.boruvka_c.proofs.candidates.put_candidates.Given as goal
+
+abbrev pub invariant-loop-place : goal.invariant-loop-place
+invariant-loop-place l = record {
+  few : l.count + l.from ≤ l.place;
+  of_arcs : AreOfArcs l.arcs (take l.count l.found);
+  none_missed : (place : ℕ) (m : Link) → l.from ≤ place → place < l.place → IsLinkAt l.arcs m place → Contains l.sieve m → HasCandidate (take l.count l.found) m place;
+}
