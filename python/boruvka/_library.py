@@ -17,6 +17,8 @@ MAX_VERTICES = 1 << 26
 MAX_LINKS = 1 << 30
 #: `struct boruvka_link` of boruvka.h, whose vertices are numbered from 1
 LINK = np.dtype([("weight", np.int64), ("low", np.uint32), ("high", np.uint32)])
+#: `struct boruvka_merge`
+MERGE = np.dtype([("first", np.uint32), ("second", np.uint32), ("size", np.uint32)])
 
 _VERSION = 1
 _NO_MEMORY = -1
@@ -34,6 +36,7 @@ class _Fault(ctypes.Structure):
 _CALLS = {
     "boruvka_places_in": (ctypes.c_int64, [ctypes.c_uint32, ctypes.c_uint32, *_ARRAY, *_ARRAY, *_ARRAY, *_ARRAY]),
     "boruvka_labels_in": (ctypes.c_int64, [*_ARRAY, *_ARRAY]),
+    "boruvka_merges_in": (ctypes.c_int64, [ctypes.c_uint32, *_ARRAY, *_ARRAY]),
     "boruvka_forest_text": (ctypes.c_int64, [*_ARRAY, *_ARRAY, ctypes.POINTER(_Fault)]),
     "boruvka_fault_text": (ctypes.c_size_t, [ctypes.c_int64, ctypes.c_char_p, ctypes.c_size_t]),
 }
@@ -74,6 +77,16 @@ def labels(n: int, links: NDArray[np.void]) -> NDArray[np.uint32]:
     """
     found = np.empty(n, np.uint32)
     _judged(_library.boruvka_labels_in(*_passed(links), *_passed(found)))
+    return found
+
+
+def merges(n: int, links: NDArray[np.void]) -> NDArray[np.void]:
+    """The merges, of the dtype MERGE, of the clusters of the vertices 1 to n by links, which join them in their order.
+
+    Links of the dtype LINK that close a cycle or weigh less than one before, and an end that is no vertex, are a ValueError.
+    """
+    found = np.empty(len(links), MERGE)
+    _judged(_library.boruvka_merges_in(n, *_passed(links), *_passed(found)))
     return found
 
 

@@ -62,7 +62,7 @@ def single_linkage(y: ArrayLike | SparseMatrix, *, metric: str = "euclidean", p:
     -----
     The distances are scipy's, those of points but for rounding. Of equal distances another may be merged first.
 
-    Cost: that of `spanning_tree`, and a Python loop of about 1 microsecond a merge.
+    Cost: that of `spanning_tree`; the merges take less.
 
     Examples
     --------
@@ -178,18 +178,10 @@ def merges(n: SupportsIndex, forest: Forest) -> NDArray[np.float64]:
     if len(forest.w) != count - 1:
         raise ValueError(f"{len(forest.w)} edges don't make one tree of {count} vertices: a forest of several components has no linkage")
     u, v = vertices(count, forest.u, "forest.u", forest.v), vertices(count, forest.v, "forest.v", forest.u)
-    # the cluster that took a cluster up, or itself
-    taker, sizes = list(range(2 * count - 1)), [1] * count
-    lower, higher = [], []
-    for one, other in zip(u.tolist(), v.tolist()):
-        one, other = _newest(taker, one), _newest(taker, other)
-        if one == other:
-            raise ValueError("the edges close a cycle")
-        taker[one] = taker[other] = len(sizes)
-        sizes.append(sizes[one] + sizes[other])
-        lower.append(min(one, other))
-        higher.append(max(one, other))
-    return np.column_stack([np.array(it, np.float64) for it in (lower, higher, forest.w, sizes[count:])])
+    links = np.zeros(len(forest.w), _library.LINK)
+    links["low"], links["high"] = u + 1, v + 1
+    rows = _library.merges(count, links)
+    return np.column_stack([rows["first"], rows["second"], forest.w, rows["size"]]).astype(np.float64, copy=False)
 
 
 @overload
@@ -301,13 +293,6 @@ def _up_to(forest: Forest, height: Real) -> int:
     if height != height:
         raise ValueError("the height is NaN")
     return int(np.count_nonzero(forest.w >= height if forest.maximum else forest.w <= height))
-
-
-def _newest(taker: list[int], cluster: int) -> int:
-    """The cluster that holds this one and was taken up by no other; the way there is halved."""
-    while taker[cluster] != cluster:
-        taker[cluster] = cluster = taker[taker[cluster]]
-    return cluster
 
 
 def _numbers(y: Any) -> NDArray[np.float64]:
