@@ -64,6 +64,8 @@ class Forest:
             object.__setattr__(self, name, it)
         if len({it.shape for it in arrays}) > 1 or self.w.ndim != 1:
             raise ValueError(f"the arrays of the forest have the shapes {', '.join(str(it.shape) for it in arrays)}")
+        if self.w.dtype.kind not in "biuf":
+            raise TypeError(f"{why_none(self.w, 'w', 'biuf')}, and weights are real numbers")
         if self.n < 0:
             object.__setattr__(self, "n", int(max(self.u.max(), self.v.max())) + 1 if len(self) else 0)
         if self.names is not None:

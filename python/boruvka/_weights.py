@@ -40,7 +40,7 @@ def why_none(array: NDArray[Any], name: str, kinds: str) -> str:
     if not wrong.any():
         return dtype
     place = np.unravel_index(wrong.argmax(), array.shape)
-    return f"{dtype}, as {name}[{', '.join(map(str, place))}] is {array[place]!r:.80}"
+    return f"{dtype}, as {name}{list(map(int, place)) or ''} is {array[place]!r:.80}"
 
 
 def _of_floats(weights: NDArray[Any]) -> NDArray[np.int64]:

@@ -320,13 +320,14 @@ class Metrics(unittest.TestCase):
                     continue
                 points = draw.normal(size=(50, dimensions)) * 0.4
                 points[40:] = points[:10]
+                words = {"metric": metric, "p": 3} if metric == "minkowski" else {"metric": metric}
                 for nearest in (1, 4, 50):
                     with self.subTest(metric=metric, dimensions=dimensions, nearest=nearest):
-                        found = spanning_tree(points, metric=metric, p=3, min_samples=nearest).w
+                        found = spanning_tree(points, **words, min_samples=nearest).w
                         np.testing.assert_allclose(found, self.heights(points, metric, nearest), rtol=1e-7, atol=1e-12)
-                plain = spanning_tree(points, metric=metric, p=3)
+                plain = spanning_tree(points, **words)
                 np.testing.assert_allclose(plain.w, self.heights(points, metric), rtol=1e-7, atol=1e-12)
-                self.assertEqual(single_linkage(points, metric=metric, p=3)[:, 2].tolist(), plain.w.tolist())
+                self.assertEqual(single_linkage(points, **words)[:, 2].tolist(), plain.w.tolist())
 
     def test_mutual_reachability_of_points_of_all_kinds(self):
         draw = np.random.default_rng(19)
