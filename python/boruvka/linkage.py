@@ -1,8 +1,8 @@
 """Single linkage and clusters, out of minimum spanning forests.
 
 `spanning_tree` finds the tree of points, and `labels` cuts it into clusters. The edges of the tree, in ascending order,
-are the merges of single linkage, which `single_linkage` and `merges` list. Numpy is all that they need; scipy makes points in up to
-nine dimensions faster.
+are the merges of single linkage, which `single_linkage` and `merges` list. Numpy is all that they need; scipy makes
+points in up to eleven dimensions faster.
 """
 
 from __future__ import annotations
