@@ -397,7 +397,9 @@ def is_masked(given: Any) -> bool:
 
 
 def mask_of(given: Any) -> Any:
-    return np.ma.getmask(given)  # type: ignore[no-untyped-call]
+    """What it masks. (Numpy tells no type of this function.)"""
+    masked: Any = np.ma
+    return masked.getmask(given)
 
 
 def _of_each(each: list[Any], column: NDArray[Any], name: str) -> NDArray[Any]:
