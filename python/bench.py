@@ -105,7 +105,7 @@ def graphs(m):
 def points(n, dimensions):
     given = np.random.default_rng(n).random((n, dimensions))
     times = least(lambda: single_linkage(given), lambda: AgglomerativeClustering(2, linkage="single").fit(given))
-    row([f"points in {dimensions} dimensions"], f"{n:,}", "scikit-learn", times)
+    row([f"points in {dimensions} dimensions"], f"{n:,}", "scikit-learn, single linkage", times)
 
 
 def alone(n, dimensions):
