@@ -27,12 +27,13 @@ EDGES = 1_000_000
 TURNS = 5
 # prints the seconds of processor time, and the peak of memory beyond what the points and the modules take
 ALONE = """
-import resource, sys, time
+import re, sys, time
 import numpy as np
 from boruvka.linkage import spanning_tree
 
 def peak():
-    return resource.getrusage(resource.RUSAGE_SELF).ru_maxrss / 1024
+    with open("/proc/self/status") as it:
+        return int(re.search(r"VmHWM:\\s+(\\d+) kB", it.read())[1]) / 1000
 
 n, dimensions = map(int, sys.argv[1:])
 given = np.random.default_rng(n).random((n, dimensions))
@@ -104,7 +105,7 @@ def graphs(m):
 def points(n, dimensions):
     given = np.random.default_rng(n).random((n, dimensions))
     times = least(lambda: single_linkage(given), lambda: AgglomerativeClustering(2, linkage="single").fit(given))
-    row([f"points in {dimensions} dimensions"], f"{n:,}", "scikit-learn", times)
+    row([f"points in {dimensions} dimensions"], f"{n:,}", "scikit-learn, single linkage", times)
 
 
 def alone(n, dimensions):

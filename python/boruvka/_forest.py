@@ -66,6 +66,8 @@ class Forest:
         *shapes, place = (it.shape for it in arrays)
         if self.w.ndim != 1 or len({*shapes, place[:1]}) > 1 or place[1:] not in ((), (2,)):
             raise ValueError(f"the arrays of the forest have the shapes {', '.join(str(it.shape) for it in arrays)}")
+        if self.w.dtype.kind not in "biuf":
+            raise TypeError(f"{why_none(self.w, 'w', 'biuf')}, and weights are real numbers")
         if self.n < 0:
             object.__setattr__(self, "n", int(max(self.u.max(), self.v.max())) + 1 if len(self) else 0)
         if self.names is not None:
@@ -415,7 +417,9 @@ def is_masked(given: Any) -> bool:
 
 
 def mask_of(given: Any) -> Any:
-    return np.ma.getmask(given)  # type: ignore[no-untyped-call]
+    """What it masks. (Numpy tells no type of this function.)"""
+    masked: Any = np.ma
+    return masked.getmask(given)
 
 
 def _of_each(each: list[Any], column: NDArray[Any], name: str) -> NDArray[Any]:

@@ -4,6 +4,7 @@ from __future__ import annotations
 
 import operator
 from collections.abc import Hashable, Iterable, Mapping, Set
+from itertools import islice
 from typing import Any, SupportsIndex
 
 import numpy as np
@@ -11,6 +12,9 @@ from numpy.typing import NDArray
 
 from boruvka._forest import Forest, minimum_spanning_forest
 from boruvka._interchange import column_of, names_of
+
+# how many names of columns a refusal lists
+_SHOWN = 10
 
 
 def from_edges(frame: Any, u: Hashable = "u", v: Hashable = "v", *, weight: Hashable = "w", maximum: bool = False) -> Forest:
@@ -63,7 +67,7 @@ def _column(frame: Any, name: Hashable) -> Any:
     has_array = hasattr(frame, "__array__") and not hasattr(frame, "__getitem__")
     if isinstance(frame, np.ndarray) or has_array and not hasattr(frame, "__dataframe__"):
         return _of_array(frame if isinstance(frame, np.ndarray) else np.asarray(frame), name)
-    if isinstance(frame, (list, tuple)):
+    if isinstance(frame, (list, tuple, str, bytes)):
         raise TypeError(f"a {type(frame).__name__} is no frame: pandas.DataFrame(rows, columns=...), a dict of columns, or an array is")
     if hasattr(frame, "__getitem__"):
         try:
@@ -85,8 +89,9 @@ def _column(frame: Any, name: Hashable) -> Any:
 
 
 def _no_column(name: Hashable, there: Iterable[Any]) -> KeyError:
-    names = ", ".join(map(repr, there))
-    return KeyError(f"the frame has no column {name!r}" + (f", but {names}" if names else ""))
+    names = [*map(repr, islice(there, _SHOWN + 1))]
+    shown = ", ".join(names[:_SHOWN]) + (", .." if len(names) > _SHOWN else "")
+    return KeyError(f"the frame has no column {name!r}" + (f", but {shown}" if shown else ""))
 
 
 def _of_array(table: NDArray[Any], name: Hashable) -> NDArray[Any]:

@@ -67,8 +67,8 @@ def read_gr(path: str | os.PathLike[str]) -> Edges:
     A library whose calls are proved judges the whole text, and tells n. Python reads the numbers of a text that has no
     fault; that is tested.
 
-    Cost: time about that of solving the graph twice. Memory is the text's, and 40 bytes an edge. A compressed file of a
-    stranger may be a thousand times as large in memory.
+    Cost: time about three times that of solving the graph. Memory is the text's, and 45 bytes an edge. A compressed file
+    of a stranger may be a thousand times as large in memory. Ctrl-C waits for the library's call, a third of the time.
 
     Examples
     --------

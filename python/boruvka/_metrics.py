@@ -3,6 +3,7 @@
 from __future__ import annotations
 
 from collections.abc import Callable
+from numbers import Real
 from typing import NamedTuple
 
 import numpy as np
@@ -21,12 +22,16 @@ class Metric(NamedTuple):
 
 def metric_of(name: str, p: float) -> Metric:
     """The metric of this name; p is the exponent of "minkowski"."""
+    if not isinstance(name, str) or name not in [*_METRICS, "minkowski"]:
+        raise ValueError(f"there is no metric {name!r}: it is one of {', '.join([*_METRICS, 'minkowski'])}")
+    if not isinstance(p, Real):
+        raise TypeError(f"p is {p!r}, and has to be a number")
     if name == "minkowski":
         if not p >= 1:
             raise ValueError(f"p is {p}, and a distance needs at least 1")
         return Metric(float(p))
-    if name not in _METRICS:
-        raise ValueError(f"there is no metric {name!r}: it is one of {', '.join([*_METRICS, 'minkowski'])}")
+    if p != 2:
+        raise ValueError(f"p is {p}, and only the metric 'minkowski' has an exponent")
     return _METRICS[name]
 
 

@@ -17,6 +17,9 @@ from collections.abc import Sequence
 import numpy as np
 from numpy.typing import ArrayLike
 
+from boruvka._forest import is_masked
+from boruvka._weights import why_none
+
 _MOST_POINTS = 1_000_000
 _EMPTY = '<script type="application/json" id="data"></script>'
 _HERE = os.path.dirname(os.path.abspath(__file__))
@@ -52,6 +55,8 @@ def show(
     ValueError
         If there is no point, or there are too many; a coordinate isn't finite, or none of the globe; names aren't one for
         each point; or the file isn't such a page.
+    TypeError
+        If a coordinate is no real number.
     FileNotFoundError
         If no page is found.
 
@@ -61,7 +66,8 @@ def show(
     >>> show([[0, 0], [3, 4], [9, 9]], ["a", "b", "c"])  # doctest: +SKIP
     '/tmp/boruvka-n1fe9a8w.html'
     """
-    text = _filled(_page(page), _table(points, names, globe))
+    table = _table(points, names, globe)
+    text = _filled(_page(page), table)
     if into is None:
         handle, path = tempfile.mkstemp(prefix="boruvka-", suffix=".html")
     else:
@@ -94,6 +100,10 @@ def _filled(page: str, table: str) -> str:
 
 def _table(points: ArrayLike, names: Sequence[str] | None, globe: bool) -> str:
     """The points as the text of a table."""
+    if is_masked(points):
+        raise ValueError("points has masked entries: leave these points out first")
+    if np.asarray(points).dtype.kind not in "biuf":
+        raise TypeError(f"{why_none(np.asarray(points), 'points', 'biuf')}: coordinates are real numbers")
     given = np.asarray(points, dtype=np.float64)
     if given.ndim != 2 or given.shape[1] != 2:
         raise ValueError(f"points has the shape {given.shape}: it must be (n, 2), x and y of each")

@@ -35,7 +35,7 @@ _PIECE, _FIRST_PIECE, _SECONDS = 1 << 20, 1 << 15, 0.1
 _NEAR = 1 << 15
 _LEAF = 16
 # in more dimensions a k-d tree looks at most points for each
-_DIMENSIONS = 9
+_DIMENSIONS = 11
 
 
 class Space:

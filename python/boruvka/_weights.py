@@ -40,7 +40,8 @@ def why_none(array: NDArray[Any], name: str, kinds: str) -> str:
     if not wrong.any():
         return dtype
     place = np.unravel_index(wrong.argmax(), array.shape)
-    return f"{dtype}, as {name}[{', '.join(map(str, place))}] is {array[place]!r:.80}"
+    entry = array[place].item() if isinstance(array[place], np.generic) else array[place]
+    return f"{dtype}, as {name}{list(map(int, place)) or ''} is {entry!r:.80}"
 
 
 def _of_floats(weights: NDArray[Any]) -> NDArray[np.int64]:

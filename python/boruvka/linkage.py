@@ -1,8 +1,8 @@
 """Single linkage and clusters, out of minimum spanning forests.
 
 `spanning_tree` finds the tree of points, and `labels` cuts it into clusters. The edges of the tree, in ascending order,
-are the merges of single linkage, which `single_linkage` and `merges` list. Numpy is all that they need; scipy makes points in up to
-nine dimensions faster.
+are the merges of single linkage, which `single_linkage` and `merges` list. Numpy is all that they need; scipy makes
+points in up to eleven dimensions faster.
 """
 
 from __future__ import annotations
@@ -102,8 +102,8 @@ def spanning_tree(y: ArrayLike | SparseMatrix, *, metric: str = "euclidean", p: 
     Raises
     ------
     ValueError
-        As `single_linkage` does; or if the metric isn't one of these, p is less than 1, min_samples isn't from 1 to n, or
-        a row has no place in the metric.
+        As `single_linkage` does; or if the metric isn't one of these, p is less than 1 or given with another metric,
+        min_samples isn't from 1 to n, a row has no place in the metric, or a sparse matrix has two entries in one place.
     TypeError
         As `single_linkage` does; or if min_samples or a metric is given with distances.
 
@@ -281,6 +281,8 @@ def _best_first(given: object) -> Forest:
     w = given.w[::-1] if given.maximum else given.w
     if (w[1:] >= w[:-1]).all():
         return given
+    if np.isnan(given.w).any():
+        raise ValueError(f"forest.w[{np.isnan(given.w).argmax()}] is NaN")
     order = np.argsort(w, kind="stable")
     order = len(w) - 1 - order[::-1] if given.maximum else order
     return given._replace(u=given.u[order], v=given.v[order], w=given.w[order], index=given.index[order])
@@ -300,7 +302,8 @@ def _numbers(y: Any) -> NDArray[np.float64]:
     if is_masked(y):
         raise ValueError("y has masked entries: leave these points out first")
     if given.dtype.kind not in "biuf" or given.dtype.itemsize > 8:
-        raise TypeError(f"{why_none(given, 'y', 'biuf')}, and has to be real numbers of up to 64 bits")
+        how = ": .astype(float) makes them" if given.dtype == object and " as " not in why_none(given, "y", "biuf") else ""
+        raise TypeError(f"{why_none(given, 'y', 'biuf')}, and has to be real numbers of up to 64 bits{how}")
     numbers = given.astype(np.float64, copy=False)
     if given.dtype.kind in "iu" and given.dtype.itemsize == 8 and given.size and max(-int(given.min()), int(given.max())) > _EXACT:
         # (doubles below 2^64 lie at most 2^11 apart)
@@ -350,6 +353,10 @@ def _of_entries(matrix: Any) -> Forest:
     if entries.shape[0] != entries.shape[1]:
         raise ValueError(f"y has the shape {entries.shape}, and a sparse matrix of distances is square: points are y.toarray()")
     distances = _numbers(entries.data)
+    once = matrix.tocsr(copy=True)
+    once.sum_duplicates()
+    if once.nnz != entries.nnz:
+        raise ValueError(f"y stores {entries.nnz} entries at {once.nnz} places: y.sum_duplicates() adds up those of one place")
     is_wrong = ~np.isfinite(distances) | (distances < 0)
     if is_wrong.any():
         row, column = (it[is_wrong.argmax()] for it in (entries.row, entries.col))

@@ -39,6 +39,8 @@ def minimum_spanning_tree(csgraph: spmatrix | ArrayLike, overwrite: bool = False
     ValueError
         If csgraph isn't square, a sparse matrix stores a NaN or a masked array has one that isn't masked, or scipy finds
         that a sparse matrix isn't well formed.
+    TypeError
+        If weights are no real numbers.
 
     Notes
     -----
@@ -76,6 +78,9 @@ def _as_csr(csgraph: Any) -> csr_matrix:
     shape = csgraph.shape if issparse(csgraph) else np.shape(csgraph)
     if len(shape) != 2 or shape[0] != shape[1]:
         raise ValueError(f"csgraph has the shape {shape}, and a graph's matrix is square")
+    dtype = csgraph.dtype if issparse(csgraph) else np.asarray(csgraph).dtype
+    if dtype.kind not in "biuf":
+        raise TypeError(f"csgraph has the dtype {dtype}, and weights are real numbers")
     if issparse(csgraph):
         return csr_matrix(csgraph, dtype=np.float64)
     if isinstance(csgraph, np.ma.MaskedArray):

@@ -240,6 +240,7 @@ class Refused(unittest.TestCase):
         self.expect(KeyError, "the frame has no column 'u', but 'from', 'to', 'km'", ROADS)
         self.expect(KeyError, "no column 'w', but 'u', 'v'", Table({"u": whole([1]), "v": whole([1])}))
         self.expect(KeyError, "no column 'w', but 'u', 'v'", np.zeros(3, [("u", "i4"), ("v", "i4")]))
+        self.expect(KeyError, r"no column 'u', but 0, 1, 2, 3, 4, 5, 6, 7, 8, 9, \.\.\"$", np.zeros((4, 30), int))
         for name in (3, -1, "u", 1.5):
             self.expect(KeyError, f"no column {name!r}, but 0, 1, 2", np.zeros((4, 3), int), name, 1, weight=2)
 
@@ -259,8 +260,8 @@ class Refused(unittest.TestCase):
         self.expect(ValueError, "^the column 'u' has 2 dimensions", {"u": np.zeros((2, 2)), "v": [1, 2], "w": [1, 1]})
 
     def test_what_is_no_frame(self):
-        for rows in ([("a", "b", 1)], (("a", "b", 1),)):
-            self.expect(TypeError, r"^a (list|tuple) is no frame: pandas\.DataFrame\(rows", rows)
+        for rows in ([("a", "b", 1)], (("a", "b", 1),), "abc", b"abc"):
+            self.expect(TypeError, r"^a (list|tuple|str|bytes) is no frame: pandas\.DataFrame\(rows", rows)
             self.expect(TypeError, "is no frame", rows, 0, 1, weight=2)
         self.expect(TypeError, "^a int is no frame: it has no columns", 5)
         self.expect(TypeError, r"^an array of the shape \(4,\) is no frame", np.zeros(4))

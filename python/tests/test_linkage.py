@@ -320,13 +320,14 @@ class Metrics(unittest.TestCase):
                     continue
                 points = draw.normal(size=(50, dimensions)) * 0.4
                 points[40:] = points[:10]
+                words = {"metric": metric, "p": 3} if metric == "minkowski" else {"metric": metric}
                 for nearest in (1, 4, 50):
                     with self.subTest(metric=metric, dimensions=dimensions, nearest=nearest):
-                        found = spanning_tree(points, metric=metric, p=3, min_samples=nearest).w
+                        found = spanning_tree(points, **words, min_samples=nearest).w
                         np.testing.assert_allclose(found, self.heights(points, metric, nearest), rtol=1e-7, atol=1e-12)
-                plain = spanning_tree(points, metric=metric, p=3)
+                plain = spanning_tree(points, **words)
                 np.testing.assert_allclose(plain.w, self.heights(points, metric), rtol=1e-7, atol=1e-12)
-                self.assertEqual(single_linkage(points, metric=metric, p=3)[:, 2].tolist(), plain.w.tolist())
+                self.assertEqual(single_linkage(points, **words)[:, 2].tolist(), plain.w.tolist())
 
     def test_mutual_reachability_of_points_of_all_kinds(self):
         draw = np.random.default_rng(19)
@@ -410,18 +411,19 @@ class Scipys(unittest.TestCase):
         draw = np.random.default_rng(20)
         for form in ("csr", "coo", "lil"):
             rows, columns, lengths = draw.integers(0, 60, 90), draw.integers(0, 60, 90), draw.random(90)
-            forest = spanning_tree(coo_matrix((lengths, (rows, columns)), shape=(60, 60)).asformat(form))
-            matrix = np.full((60, 60), np.inf)
-            # (entries at one place are added up, as scipy does)
-            summed = coo_matrix((lengths, (rows, columns)), shape=(60, 60)).toarray()
+            given = coo_matrix((lengths, (rows, columns)), shape=(60, 60))
+            given.sum_duplicates()
+            given = given.asformat(form)
+            forest = spanning_tree(given)
+            self.assertEqual(given.tocoo().data[forest.index].tolist(), forest.w.tolist())
+            matrix, summed = np.full((60, 60), np.inf), given.toarray()
             matrix[summed > 0] = summed[summed > 0]
             parts = connected_components(np.isfinite(matrix), directed=False)[0]
             self.assertEqual(len(forest.w), 60 - parts)
-            if form != "coo":
-                low, high = np.triu_indices(60, 1)
-                lightest = np.minimum(matrix, matrix.T)[low, high]
-                order = [int(it) for it in np.argsort(lightest) if np.isfinite(lightest[it])]
-                self.assertEqual(forest.w.tolist(), [lightest[it] for it in kruskal(60, low.tolist(), high.tolist(), order)])
+            low, high = np.triu_indices(60, 1)
+            lightest = np.minimum(matrix, matrix.T)[low, high]
+            order = [int(it) for it in np.argsort(lightest) if np.isfinite(lightest[it])]
+            self.assertEqual(forest.w.tolist(), [lightest[it] for it in kruskal(60, low.tolist(), high.tolist(), order)])
         for wrong, words in [(coo_matrix((2, 3)), "square"), (coo_matrix(([-1.0], ([0], [1])), shape=(2, 2)), "negative"), (coo_matrix(([np.nan], ([0], [1])), shape=(2, 2)), "finite")]:
             with self.assertRaisesRegex(ValueError, words):
                 spanning_tree(wrong)

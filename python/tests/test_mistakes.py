@@ -85,6 +85,8 @@ CUTS = {
     "merges of several components": (lambda: merges(5, PATH), ValueError, "^3 edges don't make one tree of 5 vertices: a forest of several components has no linkage$"),
     "n and tree exchanged": (lambda: merges(PATH, 4), TypeError, "^a int is no Forest"),
     "a forest without places": (lambda: Forest([0], [1], [2]), TypeError, "'index'"),
+    "weights as texts": (lambda: Forest([0], [1], ["2"], [0]), TypeError, r"^w has the dtype <U1, as w\[0\] is '2', and weights are real numbers$"),
+    "a weight that is NaN": (lambda: labels(3, Forest([0, 1], [1, 2], [math.nan, 2], [0, 1]), clusters=1), ValueError, r"^forest.w\[0\] is NaN$"),
     "arrays of different lengths": (lambda: Forest([0, 1], [1], [2], [0]), ValueError, r"^the arrays of the forest have the shapes \(2,\), \(1,\)"),
 }
 OF_POINTS = {
@@ -94,6 +96,13 @@ OF_POINTS = {
     "objects": (lambda: spanning_tree([None, 1]), TypeError, r"^y has the dtype object, as y\[0\] is None, and has to be real numbers"),
     "a generator": (lambda: single_linkage(it for it in POINTS), TypeError, "^y is a generator, "),
     "no metric": (lambda: spanning_tree(POINTS, metric="euclid"), ValueError, "^there is no metric 'euclid': it is one of euclidean, manhattan, "),
+    "a metric that is a function": (lambda: spanning_tree(POINTS, metric=math.dist), ValueError, "^there is no metric <built-in function dist>: it is one of"),
+    "an exponent as a text": (lambda: spanning_tree(POINTS, metric="minkowski", p="2"), TypeError, "^p is '2', and has to be a number$"),
+    "an exponent of another metric": (lambda: spanning_tree(POINTS, p=3), ValueError, "^p is 3, and only the metric 'minkowski' has an exponent$"),
+    "a single text": (lambda: spanning_tree("abc"), TypeError, "^y has the dtype <U3, as y is 'abc', "),
+    "objects that are numbers": (lambda: spanning_tree(POINTS.astype(object)), TypeError, r"^y has the dtype object, and .*\.astype\(float\) makes them$"),
+    "masked points to be drawn": (lambda: boruvka.show(np.ma.masked_equal([[1.0, 2.0]], 1)), ValueError, "^points has masked entries"),
+    "complex points to be drawn": (lambda: boruvka.show(np.array([[1j, 2]])), TypeError, "^points has the dtype complex128: "),
     "no point": (lambda: spanning_tree(np.empty((0, 2))), ValueError, "^there is no point$"),
     "a distance that is negative": (lambda: spanning_tree([1, -2, 3]), ValueError, r"^y\[1\] is -2.0: a distance isn't finite, or is negative$"),
     "complex coordinates": (lambda: spanning_tree([[1j], [2]]), TypeError, "^y has the dtype complex128, and has to be real numbers"),
@@ -153,6 +162,9 @@ class Mistakes(unittest.TestCase):
             "an oblong array": (lambda: minimum_spanning_tree(np.ones((2, 3))), ValueError, r"^csgraph has the shape \(2, 3\), and a graph's matrix is square$"),
             "a list": (lambda: minimum_spanning_tree([1, 2, 3]), ValueError, r"^csgraph has the shape \(3,\)"),
             "a NaN that is stored": (lambda: minimum_spanning_tree(gap), ValueError, r"^csgraph\[0, 1\] is NaN$"),
+            "complex weights": (lambda: minimum_spanning_tree(np.array([[0, 1j], [0, 0]])), TypeError, "^csgraph has the dtype complex128, and weights are real"),
+            "complex weights that are stored": (lambda: minimum_spanning_tree(sparse.csr_matrix(np.eye(2) * 1j)), TypeError, "^csgraph has the dtype complex128"),
+            "two entries in one place": (lambda: spanning_tree(sparse.coo_matrix(([2.0, 3.0], ([0, 0], [1, 1])), shape=(2, 2))), ValueError, r"^y stores 2 entries at 1 places: y\.sum_duplicates\(\)"),
             "a negative distance": (lambda: spanning_tree(sparse.coo_matrix(([-1.0], ([1], [0])), shape=(2, 2))), ValueError, r"^y\[1, 0\] is -1.0: "),
         })
         self.assertEqual(minimum_spanning_tree(sparse.csr_matrix((0, 0))).shape, (0, 0))
