@@ -8,6 +8,7 @@ import random
 import threading
 import tracemalloc
 import unittest
+import warnings
 import weakref
 from unittest import mock
 
@@ -175,11 +176,13 @@ class Kept(unittest.TestCase):
         self.assertEqual(listed(forest_of_chunks(4, chunks())), [[0, 2, 1], [3, 3, 2], [6, 7, 8], [[1, 1], [1, 0], [0, 1]]])
 
     def test_what_is_answered_is_its_own(self):
-        given = [np.array(it) for it in SMALL]
+        given = [np.tile(it, 1000) for it in SMALL]
         for it in given:
             it.flags.writeable = False
         forest = forest_of_chunks(6, [given])
+        self.assertEqual(listed(forest)[:3], SMALL_FOREST[:3])
         self.assertFalse(any(np.shares_memory(one, other) for one in forest for other in given))
+        # (nor does it hold what was kept for it)
         self.assertTrue(all(it.base is None or it.base.nbytes < 1000 for it in forest))
 
 
@@ -218,6 +221,11 @@ class Weights(unittest.TestCase):
         self.assertEqual(self.forest(np.array([2**63 - 1024], np.uint64), [0.5])[1], [2**63 - 1024, 0.5])
 
     def test_no_whole_number_is_rounded(self):
+        """Nor does any overflow, which numpy warns of."""
+        strict = warnings.catch_warnings()
+        strict.__enter__()
+        self.addCleanup(strict.__exit__, None, None, None)
+        warnings.simplefilter("error")
         for whole in (2**53 + 1, -(2**53) - 1, 2**62 + 1, 2**63 - 1, 2**63 - 1023, 1 - 2**63):
             for held in ([0, whole], np.array([0, whole]), np.array([0, abs(whole)], np.uint64)):
                 bad = ([0, 1], [1, 2], held)
@@ -242,7 +250,10 @@ class Weights(unittest.TestCase):
         forest, held = self.forest([math.inf], [-0.0], np.array([-math.inf], np.float32), np.array([5e-324], ">f8"))
         self.assertEqual((held, forest.index[:, 0].tolist()), ([math.inf, 0, -math.inf, 5e-324], [2, 1, 3, 0]))
         self.assertEqual(math.copysign(1, held[1]), -1)
-        self.assertTrue(forest.w.dtype.isnative)
+        for weights in ([], [[1.5]], [np.array([1.5], ">f4")]):
+            forest, held = self.forest(np.array([5e-324], ">f8"), *weights)
+            self.assertEqual((forest.w.dtype, held[0]), (np.dtype(np.float64), 5e-324))
+            self.assertTrue(forest.w.dtype.isnative)
 
 
 class Refused(unittest.TestCase):
