@@ -1,12 +1,10 @@
 -- Each vertex has a cluster under the first links, and those of a forest join what the graph's do.
-use Rattle.std.proofs.Common.{◌≡◌, ℕ, zero, suc, ◌+◌, ◌-◌, ◌<◌, ◌≤◌, ◌⊎◌, ◌↔◌, ℤ, List, [], length, get_or, take, Contains, Some, refl, sym, ap, ◌∙◌, subst, inl, inr, arith}
+use Rattle.std.proofs.Common.{◌≡◌, ℕ, zero, suc, ◌+◌, ◌-◌, ◌<◌, ◌≤◌, ◌↔◌, ℤ, List, length, get_or, take, Contains, Some, refl, sym, ap, ◌∙◌, subst, inl, inr, arith}
 use Rattle.std.specs.Prelude.{slice_get}
-use Rattle.std.specs.Int.Signed.{◌≤ℤ◌}
 use Rattle.std.proofs.lemmas.List.{take_all, length-take, get_or-take}
 use Rattle.std.proofs.lemmas.Option.{slice_get_cases, slice_get-get_or}
 use Rattle.links.specs.declared.links.Link.{Link}
 use Rattle.links.specs.Walk.{Joins}
-use Rattle.links.specs.Forest.{IsForestOf}
 use Rattle.links.specs.LinkSet.{SameLinks}
 use Rattle.links.specs.Thresholds.{LinksUpTo}
 use Rattle.links.proofs.Members.{contains_none}

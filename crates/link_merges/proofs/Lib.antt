@@ -6,3 +6,4 @@ pub mod Starting
 pub mod Rows
 pub mod Reading
 pub mod Cutting
+pub mod Unique

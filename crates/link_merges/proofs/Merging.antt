@@ -13,7 +13,6 @@ use Rattle.links.specs.LinkSet.{LinkSet, Without}
 use Rattle.links.proofs.Walks.{WithLink, joins_link, joins_link_back, joins_symm, joins_trans, joins_more, joins_alike, joins_equal}
 use Rattle.links.proofs.Cycles.{no_cycle_part, no_cycle_one_more}
 use Rattle.link_key.specs.Components.{IsAcyclic}
-use Rattle.link_merges.specs.declared.merges.Merge.{Merge}
 use Rattle.link_merges.specs.declared.slots.Place.{Place}
 use Rattle.link_merges.specs.declared.slots.Slot.{Slot}
 use Rattle.link_merges.specs.Merges.{FirstJoin, IsInCluster, IsClusterOf, HasSize, IsMerge}

@@ -7,7 +7,6 @@ use Rattle.std.proofs.lemmas.Option.{slice_get_read, get_or_from_slice_get}
 use Rattle.links.specs.declared.links.Link.{Link}
 use Rattle.links.specs.Link.{EndsUpTo}
 use Rattle.link_key.specs.Components.{IsAcyclic}
-use Rattle.link_merges.specs.declared.merges.Merge.{Merge}
 use Rattle.link_merges.specs.declared.slots.Place.{Place}
 use Rattle.link_merges.specs.declared.slots.Slot.{Slot}
 use Rattle.link_merges.specs.Merges.{IsMerge}

@@ -1,5 +1,5 @@
 -- How large a slot's list can be, and what a slot's name has nothing to do with.
-use Rattle.std.proofs.Common.{◌≡◌, ◌≢◌, ℕ, ◌+◌, ◌<◌, ◌≤◌, eqb, List, length, Contains, sym, ◌∙◌, subst, arith}
+use Rattle.std.proofs.Common.{◌≡◌, ℕ, ◌<◌, ◌≤◌, eqb, List, length, Contains, sym, ◌∙◌, subst, arith}
 use Rattle.std.specs.Prelude.{AllPairs}
 use Rattle.std.proofs.lemmas.Bool.{ne_eqb, eqb-true}
 use Rattle.std.proofs.lemmas.Map.Steps.{length-le_from_distinct_below}
@@ -7,7 +7,7 @@ use Rattle.std.proofs.lemmas.Map.Keys.{IsDistinct-from_apart}
 use Rattle.std.proofs.lemmas.Map.Views.{Contains-from_any}
 use Rattle.link_merges.specs.declared.slots.Place.{Place}
 use Rattle.link_merges.specs.declared.slots.Slot.{Slot}
-use Rattle.link_merges.specs.Slots.{slot_of, next_of, at_slot, LeadsAlong, IsListed, AreListed}
+use Rattle.link_merges.specs.Slots.{next_of, at_slot, LeadsAlong, AreListed}
 use Rattle.link_merges.proofs.Moving.{Differ, in_places}
 
 few_below : (n : ℕ) (members : List ℕ) → AllPairs Differ members → ((v : ℕ) → Contains members v → v < n) → length members ≤ n

@@ -1,15 +1,14 @@
 -- Before the first link: each vertex is in a slot of its own, which has its point's name.
-use Rattle.std.proofs.Common.{◌≡◌, ◌≢◌, ℕ, ◌+◌, ◌-◌, ◌<◌, ◌≤◌, ◌⊎◌, ◌↔◌, List, [], ◌∷◌, length, take, Contains, refl, sym, ap, ◌∙◌, subst, inl, inr, arith}
-use Rattle.std.proofs.lemmas.List.Elements.{All-nil}
+use Rattle.std.proofs.Common.{◌≡◌, ℕ, ◌-◌, ◌≤◌, ◌↔◌, List, [], ◌∷◌, take, Contains, sym, ap, ◌∙◌, subst, inl, inr, arith}
 use Rattle.links.specs.declared.links.Link.{Link}
 use Rattle.links.proofs.Members.{contains_cases, contains_head, contains_none}
 use Rattle.links.proofs.Walks.{joins_same, joins_equal}
 use Rattle.link_key.specs.Components.{IsAcyclic}
 use Rattle.link_merges.specs.declared.slots.Place.{Place}
 use Rattle.link_merges.specs.declared.slots.Slot.{Slot}
-use Rattle.link_merges.specs.Merges.{FirstJoin, IsInCluster}
-use Rattle.link_merges.specs.Slots.{slot_of, at_slot, AreApart, IsListed, AreListed, IsNamed, AreSlotsAfter}
-use Rattle.link_merges.proofs.Moving.{Differ, in_places}
+use Rattle.link_merges.specs.Merges.{IsInCluster}
+use Rattle.link_merges.specs.Slots.{slot_of, AreApart, IsListed, IsNamed, AreSlotsAfter}
+use Rattle.link_merges.proofs.Moving.{in_places}
 
 -- no link closes a cycle
 no_links : IsAcyclic []

@@ -1,5 +1,5 @@
 -- All vertices of one slot are in another.
-use Rattle.std.proofs.Common.{◌≡◌, ◌≢◌, ℕ, ◌<◌, ◌≤◌, ◌⊎◌, List, [], ◌∷◌, length, Contains, sym, ◌∙◌, subst, inl, inr, arith}
+use Rattle.std.proofs.Common.{◌≡◌, ◌≢◌, ℕ, ◌<◌, ◌≤◌, List, [], ◌∷◌, length, ◌∙◌, inl, inr, arith}
 use Rattle.links.proofs.Members.{contains_none}
 use Rattle.link_merges.specs.declared.slots.Place.{Place}
 use Rattle.link_merges.specs.declared.slots.Slot.{Slot}

@@ -2,6 +2,7 @@
 use Rattle.std.specs.Prelude.{◌≡◌, ◌≢◌, ◌↔◌, ◌⊎◌, ℕ, ◌+◌, ◌<◌, List, length, take, AllPairs, Contains, Some, slice_get}
 use Rattle.links.specs.declared.links.Link.{Link}
 use Rattle.links.specs.Walk.{Joins}
+use Rattle.link_key.specs.Components.{IsAcyclic}
 use Rattle.link_merges.specs.declared.merges.Merge.{Merge}
 
 -- the first k links join u and v
@@ -40,3 +41,11 @@ pub record IsMerge (n : ℕ) (links : List Link) (i : ℕ) (l : Link) (merge : M
 pub record AreMerges (n : ℕ) (links : List Link) (merges : List Merge) : Type 0 where
   pub as_many : length merges ≡ length links
   pub each : (i : ℕ) (l : Link) (merge : Merge) → slice_get links i ≡ Some l → slice_get merges i ≡ Some merge → IsMerge n links i l merge
+
+-- ---- the law
+
+-- links that close no cycle have no other list of merges
+abbrev pub OneListOfMerges : Type 0
+OneListOfMerges =
+    (n : ℕ) (links : List Link) (merges others : List Merge) → IsAcyclic links
+    → AreMerges n links merges → AreMerges n links others → merges ≡ others

@@ -5,7 +5,8 @@
 //! ```
 //!
 //! What it promises:
-//! - [`merges_of`] gives exactly the merges of the links in the order in which they come, and none if they close a cycle.
+//! - [`merges_of`] gives exactly the merges of the links in the order in which they come, and none if they close a cycle. There is
+//!   no other list of merges of these links.
 //! - Cut at a height, the merges of a graph's forest give the components of the graph: the theorem of single linkage
 //!   ([`laws`]).
 //!

@@ -1,4 +1,4 @@
-use Rattle.std.proofs.Common.{◌≡◌, ◌+◌, length}
+use Rattle.std.proofs.Common.{◌≡◌, ◌+◌}
 use Rattle.link_merges.specs.Slots.{at_slot, AreListed, GoFromTo, KeepNames}
 use Rattle.link_merges.proofs.slots.move_all.Given as goal
 
