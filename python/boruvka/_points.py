@@ -115,13 +115,13 @@ def _pieces(points: NDArray[Any], width: int) -> Iterator[NDArray[Any]]:
 
 def _paced(points: Places, width: int) -> Iterator[Places]:
     """The points in pieces that take about as long as one another, so that Ctrl-C is heard soon."""
-    size, start = _FIRST_PIECE // width, 0
+    size, start = max(_FIRST_PIECE // width, 1), 0
     while start < len(points):
         begun = time.thread_time()
         yield points[start : start + size]
         start += size
         fitting = size * _SECONDS / max(time.thread_time() - begun, 1e-6)
-        size = int(min(max(fitting, 1), _PIECE // width, 8 * size))
+        size = max(int(min(fitting, _PIECE // width, 8 * size)), 1)
 
 
 def _trees_for(space: Space) -> Trees | None:

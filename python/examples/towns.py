@@ -64,7 +64,9 @@ def draw_part(axes, shown, latitude, longitude, tree, cluster):
 
 
 def name_town(axes, name, place, is_above):
-    axes.annotate(name, place, xytext=(0, 8 if is_above else -17), textcoords="offset points", ha="center", fontsize=9)
+    # (a line that passes behind a name leaves it legible)
+    behind = {"facecolor": "white", "edgecolor": "none", "alpha": 0.8, "pad": 0.5}
+    axes.annotate(name, place, xytext=(0, 8 if is_above else -17), textcoords="offset points", ha="center", fontsize=9, bbox=behind)
 
 
 def draw_line(axes, longitudes, latitudes, kilometres, is_cut):

@@ -3,7 +3,7 @@
 import math
 import unittest
 import warnings
-from itertools import combinations
+from itertools import combinations, islice
 from unittest import mock
 
 import numpy as np
@@ -243,6 +243,13 @@ class Exact(unittest.TestCase):
             if hierarchy:
                 wanted = hierarchy.linkage(points, "single")[:, 2]
                 np.testing.assert_allclose(spanning_tree(points).w, wanted, rtol=1e-12, atol=0)
+
+    def test_pieces_of_work_are_all_points_in_their_order(self):
+        points = np.arange(3000)
+        for width in (1, 8, 1 << 15, 1 << 16, 1 << 20, 1 << 22):
+            found = list(islice(_points._paced(points, width), 4000))
+            self.assertEqual(np.concatenate(found).tolist(), points.tolist())
+            self.assertLessEqual(max(map(len, found)), max(_points._PIECE // width, 1))
 
     def test_by_rows_too(self):
         draw = np.random.default_rng(9)
