@@ -1,8 +1,8 @@
 """Minimum spanning forests of numpy arrays.
 
-`minimum_spanning_forest` answers which edges are in the forest, and `from_edges` does for edges in a frame. They call
-libboruvka, which is proved to answer just these. The package itself is tested, not proved. `read_gr` and `write_gr` are
-for the program's files, and `show` opens points in a page.
+`minimum_spanning_forest` answers which edges are in the forest, `from_edges` does for edges in a frame, and
+`forest_of_chunks` for edges that come in chunks. They call libboruvka, which is proved to answer just these. The package
+itself is tested, not proved. `read_gr` and `write_gr` are for the program's files, and `show` opens points in a page.
 
 These modules are loaded when they are first used:
 
@@ -14,12 +14,13 @@ These modules are loaded when they are first used:
 
 from typing import TYPE_CHECKING
 
+from boruvka._chunks import forest_of_chunks
 from boruvka._forest import Forest, minimum_spanning_forest
 from boruvka._frames import from_edges
 from boruvka._gr import read_gr, write_gr
 from boruvka._page import show
 
-__all__ = ["Forest", "from_edges", "minimum_spanning_forest", "read_gr", "show", "write_gr"]
+__all__ = ["Forest", "forest_of_chunks", "from_edges", "minimum_spanning_forest", "read_gr", "show", "write_gr"]
 
 _MODULES = ("cluster", "linkage", "networkx_backend", "sparse")
 

@@ -483,7 +483,7 @@ class Threads(unittest.TestCase):
 
 class Names(unittest.TestCase):
     def test_each_public_name_says_what_it_is(self):
-        self.assertEqual(boruvka.__all__, ["Forest", "from_edges", "minimum_spanning_forest", "read_gr", "show", "write_gr"])
+        self.assertEqual(boruvka.__all__, ["Forest", "forest_of_chunks", "from_edges", "minimum_spanning_forest", "read_gr", "show", "write_gr"])
         self.assertIs(boruvka.linkage.labels, __import__("boruvka.linkage").linkage.labels)
         self.assertIn("sparse", dir(boruvka))
         # (as it is installed, if it is)

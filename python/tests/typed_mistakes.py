@@ -27,6 +27,7 @@ def misspelled(forest: Forest) -> None:
     forest.wieghts  # wrong
     forest.labels(cluster=2)  # wrong
     forest.componnents  # wrong
+    boruvka.forest_of_chunks(3, [], maximun=True)  # wrong
     spanning_tree([[0, 0]], metrics="euclidean")  # wrong
     SingleLinkage(clusters=2)  # wrong
     SingleLinkage().lables_  # wrong
@@ -40,6 +41,11 @@ def of_a_wrong_type(forest: Forest) -> None:
     boruvka.minimum_spanning_forest()  # wrong
     boruvka.minimum_spanning_forest(3.5, [0], [1], [2])  # wrong
     boruvka.minimum_spanning_forest(3, [0], [1], [2], maximum="yes")  # wrong
+    boruvka.minimum_spanning_forest(3, [0], [1], [2], threads="2")  # wrong
+    boruvka.forest_of_chunks([([0], [1], [2])])  # wrong
+    boruvka.forest_of_chunks(None, [([0], [1], [2])])  # wrong
+    boruvka.forest_of_chunks(3, None)  # wrong
+    boruvka.forest_of_chunks(3, [0, 1, 2])  # wrong
     labels(forest, 3, clusters=2)  # wrong
     labels(3, np.zeros((2, 4)), clusters=2)  # wrong
     single_linkage(np.zeros((2, 4)), p="2")  # wrong

@@ -4,12 +4,13 @@ from __future__ import annotations
 
 import os
 import tempfile
+from collections.abc import Iterator
 
 import numpy as np
 from numpy.typing import NDArray
 
 import boruvka
-from boruvka import Forest, from_edges, minimum_spanning_forest, read_gr, write_gr
+from boruvka import Forest, forest_of_chunks, from_edges, minimum_spanning_forest, read_gr, write_gr
 from boruvka.linkage import labels, merges, single_linkage, spanning_tree
 
 
@@ -20,6 +21,7 @@ def forests() -> Forest:
     assert forest == minimum_spanning_forest(3, np.array([u, v]).T, w) == minimum_spanning_forest([(0, 1), (1, 2), (2, 0)], w)
     assert forest == minimum_spanning_forest(None, [0, 1, 2], [1, 2, 0], [3.5, 1.5, 2.5])
     assert forest == minimum_spanning_forest(n=np.int64(3), u=u, v=v, w=w)
+    assert forest == minimum_spanning_forest(u, v, w, threads=2) == minimum_spanning_forest(3, u, v, w, threads=np.int8(2))
     heaviest = minimum_spanning_forest(3, u, v, w, maximum=True)
     total: float = heaviest.total
     one, other, weights, index = forest
@@ -28,6 +30,18 @@ def forests() -> Forest:
     named = from_edges({"u": ["a"], "v": ["b"], "w": [1]}, maximum=True)
     assert named.names == ["a", "b"] and one.shape == other.shape == weights.shape
     return forest
+
+
+def parts(forest: Forest) -> None:
+    def chunks() -> Iterator[tuple[list[int], list[int], list[float]]]:
+        yield [0], [1], [3.5]
+        yield [1, 2], [2, 0], [1.5, 2.5]
+
+    merged: Forest = forest_of_chunks(np.int64(3), chunks())
+    chunk, row = merged.index.T
+    assert (merged.total, chunk.tolist(), row.tolist()) == (forest.total, [1, 1], [0, 1])
+    whole = (forest.u, forest.v, forest.w)
+    assert len(forest_of_chunks(3, [whole, [[0], [1], [2]]], maximum=True)) == len(forest_of_chunks(3, (whole for _ in range(2)))) == 2
 
 
 def clusters(forest: Forest) -> NDArray[np.intp]:
@@ -69,5 +83,6 @@ def estimators() -> None:
 
 if __name__ == "__main__":
     clusters(forests())
+    parts(forests())
     files(forests())
     estimators()

@@ -214,6 +214,11 @@ def types_by_mypy(room):
 
 
 @case
+def forests_of_chunks_and_by_threads(room):
+    expect_tests(room, "test_chunks")
+
+
+@case
 def linkage_and_clusters(room):
     expect_tests(room, "test_linkage.Worked", "test_linkage.Refused", "test_linkage.Drawn")
 
