@@ -8,6 +8,7 @@ These modules are loaded when they are first used:
 
 - `boruvka.linkage` finds the tree of points, cuts trees into clusters, and lists single linkage. Numpy is all it needs.
 - `boruvka.cluster` has single linkage and HDBSCAN as estimators of scikit-learn, and needs that.
+- `boruvka.dask` finds the forest of a frame of dask, part by part.
 - `boruvka.sparse` stands in for scipy's function over sparse matrices, and needs scipy.
 - `boruvka.networkx_backend` is what networkx calls if you write `backend="boruvka"`.
 """
@@ -22,10 +23,11 @@ from boruvka._page import show
 
 __all__ = ["Forest", "forest_of_chunks", "from_edges", "minimum_spanning_forest", "read_gr", "show", "write_gr"]
 
-_MODULES = ("cluster", "linkage", "networkx_backend", "sparse")
+_MODULES = ("cluster", "dask", "linkage", "networkx_backend", "sparse")
 
 if TYPE_CHECKING:
     from boruvka import cluster as cluster
+    from boruvka import dask as dask
     from boruvka import linkage as linkage
     from boruvka import networkx_backend as networkx_backend
     from boruvka import sparse as sparse

@@ -320,6 +320,7 @@ MOST_WORDS = {
     "CONTRIBUTING.md": 800,
     "CHANGELOG.md": 250,
     "python/README.md": 700,
+    "python/PARTS.md": 350,
 }
 # and how many a paragraph, a bullet or a cell of a table, and how many a sentence
 MOST_AT_ONCE = 60

@@ -20,7 +20,7 @@ from cases.running import ROOT, Program, Skipped, case, expect, run, written
 
 PACKAGE = f"{ROOT}/python"
 PYTHONS = (sys.executable, "/usr/bin/python3", "/usr/local/bin/python3")
-USED = ("numpy", "scipy", "networkx", "sklearn", "matplotlib")
+USED = ("numpy", "scipy", "networkx", "sklearn", "matplotlib", "pandas", "dask", "distributed")
 WITHOUT = {it: word for it, word in PLAIN.items() if it != "BORUVKA_LIBRARY"}
 
 
@@ -216,6 +216,16 @@ def types_by_mypy(room):
 @case
 def forests_of_chunks_and_by_threads(room):
     expect_tests(room, "test_chunks")
+
+
+@case
+def rows_of_dask_frames_in_one_process(room):
+    expect_tests(room, "test_dask.OneProcess", "test_dask.Page")
+
+
+@case
+def rows_of_dask_frames_in_two_processes(room):
+    expect_tests(room, "test_dask.TwoProcesses")
 
 
 @case
