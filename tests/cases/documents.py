@@ -204,6 +204,34 @@ def the_ids_of_a_drawn_csv(room):
 
 
 @case
+def faults_of_a_file_in_parts(room):
+    """A part is refused as the program refuses it, and no forest is written."""
+    p, *arcs = "p sp 4 5", "a 1 2 3", "a 2 3 4", "a 3 4 1", "a 4 1 2", "a 1 3 9"
+    missing = "arcs or the problem line are missing\n"
+    for room in awk_rooms(room):
+        [command] = recipe(room, "A file in parts")
+        command = command.replace("size=5", "size=2")
+        for rows, told in [
+            ([p, *arcs[:3], "a 4 1 x", arcs[4]], "boruvka: line 3: BadArc\n"),
+            ([p, *arcs[:2], "x", *arcs[2:]], "boruvka: line 4: UnknownLine\n"),
+            ([p, *arcs[:3], p, *arcs[3:]], "boruvka: line 3: SecondProblem\n"),
+            (["p sp 3 5", *arcs], "boruvka: line 2: EndOutOfRange\n"),
+            ([p, *arcs[:3]], missing),
+            ([p, *arcs[:4]], missing),
+            (["p sp 4 4", *arcs[:2]], missing),
+            ([], missing),
+            (["c no problem line"], missing),
+        ]:
+            for name in glob.glob(f"{room}/part*.gr*"):
+                os.remove(name)
+            with open(f"{room}/examples/roads.gr", "w", encoding="utf-8") as it:
+                it.write("".join(f"{row}\n" for row in rows))
+            status, output = pasted(room, command)
+            if not status or sorted(set(output.splitlines(True))) != [told]:
+                raise AssertionError(f"{rows}: {(status, output)!r:.900}")
+
+
+@case
 def the_examples_of_the_manual_page(room):
     page = text_of("man/boruvka.1").replace("\\-", "-").replace("\\e", "\\")
     blocks = [it for it in re.findall(r"^\.EX\n(.*?)^\.EE$", page, re.M | re.S) if it.startswith("$ ")]
