@@ -12,7 +12,7 @@ from boruvka import _library
 
 # how many edges a vertex there are at least if threads are worth it, and how many each has
 _WORTH = 16
-_A_PART = 4
+_A_PART = 6
 
 
 def places_by_threads(n: int, u: NDArray[np.uint32], v: NDArray[np.uint32], w: NDArray[np.int64], threads: int) -> NDArray[np.uint32]:

@@ -414,7 +414,7 @@ class Threads(unittest.TestCase):
             return whole(count, u, v, w)
 
         whole = _library.places
-        for edges, threads, parts in [(1, 4, 1), (15, 4, 1), (15, 2, 1), (16, 4, 4), (16, 2, 2), (16, 9, 4), (17, 9, 4), (64, 1, 1), (64, 3, 3)]:
+        for edges, threads, parts in [(1, 4, 1), (15, 4, 1), (15, 2, 1), (16, 4, 2), (16, 2, 2), (18, 9, 3), (24, 4, 4), (24, 9, 4), (64, 1, 1), (64, 3, 3)]:
             m = n * edges // parts * parts
             ends = np.arange(m) % n
             together = threading.Barrier(parts)
