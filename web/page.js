@@ -131,22 +131,35 @@ const note = notes => { $('notes').textContent = notes.join(' '); };
 
 // ---- points in
 
+// Whatever is opened, drawn or cleared takes the place of what went on before it. Answers whether that is still so.
+let turn = 0;
+function beginOther() {
+  const own = ++turn;
+  solver.stop();
+  stopPlaying();
+  fault(null);
+  note([]);
+  return () => own === turn;
+}
+
 // Shows an answer in place of another one, which fades away if both pictures are there at once.
 async function showOther(shown, more) {
-  const isOther = more.view === null && state.shown, isSoft = isOther && isDrawnAtOnce(state.shown) && isDrawnAtOnce(shown);
+  const own = turn, showNow = () => own === turn && show(shown, more), isOther = more.view === null && state.shown;
   busy(1);
-  await (isSoft ? fade(() => show(shown, more)) : show(shown, more));
+  await (isOther && isDrawnAtOnce(state.shown) && isDrawnAtOnce(shown) ? fade(showNow) : showNow());
   busy(-1);
 }
 
+async function joinPoints(points, more) {
+  const shown = await solver.ask({ task: 'points', points });
+  if (shown) await showOther(shown, { file: null, ...more });
+}
+
 async function showPoints(points, more) {
-  fault(null);
-  note([]);
-  stopPlaying();
-  if (!points.length) return show(null, { file: null, ...more });
+  beginOther();
   try {
-    const shown = await solver.ask({ task: 'points', points });
-    if (shown) await showOther(shown, { file: null, ...more });
+    if (points.length) await joinPoints(points, more);
+    else show(null, { file: null, ...more });
   } catch (error) {
     fault(error);
   }
@@ -184,31 +197,43 @@ function drawnPoints(n) {
   return points;
 }
 
+// One point after the other, however fast they are set.
+let penning = Promise.resolve();
 function addPoint(x, y) {
-  const { shown, penned } = state;
-  if (shown && (shown.kind !== 'plane' || shown.names)) return fault(new Error('What is shown comes from a file. Clear it to set points.'));
-  const points = Float64Array.from([...(shown?.points ?? []), ...placeAt(x, y)]);
-  return showPoints(points, { penned: penned + 1, view: { ...viewNow() }, count: state.clusters?.count ?? 1 });
+  const place = placeAt(x, y);
+  penning = penning.then(() => addPlace(place));
 }
 
 function undo() {
+  penning = penning.then(takeBack);
+}
+
+function addPlace(place) {
   const { shown, penned } = state;
-  if (penned) showPoints(shown.points.slice(0, -2), { penned: penned - 1, view: { ...viewNow() }, count: state.clusters?.count ?? 1 });
+  if (shown && (shown.kind !== 'plane' || shown.names)) return fault(new Error('What is shown comes from a file. Clear it to set points.'));
+  const points = Float64Array.from([...(shown?.points ?? []), ...place]);
+  return showPoints(points, { penned: penned + 1, view: { ...viewNow() }, count: state.clusters?.count ?? 1 });
+}
+
+function takeBack() {
+  const { shown, penned } = state;
+  return penned && showPoints(shown.points.slice(0, -2), { penned: penned - 1, view: { ...viewNow() }, count: state.clusters?.count ?? 1 });
 }
 
 function putPlaces(points) {
   const { shown } = state;
-  if (shown?.kind !== 'graph' && shown?.kind !== 'links') return showPoints(points, { view: null, penned: 0 });
+  if (shown?.kind !== 'graph' && shown?.kind !== 'links') return joinPoints(points, { view: null, penned: 0 });
   if (points.length / 2 !== shown.n) throw new Refused({ kind: 'PlacesDiffer' });
   return change({ shown: { ...shown, places: points }, view: null });
 }
 
-async function openFile(file) {
+async function openFile(file, isNow) {
   let answer = await solver.ask({ task: 'open', file });
   if (answer?.ask) {
     busy(-1);
     const choice = await askColumns(answer.ask);
     busy(1);
+    if (!isNow()) return;
     if (!choice) throw new Error('No columns were chosen.');
     answer = await solver.ask({ task: 'open', file, choice });
   }
@@ -220,14 +245,12 @@ async function openFile(file) {
 
 // Opens files, graphs before their places. A file that is refused changes nothing.
 async function open(files) {
-  fault(null);
-  note([]);
-  stopPlaying();
+  const isNow = beginOther(), isPlaces = file => /\.co(\.gz)?$/i.test(file.name);
   busy(1);
-  const isPlaces = file => /\.co(\.gz)?$/i.test(file.name);
+  for (const it of document.querySelectorAll('dialog[open]')) it.close();
   for (const file of [...files].sort((a, b) => isPlaces(a) - isPlaces(b))) {
     try {
-      await openFile(file);
+      if (isNow()) await openFile(file, isNow);
     } catch (error) {
       fault(new Error(`${file.name}: ${error.message}`));
       break;
@@ -271,7 +294,7 @@ function listenToBar() {
   $('clusters').onchange = () => cutTo($('clusters').valueAsNumber);
   $('pen').onclick = () => change({ tool: state.tool === 'pen' ? 'hand' : 'pen', cross: null });
   $('undo').onclick = undo;
-  $('stop').onclick = () => solver.stop();
+  $('stop').onclick = beginOther;
   $('save').onclick = () => $('saving').showModal();
   $('about').onclick = () => $('card').showModal();
   $('scale').onchange = () => change({ scale: $('scale').value });

@@ -1,8 +1,9 @@
 """Who reaches the page: by keys, by a screen reader, colour-blind, on a phone; and how it stays fluid at 100,000 points."""
+import base64
 import re
 import statistics
 
-from browsing.page import Page, forest_by_program, is_so, quick
+from browsing.page import DROP, Page, forest_by_program, is_so, quick
 from browsing.reading import pointer
 from cases.running import case
 
@@ -284,6 +285,32 @@ def what_takes_long_can_be_stopped(_room):
     page.browser.click_at("picture", 300, 300)
     page.settle()
     page.expect(points="1", size="0")
+
+
+@case
+def the_last_that_is_begun_is_shown(_room):
+    """Files, clearing and drawing in quick succession: what began before them ends, and so does a dialog's question."""
+    page = Page.opened()
+    many, few, asked = ("many.csv", b"".join(b"%d,%d\n" % (i, i * i % 997) for i in range(60_000))), ("few.csv", b"0,0\n3,4\n"), ("asked.csv", b"1,2,3\n4,5,6\n")
+    drop = lambda *files: page.browser.run(DROP, [(name, base64.b64encode(text).decode()) for name, text in files])  # noqa: E731
+    drop(many, many)
+    page.drop(few)
+    page.expect(points="2", total="5")
+    drop(many, many)
+    page.browser.run("document.getElementById('clear').click()")
+    page.settle()
+    page.expect(points="0")
+    drop(asked)
+    page.browser.wait("document.getElementById('columns').open")
+    page.drop(few)
+    page.expect(points="2", total="5")
+    is_so(page.browser.run("return document.querySelectorAll('dialog[open]').length"), 0)
+    page.click("clear")
+    page.click("pen")
+    page.browser.run("const it = document.getElementById('picture'); it.setPointerCapture = () => {}; for (let i = 0; i < 9; i++) for (const kind of ['pointerdown', 'pointerup']) it.dispatchEvent(new PointerEvent(kind, { pointerId: 1, clientX: 200 + 40 * i, clientY: 300 }))")
+    page.settle()
+    page.browser.wait("document.getElementById('points').textContent === '9'")
+    page.expect(points="9", total="320")
 
 
 TIMED = """
