@@ -5,10 +5,9 @@
 //! ```
 //!
 //! What it promises:
-//! - [`merges_of`] gives exactly the merges of the links in the order in which they come, and none if they close a cycle. There is
-//!   no other list of merges of these links.
-//! - Cut at a height, the merges of a graph's forest give the components of the graph: the theorem of single linkage
-//!   ([`laws`]).
+//! - [`merges_of`] gives exactly the merges of the links in the order in which they come, and none if they close a cycle. No
+//!   other list is that of their merges ([`laws`]).
+//! - Cut at a height, the merges of a graph's forest give the components of the graph: the theorem of single linkage.
 //!
 //! Where to start a change: what clusters and merges are stands in `specs/Merges`, the theorem in `specs/Cuts`. `merges` goes
 //! over the links; `slots` keeps the vertices of each cluster in a list, as `specs/Slots` says.
