@@ -284,9 +284,10 @@ def minimum_spanning_forest(n: Any = None, u: Any = None, v: Any = None, w: Any 
     Components: `forest.labels(clusters=forest.components)` numbers them.
 
     Cost: time about that of sorting the weights once, whatever the edges are. Memory is about 20 bytes an edge beside
-    the arrays given and the answer, up to 36 if most edges are in the forest. Ends that are neither int32 nor uint32 are copied, 8 bytes an edge,
-    and so are weights other than int64. The arrays given are never written. No other thread may write them meanwhile.
-    Any number of threads may call at once, and run side by side. A child that was forked from a process with threads
+    the arrays given and the answer, up to 36 if most edges are in the forest. Ends that are neither int32 nor uint32 are
+    copied, 8 bytes an edge, and so are weights other than int64. The arrays given are never written. No other thread may
+    write them meanwhile. Any number of threads may call at once, and run side by side. A child that was forked from a
+    process with threads
     must not call.
 
     Threads: with `threads` above 1 each has a part of the edges, and one merges the forests of the parts. Each has at
