@@ -19,9 +19,11 @@ const BENDS = {
 export function scaleOf({ heights }, width) {
   const { to, from } = BENDS[state.scale], positive = heights.find(it => it > 0) ?? 1, isLog = state.scale === 'log';
   const low = to(isLog ? positive : Math.min(0, heights[0])), high = to(Math.max(heights.at(-1), isLog ? positive : -Infinity));
-  const across = high - low || 1, room = width - 2 * EDGE;
+  // as parts of the greatest, since the difference of two doubles may be past what doubles hold
+  const unit = Math.max(Math.abs(low), Math.abs(high)) || 1, most = high / unit, across = most - low / unit || 1, room = width - 2 * EDGE;
   const bounded = it => isLog ? Math.max(it, positive) : it;
-  return { to: it => EDGE + room * (high - to(bounded(it))) / across, from: x => from(high - across * (x - EDGE) / room), low, high };
+  const pixel = it => EDGE + room * (most - to(bounded(it)) / unit) / across;
+  return { to: pixel, from: x => from((most - across * (x - EDGE) / room) * unit), low, high };
 }
 
 // A few round heights between the ends of the scale.
@@ -29,12 +31,12 @@ function ticksOf({ heights }, scale) {
   const most = heights.at(-1);
   if (!(most > 0)) return [heights[0], most];
   if (state.scale === 'log') {
-    const low = Math.ceil(Math.log10(Math.exp(scale.low))), high = Math.floor(Math.log10(most)), all = [];
+    const low = Math.ceil(scale.low / Math.LN10), high = Math.floor(Math.log10(most)), all = [];
     for (let it = low; it <= high; it += Math.max(1, Math.ceil((high - low) / 4))) all.push(10 ** it);
     return all.length ? all : [most];
   }
   const step = 10 ** Math.floor(Math.log10(most)), by = [0.2, 0.5, 1, 2].map(it => it * step).find(it => most / it <= 4) ?? 2 * step;
-  return Array.from({ length: Math.floor(most / by) + 1 }, (_, i) => i * by);
+  return by > 0 && most / by < 20 ? Array.from({ length: Math.floor(most / by) + 1 }, (_, i) => i * by) : [0, most];
 }
 
 // Merges from `begin` on: lines to what each joins; what isn't drawn itself is a bar.

@@ -4,6 +4,7 @@ import { boundsOf } from './spaces.js';
 import { state } from './state.js';
 
 const MOST_ZOOM = 1e6; // times that by which all is seen
+const MOST = 1e300; // pixels a unit
 const EDGE = 24; // pixels round what is drawn
 
 // The part of the picture that nothing covers, from the left upper corner.
@@ -22,7 +23,7 @@ export function wholeView() {
   if (!places?.length) return { x: free.width / 2, y: free.height / 2, zoom: 1 };
   const { across, up } = boxOf(places), width = across.high - across.low, height = up.high - up.low;
   const zoom = Math.min((free.width - 2 * EDGE) / (width || 1e-320), (free.height - 2 * EDGE) / (height || 1e-320));
-  return { x: across.low + width / 2, y: up.low + height / 2, zoom: width || height ? Math.max(zoom, 1e-320) : 1 };
+  return { x: across.low + width / 2, y: up.low + height / 2, zoom: width || height ? Math.max(1e-320, Math.min(MOST, zoom)) : 1 };
 }
 
 export const viewNow = () => state.view ?? wholeView();
@@ -38,5 +39,6 @@ export function lens(view = viewNow()) {
 export function moved(by, pixelX, pixelY, shiftX = 0, shiftY = 0) {
   const { placeX, placeY, left, top, zoom } = lens(), most = wholeView().zoom;
   const next = Math.max(most / 20, Math.min(most * MOST_ZOOM, zoom * by));
-  return { x: placeX(pixelX) - (pixelX + shiftX - left) / next, y: placeY(pixelY) + (pixelY + shiftY - top) / next, zoom: next };
+  const view = { x: placeX(pixelX) - (pixelX + shiftX - left) / next, y: placeY(pixelY) + (pixelY + shiftY - top) / next, zoom: next };
+  return Number.isFinite(view.x) && Number.isFinite(view.y) ? view : viewNow(); // no double holds where it would be
 }

@@ -141,6 +141,57 @@ def names_with_markup(_room):
     is_so(page.browser.complaints(), [])
 
 
+# points and links with numbers as small and as large as doubles are, or as whole numbers of 64 bits
+ENDS = [
+    ("small.csv", b"0,0\n5e-324,0\n1e-323,0\n"),
+    ("smaller.csv", b"1e-310,1e-310\n2e-310,1e-310\n1e-310,9e-310\n"),
+    ("large.csv", b"1e308,0\n0.9e308,0\n0,0\n"),
+    ("both.csv", b"0,0\n1e-100,0\n1,1\n"),
+    ("far.csv", b"1e15,1e15\n1000000000000001,1e15\n1e15,1000000000000001\n"),
+    ("links.csv", b"source,target,weight\na,b,-1.7e308\nb,c,1.7e308\nc,d,5e-324\n"),
+    ("less.csv", b"source,target,weight\na,b,-5e-324\nb,c,-1e-300\n"),
+    ("graph.gr", b"p sp 3 2\na 1 2 -9223372036854775808\na 2 3 9223372036854775807\n"),
+    ("poles.csv", b"lon,lat\n0,90\n180,90\n0,-90\n360,0\n-360,0\n"),
+]
+LOOKED_AT = """
+const frame = () => new Promise(done => requestAnimationFrame(() => requestAnimationFrame(done)));
+const at = (name, kind, part, more) => {
+    const it = document.getElementById(name), box = it.getBoundingClientRect();
+    it.dispatchEvent(new (kind === 'wheel' ? WheelEvent : PointerEvent)(kind, { clientX: box.left + part * box.width, clientY: box.top + box.height / 2, cancelable: true, pointerType: 'mouse', ...more }));
+};
+return (async () => {
+    for (const scale of ['even', 'log', 'root']) {
+        document.getElementById('scale').value = scale;
+        document.getElementById('scale').dispatchEvent(new Event('change'));
+        await frame();
+        for (const part of [0, 0.5, 1]) at('dendrogram', 'pointermove', part);
+        await frame();
+    }
+    for (const deltaY of [-90000, 90000, 90000, -90000]) {
+        at('picture', 'wheel', 0.4, { deltaY });
+        at('picture', 'pointermove', 0.3);
+        await frame();
+    }
+    document.getElementById('picture').dispatchEvent(new MouseEvent('dblclick'));
+    await frame();
+})();
+"""
+
+
+@case
+def numbers_at_the_ends(_room):
+    """They are shown and looked at, by each scale and from near and far, or refused. Nothing fails."""
+    page = Page.opened()
+    for name, text in ENDS:
+        page.drop((name, text))
+        is_so((name, page.text("fault")), (name, ""))
+        page.browser.run(LOOKED_AT)
+        page.settle()
+        is_so((name, page.browser.complaints()), (name, []))
+        drawn_marks(page.saved("picture.svg"))
+        is_so((name, b"NaN" in page.saved("picture.svg"), b"NaN" in page.saved("dendrogram.svg")), (name, False, False))
+
+
 @case
 def bytes_at_random(_room):
     """Whatever they are, they are refused or shown, and the page goes on."""
