@@ -80,8 +80,7 @@ int64_t boruvka_forest(uint32_t n, struct boruvka_link *links, size_t m);
  * Columns of different lengths are refused first, then what boruvka_forest refuses, in its order, then a room that is
  * smaller than the forest; a refusal leaves `places` as it was. m or n - 1 places are always enough, the less of the two.
  *
- * The time for a look-up is constant on average. Somebody who chooses the arcs for it can make it that of a pass over the
- * forest. */
+ * No arcs make it slow: beside the forest it takes a pass over the arcs, and a sort of them at worst. */
 int64_t boruvka_places_in(uint32_t n, uint32_t base, const uint32_t *u, size_t u_count, const uint32_t *v, size_t v_count,
                           const int64_t *w, size_t w_count, uint32_t *places, size_t room);
 
@@ -105,8 +104,8 @@ static inline int64_t boruvka_labels(uint32_t n, const struct boruvka_link *link
 
 /* Writes the merges of the clusters of n points by these k links, and answers k. The clusters 0 to n - 1 are the points, of
  * which cluster v - 1 is vertex v; the link at place i joins the two clusters of merges[i] into the cluster n + i. With the
- * weights for heights the merges are a linkage matrix, those of a forest that of single linkage. boruvka_labels over the
- * first links cuts them there.
+ * weights for heights n - 1 merges are a linkage matrix, those of a forest that of single linkage; fewer are those of several
+ * trees, which no such matrix has. boruvka_labels over the first links cuts them there.
  *
  * The links come as boruvka_forest leaves them, or in any other ascending order of weight, and close no cycle. Another `room`
  * than k is refused first, then what boruvka_labels refuses, in its order, then a link that weighs less than the one before

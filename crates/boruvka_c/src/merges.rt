@@ -62,7 +62,7 @@ fn find_merges(
 /// Writes the merges of the clusters of `n` points by these links over `merges`, a merge for each link, and answers how many
 /// these are; or answers the code of a [`Refusal`], which is negative. The points are the clusters 0 to n - 1, of which
 /// cluster v - 1 is the vertex v; the link at place i joins two clusters into the cluster n + i. So with weights for heights
-/// the merges are a linkage matrix, and those of a forest are single linkage.
+/// n - 1 merges are a linkage matrix, and those of a forest are single linkage.
 ///
 /// The links close no cycle, and none weighs less than one before it; their ends may come in either order. It takes the time
 /// and the memory of [`merges_of`], three passes over the links beside, and 16 bytes a link for the list that it works in.

@@ -104,10 +104,9 @@ fn find_places(alloc: Global, n: u32, arcs: &Arcs<'_>, places: &mut [u32]) -> Re
 /// `base + n - 1`. Arcs may come in any order, either way, as loops and more than once. For m arcs no more than m or
 /// n - 1 places are needed, whichever is less.
 ///
-/// It takes the time of [`forest_of`], two passes over the arcs before it, and one behind it, which looks each arc up among
-/// the forest's links: in constant time on average, but in that of a pass over the forest if somebody chose the links so
-/// that many share a slot. Memory: that of [`forest_of`], 16 bytes an arc for the list that it works in, and once it is
-/// done 12 bytes for each link of the forest.
+/// It takes the time of [`forest_of`], two passes over the arcs before it, and one behind it, which sorts the arcs that may be
+/// links of the forest: all of them at worst, whoever chose them. Memory: that of [`forest_of`], 16 bytes an arc for the list
+/// that it works in, and once it is done a byte for each vertex and 24 bytes for each link of the forest.
 #[unsafe(no_mangle)]
 pub extern "C" fn boruvka_places_in(
     alloc: Global,

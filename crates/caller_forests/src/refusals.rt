@@ -20,7 +20,7 @@ pub enum Refusal {
     TooLong,
     /// A line of a text has a fault.
     Line(GrKind),
-    /// Columns of arcs are of different lengths.
+    /// Columns of arcs, or links and merges, are of different lengths.
     LengthsDiffer,
     /// The forest has more links than there is room for places.
     TooFewPlaces,

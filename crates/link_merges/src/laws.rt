@@ -2,7 +2,7 @@
 ghost use Rattle.link_merges.specs.Cuts.{MergesCutAsTheGraph};
 ghost use Rattle.link_merges.specs.Merges.{OneListOfMerges};
 
-/// Links that close no cycle have one list of merges.
+/// Links that close no cycle have no two lists of merges.
 pub fn links_have_one_list_of_merges()
     ensures { OneListOfMerges }
 {}
