@@ -1,5 +1,5 @@
 //! The coordinator's side of a run: the book that judges what workers answer in a round, the picks that it makes of it,
-//! and the solver that merges components by them. [`solve_alone`] runs all of it in one thread, shard by shard.
+//! and the solver that merges components by them. [`solve_alone`] runs all of it in one thread, over the whole cut.
 //!
 //! ```text
 //!     cut, labels  --open-->  RoundBook  --take, once a shard-->  RoundBook  --close-->  Picks
