@@ -80,7 +80,7 @@ int64_t boruvka_forest(uint32_t n, struct boruvka_link *links, size_t m);
  * Columns of different lengths are refused first, then what boruvka_forest refuses, in its order, then a room that is
  * smaller than the forest; a refusal leaves `places` as it was. m or n - 1 places are always enough, the less of the two.
  *
- * No arcs make it slow: beside the forest it takes a pass over the arcs, and a sort of them at worst. */
+ * No choice of arcs makes it slow: beside the forest it takes two passes over the arcs, and at worst a sort of them. */
 int64_t boruvka_places_in(uint32_t n, uint32_t base, const uint32_t *u, size_t u_count, const uint32_t *v, size_t v_count,
                           const int64_t *w, size_t w_count, uint32_t *places, size_t room);
 

@@ -204,9 +204,8 @@ static const struct placed *first_of(const struct placed *all, size_t m, const s
     return from < m && !by_key(&all[from].link, link) ? all + from : 0;
 }
 
-/* The places of a drawn list's forest, beside those that sorting finds; the columns and what is behind stay. */
-static void compare_places(uint64_t seed, uint32_t n, size_t m, uint64_t weights, uint32_t base) {
-    struct boruvka_link *given = draw(seed, n, m, weights);
+/* The places of a list's forest, beside those that sorting finds; the columns and what is behind stay. It frees the list. */
+static void compare_places_of(struct boruvka_link *given, uint32_t n, size_t m, uint32_t base) {
     struct columns of = columns_of(given, m, base);
     size_t count;
     struct boruvka_link *forest = kruskal(n, given, m, &count);
@@ -239,6 +238,41 @@ static void compare_places(uint64_t seed, uint32_t n, size_t m, uint64_t weights
     free(given);
     free(forest);
     free(all);
+}
+
+static void compare_places(uint64_t seed, uint32_t n, size_t m, uint64_t weights, uint32_t base) {
+    compare_places_of(draw(seed, n, m, weights), n, m, base);
+}
+
+/* Lists that somebody may choose: stars round the first and the last vertex, a path, one arc again and again, either way
+ * round, and ends and weights that are multiples of large powers of two. Each has all its arcs once, in a drawn order, and
+ * then all of them again the other way round, with loops between. */
+static void chosen_places(size_t arcs, int equal) {
+    enum { FIRST, LAST, PATH, ONE, POWERS, SHAPES };
+    for (int shape = FIRST; shape < SHAPES; shape++) {
+        const uint32_t n = shape == POWERS ? (uint32_t)arcs * 64 : (uint32_t)arcs + 1;
+        const size_t m = 3 * arcs;
+        uint64_t seed = 77;
+        struct boruvka_link *given = taken(m, sizeof *given);
+        for (size_t i = 0; i < arcs; i++) {
+            const uint32_t end = shape == POWERS ? (uint32_t)i * 64 + 64 : (uint32_t)i + 1;
+            given[i].low = shape == PATH ? end : shape == LAST ? n : 1;
+            given[i].high = shape == PATH ? end + 1 : shape == LAST ? end : shape == ONE ? 2 : shape == FIRST ? end + 1 : end;
+            given[i].weight = equal ? -1 : (int64_t)(drawn(&seed) % 1024 << 53);
+        }
+        for (size_t i = arcs; i > 1; i--) {
+            const size_t other = drawn(&seed) % i;
+            const struct boruvka_link moved = given[i - 1];
+            given[i - 1] = given[other];
+            given[other] = moved;
+        }
+        for (size_t i = 0; i < arcs; i++) {
+            const struct boruvka_link back = {given[i].weight, given[i].high, given[i].low}, loop = {INT64_MIN, given[i].low, given[i].low};
+            given[arcs + 2 * i] = loop;
+            given[arcs + 2 * i + 1] = back;
+        }
+        compare_places_of(given, n, m, 0);
+    }
 }
 
 /* So many bytes, of which no page is ever touched; or none. */
@@ -292,6 +326,10 @@ static void limits_of_places(void) {
     }
     for (uint64_t seed = 1; seed <= 300; seed++) {
         compare_places(seed, 1 + seed % 60, seed * 7 % 400, seed % 3 ? 1 + seed % 40 : 0, seed % 2 ? 0 : seed % 5 ? 1 : UINT32_MAX - 100);
+    }
+    for (size_t arcs = 1; arcs <= 100000; arcs = 10 * arcs + 7) {
+        chosen_places(arcs, 0);
+        chosen_places(arcs, 1);
     }
 }
 

@@ -84,13 +84,13 @@ first_of arcs l to place few all (k, k_in, is) had =
     elim had.one [
       | inl none ↦ absurd (omega (arith, none, le, k_in, few))
       | inr (lt, at) ↦ record {
-          behind = omega arith;
-          in_range = lt;
-          link = at;
-          first = λ earlier ge before there.
-              let least = had.least earlier (omega (arith, before, lt, all)) (omega (arith, before, lt)) there in
-              omega (arith, least, before);
-        }
+        behind = omega arith;
+        in_range = lt;
+        link = at;
+        first = λ earlier ge before there.
+            let least = had.least earlier (omega (arith, before, lt, all)) (omega (arith, before, lt)) there in
+            omega (arith, least, before);
+      }
     ]
 
 -- two places of an ascending list have two links

@@ -195,9 +195,9 @@ mark_more marks x m b in_range bit had =
             | inr is ↦ mark_put old b s (subst (λ (l : Link). bit_at b (l.high % 8) ≡ 1) (sym is) bit)
           ])
       | inr other ↦ elim had [
-          | inl was ↦ subst (λ v. bit_at v s ≡ 1) (sym (get_or-set_other marks x.low m.low (bit_or old b) 0 other)) was
-          | inr is ↦ absurd (other (ap (λ (l : Link). l.low) is))
-        ]
+        | inl was ↦ subst (λ v. bit_at v s ≡ 1) (sym (get_or-set_other marks x.low m.low (bit_or old b) 0 other)) was
+        | inr is ↦ absurd (other (ap (λ (l : Link). l.low) is))
+      ]
     ]
 
 -- the bit that stands for a remainder by 8

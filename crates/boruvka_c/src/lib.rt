@@ -24,8 +24,8 @@
 ghost use Rattle.std.specs.Prelude.{◌≡◌};
 
 mod arcs;
-mod forests;
 mod candidates;
+mod forests;
 mod labels;
 mod merges;
 mod places;

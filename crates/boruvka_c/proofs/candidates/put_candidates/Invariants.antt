@@ -1,4 +1,4 @@
-use Rattle.std.proofs.Common.{ℕ, ◌+◌, ◌<◌, ◌≤◌, length, take, Contains}
+use Rattle.std.proofs.Common.{ℕ, ◌+◌, ◌<◌, ◌≤◌, take, Contains}
 use Rattle.links.specs.declared.links.Link.{Link}
 use Rattle.boruvka_c.specs.Places.{IsLinkAt}
 use Rattle.boruvka_c.specs.Candidates.{AreOfArcs, HasCandidate}

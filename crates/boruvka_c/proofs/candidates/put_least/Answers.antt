@@ -1,5 +1,5 @@
 use mir.Val.{to_z, of_z}
-use Rattle.std.proofs.Common.{◌≡◌, ℕ, ◌+◌, ◌<◌, length, get_or, min, sym, ap, ap₂, ◌∙◌, subst, arith, rules}
+use Rattle.std.proofs.Common.{◌+◌, get_or, min, sym, ap, ap₂, ◌∙◌, subst, arith, rules}
 use Rattle.std.specs.Int.{w128}
 use Rattle.std.specs.Int.Signed.{lt_z}
 use Rattle.std.proofs.lemmas.Int.{ints, to_z-of_z}
@@ -67,14 +67,14 @@ loop-i-preserved c =
             let one = ap (λ (c' : Candidate). wide_key c'.link) (sym (at_j y) ∙ at_z y) in
             let v = w.min.ensures ∙ ap (λ (c' : Candidate). min (get_or l.places l.i 0) c'.place) (at_z z) in
             λ t d t_in. subst (λ ps. LeastBefore found (l.j + 1) (get_or links t d) (get_or c.args.places.now t 0) (get_or ps t 0)) (sym w.places-is)
-                (least_more links found l.i l.j x z i_in j_in at_i at_z l.invariant.behind c.requires.ascending
-                (sym key ∙ sym key_word ∙ numbers ∙ other_word ∙ other ∙ one) c.args.places.now l.places (number ∙ as_many) w.min.result v l.invariant.least t d t_in)
+            (least_more links found l.i l.j x z i_in j_in at_i at_z l.invariant.behind c.requires.ascending
+            (sym key ∙ sym key_word ∙ numbers ∙ other_word ∙ other ∙ one) c.args.places.now l.places (number ∙ as_many) w.min.result v l.invariant.least t d t_in)
         | else-key-other-2 w ↦
             let differ = w.if-key-other-2.false in
             λ t d t_in. subst (λ ps. LeastBefore found (l.j + 1) (get_or links t d) (get_or c.args.places.now t 0) (get_or ps t 0)) (sym w.places-is)
-                (other_more found l.j (get_or links t d) (get_or c.args.places.now t 0) (get_or l.places t 0)
-                (no_link links found l.i l.j x y i_in j_in at_i at_j l.invariant.behind c.requires.ascending (sym (ap₂ lt_z (key_word ∙ key) (other_word ∙ other)) ∙ no_less) (λ e. differ (ap (of_z w128) (key ∙ e ∙ sym other))) t d t_in)
-                (l.invariant.least t d t_in))
+            (other_more found l.j (get_or links t d) (get_or c.args.places.now t 0) (get_or l.places t 0)
+            (no_link links found l.i l.j x y i_in j_in at_i at_j l.invariant.behind c.requires.ascending (sym (ap₂ lt_z (key_word ∙ key) (other_word ∙ other)) ∙ no_less) (λ e. differ (ap (of_z w128) (key ∙ e ∙ sym other))) t d t_in)
+            (l.invariant.least t d t_in))
       ];
     }
 
