@@ -7,6 +7,7 @@ import numbers
 import operator
 from collections.abc import Callable, Iterator, Mapping, Sequence, Set
 from dataclasses import dataclass, replace
+from fractions import Fraction
 from html import escape
 from typing import TYPE_CHECKING, Any, SupportsIndex, Union, overload
 
@@ -26,6 +27,8 @@ Real = Union[float, "np.floating[Any]", "np.integer[Any]"]
 
 # how many edges a notebook shows
 _SHOWN = 10
+# the least number that is rounded to no finite double
+_PAST_DOUBLES = (1 << 1024) - (1 << 970)
 
 
 @dataclass(frozen=True, eq=False, repr=False)
@@ -114,13 +117,20 @@ class Forest:
     def total(self) -> int | float:
         """The sum of the weights: exact if they are whole numbers, and rounded once if not."""
         if self.w.dtype.kind in "biu":
-            high, low = np.divmod(self.w.astype(np.int64), 1 << 32)
+            whole = self.w.astype(np.uint64 if self.w.dtype.kind == "u" else np.int64)
+            high, low = whole >> 32, whole & 0xFFFFFFFF
             return (int(high.sum()) << 32) + int(low.sum())
+        weights = self.w.astype(np.float64)
+        odd = weights[~np.isfinite(weights)]
+        if len(odd):
+            with np.errstate(invalid="ignore"):
+                return float(odd.sum())
         try:
-            return math.fsum(self.w.tolist())
-        except (OverflowError, ValueError):
-            with np.errstate(invalid="ignore", over="ignore"):
-                return float(self.w.sum())
+            return math.fsum(weights.tolist())
+        except OverflowError:
+            # (a part of the sum is past all doubles; the whole needn't be)
+            exact = sum(map(Fraction, weights.tolist()))
+            return float(exact) if abs(exact) < _PAST_DOUBLES else math.inf if exact > 0 else -math.inf
 
     @overload
     def labels(self, *, clusters: SupportsIndex, height: None = None, min_size: SupportsIndex = 1) -> NDArray[np.intp]: ...
@@ -409,7 +419,7 @@ def _column(given: Any, name: str) -> NDArray[Any]:
     if column.dtype != object and hasattr(given, "__array__"):
         return column
     each = column.tolist() if column.dtype == object else list(given)
-    return _of_each(each, column if column.dtype != object else np.asarray(each), name)
+    return of_each(each, column if column.dtype != object else np.asarray(each), name)
 
 
 def is_masked(given: Any) -> bool:
@@ -423,7 +433,7 @@ def mask_of(given: Any) -> Any:
     return masked.getmask(given)
 
 
-def _of_each(each: list[Any], column: NDArray[Any], name: str) -> NDArray[Any]:
+def of_each(each: list[Any], column: NDArray[Any], name: str) -> NDArray[Any]:
     """The array that numpy made of numbers one by one, if it changed none."""
     if column.dtype.kind == "f" and set(map(type, each)) != {float}:
         for place, (it, held) in enumerate(zip(each, column.tolist())):

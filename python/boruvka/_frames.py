@@ -41,9 +41,9 @@ def from_edges(frame: Any, u: Hashable = "u", v: Hashable = "v", *, weight: Hash
     KeyError
         If the frame has no column of that name.
     ValueError
-        If a name or a weight is missing, the columns differ in length, or two have the same name.
+        If a name is missing, a weight is NaN, the columns differ in length, or two have the same name.
     TypeError
-        If a name can't be a key of a dict, weights are no numbers, or the frame has no columns.
+        If a name can't be a key of a dict, weights are no numbers, times have two units, or the frame has no columns.
 
     Examples
     --------
@@ -55,6 +55,7 @@ def from_edges(frame: Any, u: Hashable = "u", v: Hashable = "v", *, weight: Hash
     """
     number: dict[Any, int] = {}
     one, other, weights = (_column(frame, it) for it in (u, v, weight))
+    _expect_one_unit(one, other)
     tails, heads = _numbered(one, u, number), _numbered(other, v, number)
     if len(tails) != len(heads):
         raise ValueError(f"the columns {u!r} and {v!r} differ in length: {len(tails)} and {len(heads)}")
@@ -64,8 +65,9 @@ def from_edges(frame: Any, u: Hashable = "u", v: Hashable = "v", *, weight: Hash
 
 def _column(frame: Any, name: Hashable) -> Any:
     """The column of this name, which has one dimension."""
-    has_array = hasattr(frame, "__array__") and not hasattr(frame, "__getitem__")
-    if isinstance(frame, np.ndarray) or has_array and not hasattr(frame, "__dataframe__"):
+    # (what else has `__array__` may be indexed by rows, as tensors are)
+    has_columns = any(hasattr(frame, it) for it in ("__dataframe__", "columns", "keys"))
+    if isinstance(frame, np.ndarray) or hasattr(frame, "__array__") and not has_columns:
         return _of_array(frame if isinstance(frame, np.ndarray) else np.asarray(frame), name)
     if isinstance(frame, (list, tuple, str, bytes)):
         raise TypeError(f"a {type(frame).__name__} is no frame: pandas.DataFrame(rows, columns=...), a dict of columns, or an array is")
@@ -86,6 +88,13 @@ def _column(frame: Any, name: Hashable) -> Any:
     if isinstance(column, (Mapping, Set)):
         raise TypeError(f"the column {name!r} is a {type(column).__name__}, which has no order")
     return column
+
+
+def _expect_one_unit(one: Any, other: Any) -> None:
+    """A TypeError if two columns have times of different units: numpy's hashes tell equal ones apart."""
+    dtypes = [it.dtype for it in (one, other) if isinstance(it, np.ndarray) and it.dtype.kind in "mM"]
+    if len({it.kind for it in dtypes}) < len({*dtypes}):
+        raise TypeError(f"the ends have the dtypes {dtypes[0]} and {dtypes[1]}: .astype makes one unit of them")
 
 
 def _no_column(name: Hashable, there: Iterable[Any]) -> KeyError:

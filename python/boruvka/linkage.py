@@ -17,7 +17,7 @@ import numpy as np
 from numpy.typing import ArrayLike, NDArray
 
 from boruvka import _library
-from boruvka._forest import Forest, Real, held, is_masked, minimum_spanning_forest, vertices
+from boruvka._forest import Forest, Real, held, is_masked, minimum_spanning_forest, of_each, vertices
 from boruvka._metrics import Metric, metric_of
 from boruvka._points import tree_of_points
 from boruvka._weights import why_none
@@ -109,11 +109,13 @@ def spanning_tree(y: ArrayLike | SparseMatrix, *, metric: str = "euclidean", p: 
 
     Notes
     -----
-    Heights are those of all pairs but for rounding, whatever the points are.
+    Heights are those of all pairs but for rounding, whatever the points are. Those of haversine are rounded by up to
+    1e-15, and near the antipode by 1e-7.
 
     Cost: points in few dimensions take time about n log n if scipy is there, and 200 bytes a point. Others take n^2 d
-    steps, of which a processor does a thousand million a second, and memory of 5 times their own. Distances take about
-    40 bytes and 100 nanoseconds a pair: scipy's own linkage is several times as fast.
+    steps, of which a processor does a thousand million a second, and memory of 5 times their own. So do all points if p
+    is 18 or more, but infinite, or if sizes of coordinates other than 0 differ 1e127 times: set tiny ones to 0 first.
+    Distances take about 40 bytes and 100 nanoseconds a pair: scipy's own linkage is several times as fast.
 
     Examples
     --------
@@ -305,12 +307,18 @@ def _numbers(y: Any) -> NDArray[np.float64]:
         how = ": .astype(float) makes them" if given.dtype == object and " as " not in why_none(given, "y", "biuf") else ""
         raise TypeError(f"{why_none(given, 'y', 'biuf')}, and has to be real numbers of up to 64 bits{how}")
     numbers = given.astype(np.float64, copy=False)
+    if given.dtype.kind == "f" and not hasattr(y, "__array__") and (np.abs(given) >= _EXACT).any():
+        for row, each in enumerate(y if given.ndim == 2 else ()):
+            of_each(list(each), given[row], f"y[{row}]")
+        if given.ndim == 1:
+            of_each(list(y), given, "y")
     if given.dtype.kind in "iu" and given.dtype.itemsize == 8 and given.size and max(-int(given.min()), int(given.max())) > _EXACT:
         # (doubles below 2^64 lie at most 2^11 apart)
         is_rounded = numbers % 2048 != given % 2048
         if is_rounded.any():
             place = np.unravel_index(is_rounded.argmax(), given.shape)
-            raise ValueError(f"y[{', '.join(map(str, place))}] is {given[place]}, which a double would round: take the least of each column off first")
+            how = "take the least of each column off first" if given.ndim == 2 else "minimum_spanning_forest takes its pairs, and no double"
+            raise ValueError(f"y[{', '.join(map(str, place))}] is {given[place]}, which a double would round: {how}")
     return numbers
 
 

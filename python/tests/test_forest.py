@@ -103,6 +103,10 @@ class Knowing(unittest.TestCase):
         for w in ([0.1] * 3, [1e308, 1e308, -1e308], [1e16, 1.0, -1e16]):
             forest = minimum_spanning_forest(4, [0, 1, 2], [1, 2, 3], w)
             self.assertEqual(forest.total, float(sum(map(fractions.Fraction, w))))
+        # (a part of the sum is past all doubles)
+        for w, total in (([-1e308] * 2 + [1e308] * 2 + [5.0], 5.0), ([-1.5e308] * 2 + [math.inf], math.inf), ([-1.5e308] * 3 + [1.0], -math.inf)):
+            self.assertEqual(minimum_spanning_forest(None, range(len(w)), range(1, len(w) + 1), w).total, total)
+        self.assertEqual(Forest([0, 1], [1, 2], np.array([2**63, 2**64 - 1], np.uint64), [0, 1]).total, 2**63 + 2**64 - 1)
         self.assertEqual(minimum_spanning_forest(3, [0, 1], [1, 2], [1e308, 1e308]).total, math.inf)
         self.assertTrue(math.isnan(minimum_spanning_forest(3, [0, 1], [1, 2], [-math.inf, math.inf]).total))
         self.assertEqual(minimum_spanning_forest(3, [], [], []).total, 0)

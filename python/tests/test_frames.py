@@ -118,6 +118,17 @@ class Frames(unittest.TestCase):
 
         self.assertEqual(boruvka.from_edges(Held()).names, wanted.names)
 
+        class Tensor:
+            """It has rows by `[]`, as those of torch and dask."""
+
+            def __array__(self, dtype=None, copy=None):
+                return rows
+
+            def __getitem__(self, it):
+                return rows[it]
+
+        self.assertEqual(boruvka.from_edges(Tensor(), 0, 1, weight=2).names, [10, 20, 7, 30])
+
     @unittest.skipUnless(pandas, "there is no pandas")
     def test_frames_of_pandas(self):
         frame = pandas.DataFrame(ROADS)
@@ -258,6 +269,8 @@ class Refused(unittest.TestCase):
         self.expect(TypeError, "^the column 'u' is a set, which has no order$", {"u": {1, 2}, "v": [1, 2], "w": [1, 1]})
         self.expect(TypeError, "^the column 'v' is a dict, ", {"u": [1], "v": {1: 2}, "w": [1]})
         self.expect(ValueError, "^the column 'u' has 2 dimensions", {"u": np.zeros((2, 2)), "v": [1, 2], "w": [1, 1]})
+        days = np.array(["2020-01-01"], "M8[D]")
+        self.expect(TypeError, r"the dtypes datetime64\[D\] and datetime64\[s\]: \.astype makes one", {"u": days, "v": days.astype("M8[s]"), "w": [1]})
 
     def test_what_is_no_frame(self):
         for rows in ([("a", "b", 1)], (("a", "b", 1),), "abc", b"abc"):

@@ -109,6 +109,8 @@ OF_POINTS = {
     "long doubles": (lambda: spanning_tree(np.zeros((2, 2), np.longdouble)), TypeError, "^y has the dtype float128, .* of up to 64 bits$"),
     "dates": (lambda: spanning_tree(np.zeros((2, 2), "M8[s]")), TypeError, r"^y has the dtype datetime64\[s\]"),
     "whole numbers that doubles round": (lambda: spanning_tree([[2**53 + 2], [2**53 + 1]]), ValueError, r"^y\[1, 0\] is 9007199254740993, which a double would round: take the least"),
+    "whole numbers beside halves": (lambda: spanning_tree([[2**53 + 1, 0.5], [2**53, 0.5]]), ValueError, r"^y\[0\]\[0\] is 9007199254740993, which numpy would round"),
+    "distances that doubles round": (lambda: single_linkage([2**53 + 1, 2**53, 2**53]), ValueError, r"^y\[0\] is 9007199254740993, which a double would round: minimum_spanning_forest takes"),
     "distances, and a metric": (lambda: spanning_tree([1.0, 2.0, 3.0], metric="cosine"), TypeError, r"y\[:, None\]$"),
     "more samples than points": (lambda: spanning_tree(POINTS, min_samples=11), ValueError, "^min_samples is 11, and has to be from 1 to 10, the number of points$"),
     "degrees": (lambda: spanning_tree([[48.1, 11.5], [52.5, 13.4]], metric="haversine"), ValueError, "^the latitude of the point 0 is 48.1, .* numpy.radians"),

@@ -65,6 +65,7 @@ def files(forest: Forest) -> None:
         n: int = edges.n
         write_gr(path + ".gz", minimum_spanning_forest(*edges))
         write_gr(path, edges.u, edges.v, edges.w)
+        write_gr(path, [[0, 1], [1, 2]], edges.w)
         write_gr(path, u=[0], v=[1], w=[2])
         assert n == 3 and read_gr(path + ".gz").w.tolist() == [4, 5] and forest.maximum is False
 
