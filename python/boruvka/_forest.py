@@ -129,7 +129,7 @@ class Forest:
             return math.fsum(weights.tolist())
         except OverflowError:
             # (a part of the sum is past all doubles; the whole needn't be)
-            exact = sum(map(Fraction, weights.tolist()))
+            exact = sum(map(Fraction, weights.tolist()), Fraction())
             return float(exact) if abs(exact) < _PAST_DOUBLES else math.inf if exact > 0 else -math.inf
 
     @overload
