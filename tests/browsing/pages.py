@@ -157,9 +157,13 @@ def points_that_python_shows(room):
     page, packed = Page.opened(), packed_page(room)
     for more, total in [({}, "12.81025"), ({"globe": True}, "1,420.811 km")]:
         given = {"points": [[0, 0], [3, 4], [9, 9]], "names": ["</script>", "b", 'c"']}
-        script = "import json, sys; sys.path.insert(0, sys.argv[1]); import importlib.util as u; s = u.spec_from_file_location('page', sys.argv[1] + '/boruvka/_page.py'); m = u.module_from_spec(s); s.loader.exec_module(m); m.show(**json.load(sys.stdin))"
+        script = "import json, sys; sys.path.insert(0, sys.argv[1]); import boruvka; boruvka.show(**json.load(sys.stdin))"
         words = json.dumps({**given, **more, "into": f"{room}/shown.html", "page": packed})
-        ended = subprocess.run([PYTHON, "-c", script, f"{ROOT}/python"], input=words, capture_output=True, text=True, check=False)
+        library = f"{ROOT}/crates/boruvka_c/out/libboruvka.so"
+        if not os.path.exists(library):
+            raise Skipped("the library isn't built: `make lib` does")
+        variables = {**os.environ, "BORUVKA_LIBRARY": library}
+        ended = subprocess.run([PYTHON, "-c", script, f"{ROOT}/python"], input=words, capture_output=True, text=True, check=False, env=variables)
         if "No module named 'numpy'" in ended.stderr:
             raise Skipped("there is no numpy")
         is_so((ended.returncode, ended.stderr), (0, ""))
