@@ -341,7 +341,8 @@ MOST_WORDS = {
     "docs/PROTOCOL.md": 800,
     "SECURITY.md": 250,
     "docs/PROMISES.md": 2000,
-    "docs/HEADLINE.md": 500,
+    # with all that it quotes and names
+    "docs/HEADLINE.md": 1600,
     "docs/ARCHITECTURE.md": 1400,
     "docs/DECISIONS.md": 2000,
     "docs/PERFORMANCE.md": 700,
@@ -386,7 +387,7 @@ def thoughts(name):
 def the_documents_are_short(_room):
     long = []
     for name, most in MOST_WORDS.items():
-        count, parts = len(prose_of(name).split()), thoughts(name)
+        count, parts = len((text_of if name == "docs/HEADLINE.md" else prose_of)(name).split()), thoughts(name)
         if count > most:
             long.append(f"{name} has {count} words, and may have {most}")
         if len(parts) < 5:
