@@ -419,23 +419,30 @@ def the_promises_name_what_stands(_room):
 
 @case
 def the_map_names_what_stands(_room):
-    """docs/ARCHITECTURE.md names each crate, and lists those of the product after all that they stand on. Each module and
-    each file of specs/ that its table names stands in the crate that is named before it."""
+    """docs/ARCHITECTURE.md names each crate, and lists those of the product after all that they stand on. Each module that
+    its table names stands in the crate that is named before it, each statement in the file of specs/ before it."""
     text, lines = text_of("docs/ARCHITECTURE.md"), crate_lines()
     section = text.split("\n## Crates\n")[1].split("\n## ")[0]
     listed = re.findall(r"^- `(\w+)`: ", section, re.M)
-    cells = re.findall(r"^\| .* \| (.*) \|$", text.split("\n| Subject | ")[1], re.M)
-    rows = [(*re.findall(r"`(\w+)`", it), it.partition(":")[2]) for cell in cells for it in cell.split(";")]
-    rows = [(crate, modules, re.findall(r"\b[A-Z]\w+", told)) for crate, *modules, told in filter(lambda it: len(it) > 1, rows)]
+    table = re.findall(r"^\| (.*) \| (.*) \| (.*) \|$", text.split("\n| Subject | ")[1], re.M)
+    rows = [re.findall(r"`(\w+)`", it) for _, cell, _ in table for it in cell.split(";")]
+    rows = [(crate, modules) for crate, *modules in filter(None, rows)]
+    stated = [re.fullmatch(r"`(\w+)/(\w+)`: (.*)", it.strip().removeprefix("also ")) for _, _, cell in table for it in cell.split(";")]
     missed = [f"{it} isn't named" for it in lines if f"`{it}`" not in section]
     missed += [f"there is no crate {it}" for it in [*listed, *(row[0] for row in rows)] if it not in lines]
     for place, name in enumerate(listed):
         later = [it for it in below(name, lines) if it in listed[place:]] if name in lines else []
         missed += [f"{name} stands on {it}, which is listed after it" for it in later]
     count = 0
-    for crate, modules, specs in rows:
-        files = [f"src/**/{it}.rt" for it in modules] + [f"specs/{it}.antt" for it in specs]
-        missed += [f"{crate} has no {it}" for it in files if not glob.glob(f"{ROOT}/crates/{crate}/{it}", recursive=True)]
-        count += len(files)
-    if missed or count < 80:
+    for crate, modules in rows:
+        missed += [f"{crate} has no {it}" for it in modules if not glob.glob(f"{ROOT}/crates/{crate}/src/**/{it}.rt", recursive=True)]
+        count += len(modules)
+    for crate, file, told in [it.groups() for it in stated if it]:
+        name, its = f"crates/{crate}/specs/{file}.antt", re.findall(r"`(\w+)`", told)
+        text = text_of(name) if os.path.isfile(f"{ROOT}/{name}") else ""
+        missed += [f"{name} has no {it}" for it in its if not re.search(rf"^(abbrev pub|unfoldable pub|pub record|pub data) {it}\b", text, re.M)]
+        count += len(its)
+    # a row whose change is in no statement says so
+    missed += [f"no statement is named: {subject}" for subject, _, cell in table[1:] if cell != "none" and "`: `" not in cell]
+    if missed or count < 120:
         raise AssertionError(f"{count} were looked at\n    " + "\n    ".join(missed))
