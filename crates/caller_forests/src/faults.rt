@@ -27,7 +27,12 @@ impl Fault {
         let (why, line) = match why {
             RunFault::Read(ReadFault::Gr(fault)) => (Refusal::Line(fault.kind), fault.line),
             RunFault::Read(ReadFault::TooLong) => (Refusal::TooLong, 0),
-            _ => (Refusal::NoMemory, 0),
+            RunFault::Read(ReadFault::Source { .. } | ReadFault::Memory)
+            | RunFault::Cut(_)
+            | RunFault::Rounds { .. }
+            | RunFault::Missed { .. }
+            | RunFault::Memory
+            | RunFault::Write { .. } => (Refusal::NoMemory, 0),
         };
         Fault {
             kind: why.code(),

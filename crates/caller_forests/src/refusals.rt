@@ -30,42 +30,48 @@ pub enum Refusal {
     Descending,
 }
 
-// The code of what is wrong with a line.
-fn code_of_line(kind: GrKind) -> i64
-    ensures { result ≡ code_of (Refusal.Line kind) }
-{
-    match kind {
-        GrKind::UnknownLine => -6,
-        GrKind::NoProblemYet => -7,
-        GrKind::SecondProblem => -8,
-        GrKind::BadProblem => -9,
-        GrKind::TooLarge => -10,
-        GrKind::BadArc => -11,
-        GrKind::EndOutOfRange => -12,
-        GrKind::WeightOutOfRange => -13,
-        GrKind::TooManyArcs => -14,
-        GrKind::MissingProblem => -15,
-        GrKind::MissingArcs => -16,
-    }
-}
-
 impl Refusal {
+    // The table of them: its code and its text, which for a faulty line is the name that the program gives it.
+    fn row(self) -> (i64, &'static [u8])
+        ensures code { result.0 ≡ code_of self }
+        ensures text { result.1.now ≡ text_of self }
+    {
+        match self {
+            Refusal::NoMemory => (-1, b"no memory"),
+            Refusal::BadEnd => (-2, b"an end is no vertex"),
+            Refusal::TooManyVertices => (-3, b"too many vertices"),
+            Refusal::TooManyLinks => (-4, b"too many links"),
+            Refusal::TooLong => (-5, b"file is too long"),
+            Refusal::Line(GrKind::UnknownLine) => (-6, b"UnknownLine"),
+            Refusal::Line(GrKind::NoProblemYet) => (-7, b"NoProblemYet"),
+            Refusal::Line(GrKind::SecondProblem) => (-8, b"SecondProblem"),
+            Refusal::Line(GrKind::BadProblem) => (-9, b"BadProblem"),
+            Refusal::Line(GrKind::TooLarge) => (-10, b"TooLarge"),
+            Refusal::Line(GrKind::BadArc) => (-11, b"BadArc"),
+            Refusal::Line(GrKind::EndOutOfRange) => (-12, b"EndOutOfRange"),
+            Refusal::Line(GrKind::WeightOutOfRange) => (-13, b"WeightOutOfRange"),
+            Refusal::Line(GrKind::TooManyArcs) => (-14, b"TooManyArcs"),
+            Refusal::Line(GrKind::MissingProblem) => (-15, b"MissingProblem"),
+            Refusal::Line(GrKind::MissingArcs) => (-16, b"MissingArcs"),
+            Refusal::LengthsDiffer => (-17, b"lengths differ"),
+            Refusal::TooFewPlaces => (-18, b"too few places"),
+            Refusal::Cycle => (-19, b"a cycle"),
+            Refusal::Descending => (-20, b"links descend"),
+        }
+    }
+
     /// Its code, a negative number.
     pub fn code(self) -> i64
         ensures { result ≡ code_of self }
     {
-        match self {
-            Refusal::NoMemory => -1,
-            Refusal::BadEnd => -2,
-            Refusal::TooManyVertices => -3,
-            Refusal::TooManyLinks => -4,
-            Refusal::TooLong => -5,
-            Refusal::Line(kind) => code_of_line(kind),
-            Refusal::LengthsDiffer => -17,
-            Refusal::TooFewPlaces => -18,
-            Refusal::Cycle => -19,
-            Refusal::Descending => -20,
-        }
+        self.row().0
+    }
+
+    // Its text.
+    pub(crate) fn text(self) -> &'static [u8]
+        ensures { result.now ≡ text_of self }
+    {
+        self.row().1
     }
 
     // The refusal that has this code.
@@ -95,23 +101,5 @@ impl Refusal {
             -20 => Refusal::Descending,
             _ => return None,
         })
-    }
-
-    // Its text.
-    pub(crate) fn text(self) -> &'static [u8]
-        ensures { result.now ≡ text_of self }
-    {
-        match self {
-            Refusal::NoMemory => b"no memory",
-            Refusal::BadEnd => b"an end is no vertex",
-            Refusal::TooManyVertices => b"too many vertices",
-            Refusal::TooManyLinks => b"too many links",
-            Refusal::TooLong => b"file is too long",
-            Refusal::Line(kind) => kind.name().as_bytes(),
-            Refusal::LengthsDiffer => b"lengths differ",
-            Refusal::TooFewPlaces => b"too few places",
-            Refusal::Cycle => b"a cycle",
-            Refusal::Descending => b"links descend",
-        }
     }
 }

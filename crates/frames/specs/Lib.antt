@@ -8,3 +8,4 @@ pub mod ReadFault
 pub mod NextFrame
 pub mod Spellings
 pub mod Pieces
+pub mod Sources

@@ -5,6 +5,7 @@ ghost use Rattle.byte_streams.specs.Streams.{Gave};
 ghost use Rattle.frames.specs.FrameValue.{value_of};
 ghost use Rattle.frames.specs.NextFrame.{BodyCame, IsBodyRefused, WantsLate, IsStopped};
 ghost use Rattle.frames.specs.Pieces.{PushesOffers, OffersCame};
+ghost use Rattle.frames.specs.Sources.{KeepsSource};
 
 use crate::bodies::{PIECE, pass_over, read_bytes, read_three};
 use crate::fault::FrameFault;
@@ -29,8 +30,7 @@ pub(crate) fn read_answer<A: Allocator, S: Source>(
     ensures refused { IfErr result
         (λ fault. IsBodyRefused fault 4 (12 + 8 * most) (S.state source.old) (S.state source.new)) }
     ensures late { IfErr result (λ fault. WantsLate fault 4 (12 + 8 * most) (S.state source.old)) }
-    ensures lasts { (fact : S.Fact) → S.lasts source.old fact → S.lasts source.new fact }
-    ensures again { OnOk result (S.can_read source.new) }
+    ensures kept { KeepsSource S.Source result source.old source.new }
 {
     let (round, shard, count) = read_three(source)?;
     let mut buffer = [0; PIECE];
@@ -63,8 +63,7 @@ fn read_pairs<A: Allocator, S: Source>(
         (λ pairs. OffersCame count pairs.items (S.state source.old) (S.state source.new)) }
     ensures stopped { IfErr result
         (λ fault. IsStopped fault (8 * count) (S.state source.old) (S.state source.new)) }
-    ensures lasts { (fact : S.Fact) → S.lasts source.old fact → S.lasts source.new fact }
-    ensures again { OnOk result (S.can_read source.new) }
+    ensures kept { KeepsSource S.Source result source.old source.new }
 {
     let mut pairs = Vec::new(alloc);
     let mut came = 0;
@@ -92,8 +91,7 @@ fn read_piece<A: Allocator, S: Source>(
     ensures pushed { OnOk result (PushesOffers piece.new pairs.old.items pairs.new.items) }
     ensures stopped { IfErr result
         (λ fault. IsStopped fault (8 * count) (S.state source.old) (S.state source.new)) }
-    ensures lasts { (fact : S.Fact) → S.lasts source.old fact → S.lasts source.new fact }
-    ensures again { OnOk result (S.can_read source.new) }
+    ensures kept { KeepsSource S.Source result source.old source.new }
 {
     pairs.reserve(count)?;
     read_bytes(source, piece)?;

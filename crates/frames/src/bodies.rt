@@ -5,6 +5,7 @@ ghost use Rattle.frames.specs.Pieces.{BytesCame};
 ghost use Rattle.frames.specs.FrameText.{u32_text};
 ghost use Rattle.frames.specs.Lawful.{IsU32};
 ghost use Rattle.frames.specs.ReadFault.{IsCutShort, GrowsBy};
+ghost use Rattle.frames.specs.Sources.{KeepsSource};
 ghost use Rattle.frames.specs.declared.fault.FrameFault.TheVariants.{Memory};
 
 use crate::fault::FrameFault;
@@ -27,8 +28,7 @@ pub(crate) fn read_body<A: Allocator, S: Source>(
         (λ body. Gave 0 0 body.items (S.state source.old) (S.state source.new)) }
     ensures short { IfErr result
         (λ fault. IsCutShort fault len (S.state source.old) (S.state source.new)) }
-    ensures lasts { (fact : S.Fact) → S.lasts source.old fact → S.lasts source.new fact }
-    ensures again { OnOk result (S.can_read source.new) }
+    ensures kept { KeepsSource S.Source result source.old source.new }
 {
     let mut body = Vec::new(alloc);
     while body.len() < len as usize {
@@ -50,8 +50,7 @@ fn read_more<A: Allocator, S: Source>(
     ensures came { OnOk result (GrowsBy count body.old.items body.new.items (S.state source.old) (S.state source.new)) }
     ensures short { IfErr result
         (λ fault. IsCutShort fault count (S.state source.old) (S.state source.new)) }
-    ensures lasts { (fact : S.Fact) → S.lasts source.old fact → S.lasts source.new fact }
-    ensures again { OnOk result (S.can_read source.new) }
+    ensures kept { KeepsSource S.Source result source.old source.new }
 {
     let start = body.len();
     body.resize(start + count, 0)?;
@@ -65,8 +64,7 @@ pub(crate) fn read_bytes<S: Source>(source: &mut S, bytes: &mut [u8]) -> Result<
     ensures short { IfErr result
         (λ fault. IsCutShort fault (length bytes.new) (S.state source.old) (S.state source.new)) }
     ensures takes_none { IfErr result (λ fault. fault ≢ Memory) }
-    ensures lasts { (fact : S.Fact) → S.lasts source.old fact → S.lasts source.new fact }
-    ensures again { OnOk result (S.can_read source.new) }
+    ensures kept { KeepsSource S.Source result source.old source.new }
 {
     match fill(source, bytes) {
         Ok(()) => Ok(()),
@@ -84,8 +82,7 @@ pub(crate) fn read_two<S: Source>(source: &mut S) -> Result<(u32, u32), FrameFau
     ensures short { IfErr result
         (λ fault. IsCutShort fault 8 (S.state source.old) (S.state source.new)) }
     ensures takes_none { IfErr result (λ fault. fault ≢ Memory) }
-    ensures lasts { (fact : S.Fact) → S.lasts source.old fact → S.lasts source.new fact }
-    ensures again { OnOk result (S.can_read source.new) }
+    ensures kept { KeepsSource S.Source result source.old source.new }
 {
     let mut fields = [0; 8];
     read_bytes(source, &mut fields)?;
@@ -103,8 +100,7 @@ pub(crate) fn read_three<S: Source>(source: &mut S) -> Result<(u32, u32, u32), F
     ensures short { IfErr result
         (λ fault. IsCutShort fault 12 (S.state source.old) (S.state source.new)) }
     ensures takes_none { IfErr result (λ fault. fault ≢ Memory) }
-    ensures lasts { (fact : S.Fact) → S.lasts source.old fact → S.lasts source.new fact }
-    ensures again { OnOk result (S.can_read source.new) }
+    ensures kept { KeepsSource S.Source result source.old source.new }
 {
     let mut fields = [0; 12];
     read_bytes(source, &mut fields)?;
@@ -126,8 +122,7 @@ pub(crate) fn pass_over<S: Source>(
     ensures short { IfErr result
         (λ fault. IsCutShort fault len (S.state source.old) (S.state source.new)) }
     ensures takes_none { IfErr result (λ fault. fault ≢ Memory) }
-    ensures lasts { (fact : S.Fact) → S.lasts source.old fact → S.lasts source.new fact }
-    ensures again { OnOk result (S.can_read source.new) }
+    ensures kept { KeepsSource S.Source result source.old source.new }
 {
     let mut came = 0;
     while came < len {

@@ -1,5 +1,5 @@
 //! Frames from a stream of bytes.
-ghost use Rattle.std.specs.Prelude.{◌≢◌, ◌∷◌, IfOk, IfErr, OnOk};
+ghost use Rattle.std.specs.Prelude.{◌≢◌, ◌∷◌, IfOk, IfErr};
 ghost use Rattle.byte_streams.specs.Streams.{Gave};
 ghost use Rattle.frames.specs.FrameValue.{value_of};
 ghost use Rattle.frames.specs.FrameText.{u32_text, text_of};
@@ -7,6 +7,7 @@ ghost use Rattle.frames.specs.Lawful.{IsLawful};
 ghost use Rattle.frames.specs.Refusals.{IsPossible};
 ghost use Rattle.frames.specs.ReadFault.{IsReadRefused};
 ghost use Rattle.frames.specs.NextFrame.{BodyCame, IsBodyRefused, WantsLate};
+ghost use Rattle.frames.specs.Sources.{KeepsSource};
 
 use crate::answer_reader::read_answer;
 use crate::bodies::read_body;
@@ -52,8 +53,7 @@ pub fn read_frame<A: Allocator + Copy, S: Source>(
     ensures refused { IfErr result
         (λ fault. IsReadRefused fault (S.state source.old) (S.state source.new)) }
 
-    ensures lasts { (fact : S.Fact) → S.lasts source.old fact → S.lasts source.new fact }
-    ensures again { OnOk result (S.can_read source.new) }
+    ensures kept { KeepsSource S.Source result source.old source.new }
 {
     let head = read_head(source)?;
     read_rest(alloc, source, head)
@@ -71,8 +71,7 @@ pub(crate) fn read_rest<A: Allocator + Copy, S: Source>(
         (λ f. BodyCame (value_of f) head.kind head.length (S.state source.old) (S.state source.new)) }
     ensures refused { IfErr result
         (λ fault. IsBodyRefused fault head.kind head.length (S.state source.old) (S.state source.new)) }
-    ensures lasts { (fact : S.Fact) → S.lasts source.old fact → S.lasts source.new fact }
-    ensures again { OnOk result (S.can_read source.new) }
+    ensures kept { KeepsSource S.Source result source.old source.new }
 {
     if matches!(head.kind, 2 | 4 | 6) {
         return read_listed(alloc, source, head);
@@ -95,8 +94,7 @@ pub(crate) fn read_listed<A: Allocator, S: Source>(
     ensures refused { IfErr result
         (λ fault. IsBodyRefused fault head.kind head.length (S.state source.old) (S.state source.new)) }
     ensures late { IfErr result (λ fault. WantsLate fault head.kind head.length (S.state source.old)) }
-    ensures lasts { (fact : S.Fact) → S.lasts source.old fact → S.lasts source.new fact }
-    ensures again { OnOk result (S.can_read source.new) }
+    ensures kept { KeepsSource S.Source result source.old source.new }
 {
     match Spelling::of_kind(head.kind) {
         Some(spelling) => {
@@ -118,8 +116,7 @@ pub(crate) fn read_head<S: Source>(source: &mut S) -> Result<Head, FrameFault>
         (λ head. Gave 0 0 (head.kind ∷ u32_text head.length) (S.state source.old) (S.state source.new)) }
     ensures refused { IfErr result
         (λ fault. IsReadRefused fault (S.state source.old) (S.state source.new)) }
-    ensures lasts { (fact : S.Fact) → S.lasts source.old fact → S.lasts source.new fact }
-    ensures again { OnOk result (S.can_read source.new) }
+    ensures kept { KeepsSource S.Source result source.old source.new }
 {
     let mut bytes = [0; 5];
     match fill(source, &mut bytes) {

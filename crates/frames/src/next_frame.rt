@@ -14,6 +14,7 @@ ghost use Rattle.frames.specs.Lawful.{IsU32, IsLawful};
 ghost use Rattle.frames.specs.Refusals.{IsPossible};
 ghost use Rattle.frames.specs.ReadFault.{IsReadRefused};
 ghost use Rattle.frames.specs.NextFrame.{next_value, SaysCoarser, AreCoarserUpTo, AreOthers, numbers_of_ask, IsAskUnder, HearsMore, StayU32, BodyCame, IsBodyRefused, IsStopped};
+ghost use Rattle.frames.specs.Sources.{KeepsSource};
 ghost use Rattle.frames.specs.declared.fault.FrameFault.TheVariants.{BadField};
 
 use crate::bodies::{PIECE, pass_over, read_bytes, read_three};
@@ -71,8 +72,7 @@ pub fn read_next<A: Allocator + Copy, S: Source>(
     ensures refused { IfErr result
         (λ fault. IsReadRefused fault (S.state source.old) (S.state source.new)) }
 
-    ensures lasts { (fact : S.Fact) → S.lasts source.old fact → S.lasts source.new fact }
-    ensures again { OnOk result (S.can_read source.new) }
+    ensures kept { KeepsSource S.Source result source.old source.new }
 {
     let head = read_head(source)?;
     read_behind(alloc, source, head, last)
@@ -91,8 +91,7 @@ fn read_behind<A: Allocator + Copy, S: Source>(
     ensures came { IfOk result (λ next. BodyCame (next_value last.now next) head.kind head.length (S.state source.old) (S.state source.new)) }
     ensures coarser { IfOk result (SaysCoarser last.now) }
     ensures refused { IfErr result (λ fault. IsBodyRefused fault head.kind head.length (S.state source.old) (S.state source.new)) }
-    ensures lasts { (fact : S.Fact) → S.lasts source.old fact → S.lasts source.new fact }
-    ensures again { OnOk result (S.can_read source.new) }
+    ensures kept { KeepsSource S.Source result source.old source.new }
 {
     if head.kind == 3 && head.length as usize == 12 + 4 * last.len() {
         return read_ask(alloc, source, last);
@@ -113,8 +112,7 @@ fn read_ask<A: Allocator + Copy, S: Source>(
     ensures came { IfOk result (λ next. BodyCame (next_value last.now next) 3 (12 + 4 * length last.now) (S.state source.old) (S.state source.new)) }
     ensures coarser { IfOk result (SaysCoarser last.now) }
     ensures refused { IfErr result (λ fault. IsBodyRefused fault 3 (12 + 4 * length last.now) (S.state source.old) (S.state source.new)) }
-    ensures lasts { (fact : S.Fact) → S.lasts source.old fact → S.lasts source.new fact }
-    ensures again { OnOk result (S.can_read source.new) }
+    ensures kept { KeepsSource S.Source result source.old source.new }
 {
     let (round, shard, count) = read_three(source)?;
     let mut buffer = [0; PIECE];
@@ -190,8 +188,7 @@ fn read_numbers<A: Allocator + Copy, S: Source>(
     ensures fit { IfOk result (λ heard. All IsU32 last.now → All IsU32 (numbers_of_ask last.now heard.numbers)) }
     ensures stopped { IfErr result
         (λ fault. IsStopped fault (4 * length last.now) (S.state source.old) (S.state source.new)) }
-    ensures lasts { (fact : S.Fact) → S.lasts source.old fact → S.lasts source.new fact }
-    ensures again { OnOk result (S.can_read source.new) }
+    ensures kept { KeepsSource S.Source result source.old source.new }
 {
     let mut numbers = None;
     let mut are_coarser = true;

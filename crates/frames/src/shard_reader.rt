@@ -7,6 +7,7 @@ ghost use Rattle.frames.specs.NextFrame.{BodyCame, IsBodyRefused, WantsLate, IsS
 ghost use Rattle.frames.specs.declared.fault.FrameFault.TheVariants.{BadField};
 ghost use Rattle.frames.specs.declared.spelling.Spelling.{Spelling};
 ghost use Rattle.frames.specs.Spellings.{size_in, kind_in, spelling_of, FitIn, AreLinksIn, HearsLinks, LinksCame};
+ghost use Rattle.frames.specs.Sources.{KeepsSource};
 
 use crate::bodies::{PIECE, pass_over, read_bytes, read_two};
 use crate::fault::FrameFault;
@@ -33,8 +34,7 @@ pub(crate) fn read_shard<A: Allocator, S: Source>(
     ensures refused { IfErr result (λ fault. IsBodyRefused fault (kind_in spelling) (8 + size_in spelling * most)
         (S.state source.old) (S.state source.new)) }
     ensures late { IfErr result (λ fault. WantsLate fault (kind_in spelling) (8 + size_in spelling * most) (S.state source.old)) }
-    ensures lasts { (fact : S.Fact) → S.lasts source.old fact → S.lasts source.new fact }
-    ensures again { OnOk result (S.can_read source.new) }
+    ensures kept { KeepsSource S.Source result source.old source.new }
 {
     let (number, count) = read_two(source)?;
     let mut buffer = [0; PIECE];
@@ -81,8 +81,7 @@ fn read_links<A: Allocator, S: Source>(
         (λ links. LinksCame spelling count links (S.state source.old) (S.state source.new)) }
     ensures stopped { IfErr result
         (λ fault. IsStopped fault (size_in spelling * count) (S.state source.old) (S.state source.new)) }
-    ensures lasts { (fact : S.Fact) → S.lasts source.old fact → S.lasts source.new fact }
-    ensures again { OnOk result (S.can_read source.new) }
+    ensures kept { KeepsSource S.Source result source.old source.new }
 {
     let mut links = Some(Vec::new(alloc));
     let mut came = 0;
@@ -113,8 +112,7 @@ fn read_piece<A: Allocator, S: Source>(
     ensures heard { OnOk result (HearsLinks spelling piece.new links.old links.new) }
     ensures stopped { IfErr result
         (λ fault. IsStopped fault (size_in spelling * count) (S.state source.old) (S.state source.new)) }
-    ensures lasts { (fact : S.Fact) → S.lasts source.old fact → S.lasts source.new fact }
-    ensures again { OnOk result (S.can_read source.new) }
+    ensures kept { KeepsSource S.Source result source.old source.new }
 {
     make_room(links, count)?;
     read_bytes(source, piece)?;

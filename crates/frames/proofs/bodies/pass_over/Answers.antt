@@ -22,6 +22,6 @@ loop-came-preserved g c =
       within = within;
       room = omega (arith, length-append c.read_bytes.new.bytes (drop c.min-count.result c.loop-came.buffer), length-drop c.min-count.result c.loop-came.buffer, count, most, c.loop-came.invariant.room);
       bytes = bytes_more c.loop-came.came c.min-count.result c.read_bytes.new.bytes _ _ _ c.loop-came.invariant.bytes count c.in_ok-read_bytes.ensures.came;
-      lasts = λ fact held. c.in_ok-read_bytes.ensures.lasts fact (c.loop-came.invariant.lasts fact held);
-      can = c.in_ok-read_bytes.ensures.again;
+      lasts = λ fact held. c.in_ok-read_bytes.ensures.kept.lasts fact (c.loop-came.invariant.lasts fact held);
+      can = c.in_ok-read_bytes.ensures.kept.again;
     }

@@ -64,8 +64,8 @@ loop-came-preserved g c =
       ];
       gave = subst (λ (t : List ℕ). Gave 0 0 t (g.S.Source.state c.args.source.now) (g.S.Source.state c.read_bytes.new.source)) (sym text) (gave_more 0 0 (flat_map u32_text before) piece _ _ _ c.loop-came.invariant.gave c.in_ok-read_bytes.ensures.came);
       fit = λ all. subst (λ (n : ℕ). All IsU32 (numbers_of_ask (take (came + n) last) new)) items (c.in_ok-hear_piece.ensures.fit (c.loop-came.invariant.fit all));
-      lasts = λ fact held. c.in_ok-read_bytes.ensures.lasts fact (c.loop-came.invariant.lasts fact held);
-      can = c.in_ok-read_bytes.ensures.again;
+      lasts = λ fact held. c.in_ok-read_bytes.ensures.kept.lasts fact (c.loop-came.invariant.lasts fact held);
+      can = c.in_ok-read_bytes.ensures.kept.again;
     }
 
 pub stay_coarser-are_coarser-requires-clause-within : goal.stay_coarser-are_coarser-requires-clause-within
