@@ -1,6 +1,6 @@
 -- A solver that takes the picks of a round.
 use Rattle.std.proofs.Common.{◌≡◌, ◌≢◌, ℕ, ◌+◌, ◌<◌, ◌≤◌, ◌^◌, max, ◌↔◌, Bool, true, false, List, [], ◌∷◌, ◌++◌, length, get_or, Contains, Some, None, refl, sym, ap, ◌∙◌, subst, length-append, inl, inr, arith}
-use Rattle.std.specs.Prelude.{Option, AllPairs, filter, ◌==◌}
+use Rattle.std.specs.Prelude.{Option, All, AllPairs, filter, ◌==◌}
 use Rattle.std.specs.List.{AllByRecursion}
 use Rattle.std.proofs.lemmas.Bool.{cases_lt}
 use Rattle.std.proofs.lemmas.Nat.{pow_below}
@@ -10,16 +10,18 @@ use Rattle.links.specs.Link.{EndsUpTo}
 use Rattle.links.specs.Labels.{label_of, AreLabels, AreApart}
 use Rattle.links.proofs.Members.{contains_none}
 use Rattle.round_theory.specs.LinkSet.{LinkSet, IsPartOf, SameLinks, HasNoCycle}
-use Rattle.round_theory.specs.Labelling.{IsLabelling, JoinsOver, IsRelabelling}
+use Rattle.round_theory.specs.Labelling.{IsVertex, IsLabelling, JoinsOver, IsRelabelling}
 use Rattle.round_theory.specs.Offers.{IsPick, Hearing, IsNamed}
 use Rattle.round_theory.proofs.Labels.{labelling_is_labels}
 use Rattle.round_theory.proofs.Relabelling.{apart_by_no_links}
 use Rattle.round_theory.proofs.RoundSteps.{all_pairs_append}
 use Rattle.round_theory.proofs.Steps.{relabelled_by_steps, added_close_no_cycle, pick_is_new}
 use Rattle.round_core.specs.Picks.{Picked, ArePicks, ArePicksOfHearings, AreNoPicks}
-use Rattle.round_core.specs.Solver.{Progress, vertices, IsProgress, IsPastBound, ArePickedOnce, IsMerged}
+use Rattle.round_core.specs.Solver.{Progress, vertices, IsProgress, IsPastBound, ArePickedOnce, IsMerged, IsTurn}
+use Rattle.round_core.specs.declared.solver.Turn.{Turn}
+use Rattle.round_core.specs.declared.solver.Turn.TheVariants.{Merged}
 use Rattle.round_core.specs.Roots.{AreRoots}
-use Rattle.round_core.proofs.Naming.{kept_roots}
+use Rattle.round_core.proofs.Naming.{kept_roots, roots_within}
 use Rattle.round_core.proofs.Picking.{place_of, least_at, each_once}
 
 -- so few rounds that the next one's number fits, and its power of two
@@ -107,6 +109,20 @@ module _ (p q : Progress) (picks : List (Option Link)) (count : ℕ) (is : IsPro
     where
       labels_of : (r : Progress) → IsProgress r → AreLabels r.labels
       labels_of r is_r = labelling_is_labels (vertices r) (Contains r.taken) r.labels is_r.few_vertices is_r.labelling
+
+-- After a turn that merged, what were roots are still vertices, and those of them that still label themselves are the roots.
+module _ (p q : Progress) (picks : List (Option Link)) (turn : Turn) (count : ℕ) (merged_so : turn ≡ Merged count) (did : IsTurn picks p q turn)
+    (roots labels : List ℕ) (are_roots : AreRoots p.labels roots) (new : labels ≡ q.labels) where
+  abbrev to : IsMerged picks count p q
+  to = subst (IsTurn picks p q) merged_so did
+
+  pub still_vertices : All (IsVertex (length labels)) roots
+  still_vertices = roots_within p.labels roots (length labels) (ap length new ∙ to.labelling.each_vertex) are_roots
+
+  pub goes_on_with : (kept : List ℕ) → IsProgress p → ArePicksOfHearings p.labels picks → kept ≡ filter (λ c. label_of labels c == c) roots → IsProgress q × AreRoots q.labels kept
+  goes_on_with kept is heard kept_is =
+      let rest : kept ≡ filter (λ c. label_of q.labels c == c) roots = kept_is ∙ ap (λ (ls : List ℕ). filter (λ c. label_of ls c == c) roots) new in
+      (goes_on p q picks count is heard.0 heard.1 to, subst (AreRoots q.labels) (sym rest) (roots_after p q picks count is heard.0 heard.1 to roots are_roots))
 
 -- where there are picks, some link is taken
 pub some_taken : (picks : List (Option Link)) (links : List Link) → ¬ (AreNoPicks picks) → ArePickedOnce picks links → 0 < length links

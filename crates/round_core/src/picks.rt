@@ -9,6 +9,7 @@ ghost use Rattle.round_core.specs.LookedUp.{IsLookedUp, IsCountable, CountsFound
 
 use crate::end_labels::EndLabels;
 use crate::own_picks::take_by_parts;
+use links::sorting::wide;
 use links::{Answer, Cut, Link};
 use std::alloc::{AllocError, Allocator, Global};
 use std::marker::Model;
@@ -273,13 +274,12 @@ fn clear_each(numbers: &mut [u128], labels: &[u32])
     }
 }
 
-// The number of a link's key. Numbers compare as keys do.
+// The number of a link's key: how far its wide key is above the least number of 128 bits.
 #[inline]
 pub(crate) fn key_number(link: Link) -> u128
     ensures { IsKeyNumber link result }
 {
-    let weight = (i128::from(link.weight) + ABOVE_LEAST) as u128;
-    weight * PER_WEIGHT + u128::from(link.low) * PER_LOW + u128::from(link.high)
+    wide(&link).abs_diff(i128::MIN)
 }
 
 // The pick that a number stands for.

@@ -129,31 +129,15 @@ impl<A: Allocator + Copy + Send + Sync> KeptShard<A> {
         ensures links { self.new.links ≡ self.old.links }
         ensures live { IsLive labels.now self.new }
     {
+        if self.scanned || halvings_of(rt, self.links.len(), labels.as_slice().len()) == 0 {
+            return self.offers(scanner, labels);
+        }
         if !self.has_ends_up_to(labels.n()) {
             return Ok(None);
         }
-        let offers = self.scan_par(rt, scanner, labels)?;
-        Ok(Some(offers))
-    }
-
-    fn scan_par<R: Threads + Sync>(
-        &mut self,
-        rt: &R,
-        scanner: &mut Scanner<A>,
-        labels: &Labels<A>,
-    ) -> Result<Offers<A>, AllocError>
-        requires ends { EndsUpTo (length labels.now) self.old.links }
-        requires live { IsLive labels.now self.old }
-        ensures light { IfOk result (AreLightOffers self.old.links labels.now) }
-        ensures links { self.new.links ≡ self.old.links }
-        ensures live { IsLive labels.now self.new }
-    {
-        if self.scanned || halvings_of(rt, self.links.len(), labels.as_slice().len()) == 0 {
-            return self.scan(scanner, labels);
-        }
         let offers = scanner.scan_par(rt, self.links.as_slice(), labels)?;
         self.scanned = true;
-        Ok(offers)
+        Ok(Some(offers))
     }
 }
 
