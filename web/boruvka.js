@@ -1,4 +1,5 @@
-// Minimum spanning forests by boruvka.wasm, whose calls are proved. It needs WebAssembly with 64-bit memory (Memory64).
+// Minimum spanning forests, and the merges of their clusters, by boruvka.wasm, whose calls are proved. It needs WebAssembly
+// with 64-bit memory (Memory64).
 //
 // Links are a Uint32Array with four words for each: its weight, the lower 32 bits first, and both ends, from 1 on. So a
 // BigInt64Array over the same buffer has the weights at its even places. `module` is the compiled module. Each call has an
@@ -80,6 +81,20 @@ export function forestOfLinks(module, n, links) {
   const answer = call.answer(({ boruvka_forest_within: forest }, memory) => forest(memory, n, BigInt(call.at), BigInt(count)));
   if (answer < 0n) throw refusalOf(module, answer);
   return new Uint32Array(call.buffer, call.at, 4 * Number(answer)).slice();
+}
+
+// The merges of the clusters of n points by links between the vertices 1 to n, as forestOfLinks leaves them: lightest first,
+// without a cycle. Each is three words, a row of a linkage matrix without its height: two clusters, the lower number first, and
+// how many points they have together. The clusters 0 to n - 1 are the points, n + i is what the link at place i joins. So the
+// first n - c rows leave c clusters. Several trees have fewer than n - 1 rows.
+export function mergesOfLinks(module, n, links) {
+  const count = links.length / 4, rows = aligned(links.byteLength);
+  const call = new Call(module, rows + 12 * count, PAGE + 28 * count + 20 * n), [from, to] = [0, rows].map(it => BigInt(call.at + it));
+  new Uint32Array(call.buffer, call.at, links.length).set(links);
+  const answer = call.answer(({ boruvka_merges_within: merges }, memory) =>
+    merges(memory, n, from, BigInt(count), to, BigInt(count)));
+  if (answer < 0n) throw refusalOf(module, answer);
+  return new Uint32Array(call.buffer, call.at + rows, 3 * count).slice();
 }
 
 // The text of the forest of a .gr text, both as bytes. It is at most one byte longer: an LF at the end.

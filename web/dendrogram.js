@@ -120,6 +120,17 @@ export function countAt({ n, heights }, x, width) {
   return n - kept;
 }
 
+// How many clusters are left so many different heights further down, or up if `steps` is negative.
+export function countBeside({ n, heights }, { kept }, steps) {
+  let at = kept;
+  for (let left = Math.abs(steps); left > 0 && (steps < 0 ? at < heights.length : at > 0); left--) {
+    const height = heights[steps < 0 ? at : at - 1];
+    if (steps < 0) while (heights[at] === height) at++;
+    else while (heights[at - 1] === height) at--;
+  }
+  return n - at;
+}
+
 // The branch at a pixel: the vertices of the highest node there that is whole to the right, as places in the order.
 export function branchAt(shown, x, y, width, height) {
   const { n, heights, merges: { larger, smaller, first, size, roots } } = shown, { scale } = placing(shown, width, height);

@@ -1,27 +1,24 @@
-// What a forest's links join, the lightest first: the merges of single linkage.
+// The tree that a forest's merges make, and an order of the vertices in which each of its nodes stands together.
 
 export const NONE = 0xffffffff; // no number of a colour
 
 // A cluster of fewer points than this has no colour: it is noise.
 export const fewOf = n => Math.max(2, Math.ceil(n / 100));
 
-// Single linkage. The nodes 0 to n - 1 are the vertices, and n + i is what the forest's link at place i joins: `larger` and
-// `smaller`. A node has `size` vertices, and `least` is the least of them. `roots` are the whole trees, the largest first.
-export function mergesOf(n, forest) {
-  const k = forest.length / 4, larger = new Uint32Array(k), smaller = new Uint32Array(k), size = new Uint32Array(n + k).fill(1);
-  const parent = new Uint32Array(n + k).map((_, i) => i), least = parent.slice();
-  const root = node => {
-    while (parent[node] !== node) node = parent[node] = parent[parent[node]];
-    return node;
-  };
+// The tree of single linkage, by its merges as boruvka.js has them. The nodes 0 to n - 1 are the vertices, and n + i is what the
+// merge at place i makes of `larger` and `smaller`. A node has `size` vertices, and `least` is the least of them. `roots` are
+// the whole trees, the largest first.
+export function mergesOf(n, rows) {
+  const k = rows.length / 3, larger = new Uint32Array(k), smaller = new Uint32Array(k), size = new Uint32Array(n + k).fill(1);
+  const nodes = new Uint32Array(n + k).map((_, node) => node), least = nodes.slice(), isPart = new Uint8Array(n + k);
   for (let i = 0; i < k; i++) {
-    const one = root(forest[4 * i + 2] - 1), other = root(forest[4 * i + 3] - 1);
-    [larger[i], smaller[i]] = size[one] < size[other] ? [other, one] : [one, other];
-    parent[one] = parent[other] = n + i;
-    size[n + i] = size[one] + size[other];
-    least[n + i] = Math.min(least[one], least[other]);
+    const first = rows[3 * i], second = rows[3 * i + 1];
+    [larger[i], smaller[i]] = size[first] < size[second] ? [second, first] : [first, second];
+    isPart[first] = isPart[second] = 1;
+    size[n + i] = rows[3 * i + 2];
+    least[n + i] = Math.min(least[first], least[second]);
   }
-  const roots = parent.filter((it, node) => it === node).sort((a, b) => size[b] - size[a] || least[a] - least[b]);
+  const roots = nodes.filter(node => !isPart[node]).sort((a, b) => size[b] - size[a] || least[a] - least[b]);
   return { roots, larger, smaller, size, least, ...ordered(n, roots, larger, smaller, size) };
 }
 

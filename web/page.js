@@ -8,7 +8,7 @@ import { carried, inside } from './address.js';
 import { tellSums } from './card.js';
 import { askColumns } from './choosing.js';
 import { clustersTold, greatest, numbersOf } from './clusters.js';
-import { branchAt, countAt, countAtBar, drawBars, drawDendrogram } from './dendrogram.js';
+import { branchAt, countAt, countAtBar, countBeside, drawBars, drawDendrogram } from './dendrogram.js';
 import { fade } from './fading.js';
 import { onInks } from './inks.js';
 import { Picture, isDrawnAtOnce } from './picture.js';
@@ -23,6 +23,8 @@ const $ = id => document.getElementById(id);
 const MOST_DRAWN = 1_000_000;
 const SLIDER = 99; // clusters more than the least
 const LEAST_PULL = 30; // pixels
+// different heights by which keys move the dendrogram's line
+const STEPS = { ArrowLeft: -1, ArrowDown: -1, PageDown: -10, Home: -Infinity, ArrowRight: 1, ArrowUp: 1, PageUp: 10, End: Infinity };
 
 const picture = new Picture($('picture'));
 let solver;
@@ -101,6 +103,15 @@ function dendrogramTold() {
   return heaviest.length ? `Dendrogram. The heaviest merges are at ${heaviest.join(', ')}.` : 'Dendrogram: no merges yet';
 }
 
+function tellDendrogram() {
+  const { shown, clusters } = state, it = $('dendrogram'), { count, kept } = clusters ?? { count: 1, kept: 0 };
+  it.ariaLabel = dendrogramTold();
+  it.ariaDisabled = String(!clusters);
+  [it.ariaValueMin, it.ariaValueMax, it.ariaValueNow] = (clusters ? [shown.merges.roots.length, shown.n, count] : [1, 1, 1]).map(String);
+  it.ariaValueText = `${count} cluster${count === 1 ? '' : 's'}${kept ? `, joined up to ${weightAt(kept - 1)}` : ''}`;
+  if (it.clientWidth) drawDendrogram(it);
+}
+
 // Once before the next frame, however often the state changes.
 let awaited = 0, drawn = {};
 function tellSoon() {
@@ -121,8 +132,7 @@ function tell() {
   drawn = now;
   tellFigures();
   tellSaving();
-  $('dendrogram').ariaLabel = dendrogramTold();
-  if ($('dendrogram').clientWidth) drawDendrogram($('dendrogram'));
+  tellDendrogram();
   if ($('bars').clientWidth) drawBars($('bars'));
 }
 
@@ -323,7 +333,7 @@ function listenToSheet() {
   }
 }
 
-// A drag moves the dashed line; without a button the branch under the pointer is shown.
+// A drag or a key moves the dashed line; without a button the branch under the pointer is shown.
 function listenToDendrogram() {
   const canvas = $('dendrogram'), canCut = () => state.clusters && state.shown.heights.length;
   const cut = event => canCut() && cutTo(countAt(state.shown, event.offsetX, canvas.clientWidth));
@@ -336,6 +346,12 @@ function listenToDendrogram() {
     else if (canCut()) change({ branch: branchAt(state.shown, event.offsetX, event.offsetY, canvas.clientWidth, canvas.clientHeight) });
   };
   canvas.onpointerleave = () => change({ branch: null });
+  canvas.onkeydown = event => {
+    const { key, altKey, ctrlKey, metaKey } = event;
+    if (!(key in STEPS) || altKey || ctrlKey || metaKey) return;
+    event.preventDefault();
+    if (canCut()) cutTo(countBeside(state.shown, state.clusters, STEPS[key]));
+  };
   $('bars').onpointerdown = event => canCut() && cutTo(countAtBar(state.shown, event.offsetX, $('bars').clientWidth));
 }
 

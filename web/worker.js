@@ -8,12 +8,12 @@
 // - `points`: x and y of each as they came; `places`: where they are drawn, y upwards; both empty for too large a graph
 // - `forest`: links as boruvka.js has them; `heights`: their weights; `isExact`: these were whole numbers; `total`: their sum
 // - `links`: how many were looked at; `merges`: see merges.js; `rounds`: see rounds.js, or null for more than MOST_PLAYED
-// - `isProved`: the module chose the links; `milliseconds` for that; `notes`: what is to be said of the file
+// - `isProved`: the module chose the links, in `milliseconds`, and merged clusters; `notes`: what is to be said of the file
 
-import { Refusal, forestOfLinks, forestOfText } from './boruvka.js';
+import { Refusal, forestOfLinks, forestOfText, mergesOfLinks } from './boruvka.js';
 import { readGeoJson } from './geojson.js';
 import { linksOfForest, linksOfGraph, pointsOfPlaces } from './graphs.js';
-import { forestByKruskal } from './kruskal.js';
+import { forestByKruskal, mergesByKruskal } from './kruskal.js';
 import { placed } from './layout.js';
 import { mergesOf } from './merges.js';
 import { pointsCsv, forestCsv, forestGeoJson, grOf, linkageCsv } from './out.js';
@@ -58,10 +58,12 @@ function linksOfEnds(ends, weights) {
   return links;
 }
 
+const treeOf = (n, forest) => mergesOf(n, module ? mergesOfLinks(module, n, forest) : mergesByKruskal(n, forest));
+
 // What is shown by a forest, with `more` of where it came from.
 function shown(n, forest, begun, more) {
   const milliseconds = performance.now() - begun, { isExact = false, kind, points } = more;
-  const merges = n <= MOST_CUT ? mergesOf(n, forest) : null, isDrawn = n <= MOST_POINTS;
+  const merges = n <= MOST_CUT ? treeOf(n, forest) : null, isDrawn = n <= MOST_POINTS;
   const places = !isDrawn ? new Float64Array() : kind === 'globe' ? drawnGlobe(points) : points ?? placed(n, forest, merges);
   const rounds = n <= MOST_PLAYED ? roundsOf(n, forest) : null, heights = weightsOf(forest, isExact), total = totalOf(forest, isExact);
   const found = { n, forest, merges, rounds, heights, total, milliseconds, isExact, isProved: !!module };

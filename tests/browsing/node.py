@@ -11,34 +11,41 @@ from browsing.files import FAULTS
 from browsing.page import Page, arcs_of, forest_by_program, is_so
 from cases.running import ROOT, SMALL_FOREST, SMALL_NET, Skipped, case, drawn_graph, file_of, forest_text
 
-# It reads { n, links: [[u, v, weight as text], ..], text: base64 } on each line, and answers both forests or refusals.
-SCRIPT = """
+# What a script begins with: it reads { n, links: [[u, v, weight as text], ..], text } on each line.
+HEAD = """
 import { readFileSync } from 'node:fs';
-import { forestOfLinks, forestOfText } from './boruvka.js';
+import { forestOfLinks, forestOfText, mergesOfLinks } from './boruvka.js';
 import { linksOfGraph } from './graphs.js';
-import { forestByKruskal } from './kruskal.js';
+import { forestByKruskal, mergesByKruskal } from './kruskal.js';
 import { grOf } from './out.js';
 const module = await WebAssembly.compile(readFileSync(process.argv[2]));
 const told = call => { try { return call(); } catch (error) { return error.message; } };
-for (const line of readFileSync(0, 'utf8').split('\\n').filter(Boolean)) {
+const read = line => {
     const { n, links: rows, text } = JSON.parse(line);
     const links = new Uint32Array(4 * rows.length), weights = new BigInt64Array(links.buffer);
     rows.forEach(([u, v, weight], i) => { weights[2 * i] = BigInt(weight); links[4 * i + 2] = u; links[4 * i + 3] = v; });
-    const byLinks = told(() => {
-        const found = forestOfLinks(module, n, links), weight = new BigInt64Array(found.buffer);
-        return Array.from({ length: found.length / 4 }, (_, i) => [String(weight[2 * i]), found[4 * i + 2], found[4 * i + 3]]);
-    });
+    return { n, links, text };
+};
+const given = readFileSync(0, 'utf8').split('\\n').filter(Boolean).map(read);
+const linksOut = links => {
+    const weight = new BigInt64Array(links.buffer);
+    return Array.from({ length: links.length / 4 }, (_, i) => [String(weight[2 * i]), links[4 * i + 2], links[4 * i + 3]]);
+};
+"""
+# Its `text` is base64. It answers both forests or refusals.
+FORESTS = """
+for (const { n, links, text } of given) {
+    const byLinks = told(() => linksOut(forestOfLinks(module, n, links)));
     const byText = told(() => Buffer.from(forestOfText(module, Buffer.from(text, 'base64'))).toString('base64'));
-    const read = told(() => linksOfGraph(Buffer.from(text, 'base64')));
-    const unproved = read.links ? Buffer.from(await grOf(read.n, forestByKruskal(read.n, read.links)).text()).toString('base64') : read;
+    const graph = told(() => linksOfGraph(Buffer.from(text, 'base64')));
+    const unproved = graph.links ? Buffer.from(await grOf(graph.n, forestByKruskal(graph.n, graph.links)).text()).toString('base64') : graph;
     console.log(JSON.stringify({ byLinks, byText, unproved }));
 }
 """
 
 
-def answers(room, rows):
-    """What the module answers: of each row (n, arcs, text) the forest of its arcs and that of its text, or their refusals.
-    And what the scripts answer that stand in for it where a browser can't run it."""
+def told_by_node(room, script, rows):
+    """What a script answers, row by row: each is n, arcs (u, v, weight) and a text."""
     node = shutil.which("node")
     if not node:
         raise Skipped("there is no node")
@@ -46,15 +53,25 @@ def answers(room, rows):
         raise Skipped("the module isn't built: `make wasm` builds it")
     folder = modules(room)
     with open(f"{folder}/run.js", "w", encoding="utf-8") as it:
-        it.write(SCRIPT)
-    lines = [json.dumps({"n": n, "links": [[u, v, str(w)] for u, v, w in arcs], "text": base64.b64encode(text).decode()}) for n, arcs, text in rows]
+        it.write(HEAD + script)
+    lines = [json.dumps({"n": n, "links": [[u, v, str(w)] for u, v, w in arcs], "text": text}) for n, arcs, text in rows]
     ended = subprocess.run([node, "--experimental-wasm-memory64", f"{folder}/run.js", Page.module], input="\n".join(lines), capture_output=True, text=True, timeout=600, check=False)
     if ended.returncode:
         raise AssertionError(ended.stderr[-2000:])
-    found = [json.loads(it) for it in ended.stdout.splitlines()]
+    return [json.loads(it) for it in ended.stdout.splitlines()]
+
+
+def links_in(found):
+    """Links (weight, low, high) as a script tells them, or a refusal's text."""
+    return [(int(weight), low, high) for weight, low, high in found] if isinstance(found, list) else found
+
+
+def answers(room, rows):
+    """What the module answers: of each row (n, arcs, text) the forest of its arcs and that of its text, or their refusals.
+    And what the scripts answer that stand in for it where a browser can't run it."""
+    found = told_by_node(room, FORESTS, [(n, arcs, base64.b64encode(text).decode()) for n, arcs, text in rows])
     for it in found:
-        if isinstance(it["byLinks"], list):
-            it["byLinks"] = [(int(weight), low, high) for weight, low, high in it["byLinks"]]
+        it["byLinks"] = links_in(it["byLinks"])
         for key in ("byText", "unproved"):
             try:
                 it[key] = base64.b64decode(it[key], validate=True)

@@ -212,14 +212,14 @@ def an_embedded_page_has_no_controls(_room):
 
 @case
 def a_browser_without_memory64(_room):
-    """The same forests by JavaScript, and the page says that this isn't proved."""
+    """The same forests and merges by JavaScript, and the page says that this isn't proved."""
     page = Page.opened()
     is_so((page.text("by"), page.browser.run("return document.getElementById('unproved').hidden")), ("proved code", True))
-    wanted = page.shown(), page.saved("forest.gr")
+    wanted = page.shown(), page.saved("forest.gr"), page.saved("linkage.csv")
     script = page.browser.devtools("Page.addScriptToEvaluateOnNewDocument", source="WebAssembly.validate = () => false")
     try:
         page = Page.opened()
-        is_so((page.shown(), page.saved("forest.gr")), wanted)
+        is_so((page.shown(), page.saved("forest.gr"), page.saved("linkage.csv")), wanted)
         is_so((page.text("by"), page.browser.run("return document.getElementById('unproved').checkVisibility()")), ("JavaScript, not proved", True))
         page.keep("without_memory64")
         page.drop(("small.gr", SMALL_NET))
