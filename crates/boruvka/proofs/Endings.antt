@@ -54,8 +54,7 @@ wants_memory wants s a e f text = record {
   status_is = refl;
   ran = unread s a;
   reported = text;
-  malformed = λ bytes has nothing. tt;
-  lawful = λ bytes has means. refl;
+  judged = record { malformed = λ bytes has nothing. tt; lawful = λ bytes has means. refl };
 }
 
 pub wants_memory_over : (workers shards : ℕ) (wants : Bool) (s : SourceState) (a e f : SinkState) → IsWritten no_memory e f
@@ -69,8 +68,7 @@ wants_memory_over workers shards wants s a e f text = record {
     status_is = refl;
     ran = unread s a;
     reported = text;
-    malformed = λ bytes has nothing. tt;
-    lawful = λ bytes has means. refl;
+    judged = record { malformed = λ bytes has nothing. tt; lawful = λ bytes has means. refl };
     served = λ served. unread s a;
     ends_well = λ served has. refl;
   };
@@ -125,8 +123,7 @@ over_lines over lines shards wants status before after ended result ended_is is 
   status_is = status_by_report status ended result ended_is is;
   ran = ran;
   reported = subst (λ (r : Result Report RunFault). IsReported wants r before.errors after.errors) ended_is reported;
-  malformed = malformed;
-  lawful = lawful;
+  judged = record { malformed = malformed; lawful = lawful };
   served = served;
   ends_well = ends_well;
 }
@@ -284,7 +281,7 @@ refused_status bytes (Err (fault.Write written)) status is first = absurd first
 pub refused_lines : {L : Type 0} (over : Line.Ghosts L) (lines : List L) (shards : ℕ) (wants : Bool) (status : ℕ) (before after : Standard)
     → EndsOver over lines shards wants status before after → HasNoGraph before.source after.source → (status ≡ 1) ⊎ (status ≡ 4)
 refused_lines over lines shards wants status before after ends (bytes, has, nothing) =
-    refused_status bytes ends.result status ends.status_is (ends.malformed bytes has nothing)
+    refused_status bytes ends.result status ends.status_is (ends.judged.malformed bytes has nothing)
 
 -- what was chosen is what the words ask for
 asked_is : (chosen : Options) (words : List (List ℕ)) → chosen.workers ≡ number_of (given words (codes "workers")) 2

@@ -66,15 +66,18 @@ report_of (Err why) = Err why
 
 -- ---- how a run ends
 
+-- a known file that means nothing is answered by its first fault, and one that means a graph isn't refused
+pub record JudgesFile {X : Type 0} (result : Result X RunFault) (before after : SourceState) : Type 0 where
+  pub malformed : (bytes : List ℕ) → HasFile bytes before after → MeansNothing bytes → IsFirstFaultOf bytes result
+  pub lawful : (bytes : List ℕ) → HasFile bytes before after → MeansGraph bytes → IsNoRefusal result
+
 -- a run without workers, whose report is wanted or not, had this status, and did to its streams what it says
 pub record EndsWith (wants : Bool) (status : ℕ) (before after : Standard) : Type 0 where
   pub result : Result Report RunFault
   pub status_is : status ≡ status_of_run result
   pub ran : RanPlain result (of_run before) (of_run after)
   pub reported : IsReported wants result before.errors after.errors
-  -- of a source that is known
-  pub malformed : (bytes : List ℕ) → HasFile bytes before.source after.source → MeansNothing bytes → IsFirstFaultOf bytes result
-  pub lawful : (bytes : List ℕ) → HasFile bytes before.source after.source → MeansGraph bytes → IsNoRefusal result
+  pub judged : JudgesFile result before.source after.source
 
 -- the same of a run over these lines, of links cut into so many shards, whatever the workers answer
 pub record EndsOver {L : Type 0} (over : Line.Ghosts L) (lines : List L) (shards : ℕ) (wants : Bool) (status : ℕ)
@@ -83,9 +86,7 @@ pub record EndsOver {L : Type 0} (over : Line.Ghosts L) (lines : List L) (shards
   pub status_is : status ≡ status_of_run result
   pub ran : RanLines over (Even shards) lines result (of_run before) (of_run after)
   pub reported : IsReported wants (report_of result) before.errors after.errors
-  -- of a source that is known
-  pub malformed : (bytes : List ℕ) → HasFile bytes before.source after.source → MeansNothing bytes → IsFirstFaultOf bytes result
-  pub lawful : (bytes : List ℕ) → HasFile bytes before.source after.source → MeansGraph bytes → IsNoRefusal result
+  pub judged : JudgesFile result before.source after.source
   -- where each line is new and carries its worker's session
   pub served : AreServed over lines → RanServed (Even shards) result (of_run before) (of_run after)
   pub ends_well : AreServed over lines → EndsWell (Even shards) result (of_run before) (of_run after)
@@ -128,6 +129,12 @@ asked_of chosen = record {
   progress = chosen.progress;
   file = option_map string_bytes chosen.file;
 }
+
+-- a run that is asked for keeps as much of its streams, and one without workers isn't ended by what workers answered
+pub record KeepsAsked {I O E : Type 0} (sink_of : O → SinkState) (unflushed_of : O → Option (List ℕ)) (asked : Asked) (status : ℕ)
+    (before : StandardStreams I O E) (after : Left I O E) : Type 0 where
+  pub streams : KeepsStreams sink_of unflushed_of asked.report status before after
+  pub plain_status : asked.plain ≡ true → status ≤ 4
 
 -- a source of which nothing is known
 abbrev pub uncounted : SourceState

@@ -1,11 +1,10 @@
 //! What the program does.
-ghost use Rattle.std.specs.Prelude.{◌≡◌, ◌≢◌, ◌≤◌, ◌⊎◌, ℕ, List, [], map, length, All, IsSome, OnOk, true, false, codes};
+ghost use Rattle.std.specs.Prelude.{◌≡◌, ◌≢◌, ◌≤◌, ◌⊎◌, [], map, length, All, IsSome, OnOk, true, false, codes};
 ghost use Rattle.std.specs.IoError.{error_kind};
 ghost use Rattle.limits.specs.declared.TheConstants.{MAX_WORKERS};
 ghost use Rattle.byte_streams.specs.Streams.{IsFlushed};
 ghost use Rattle.clap.specs.Words.{kind_of};
 ghost use Rattle.wires.specs.Lines.{HasRoom};
-ghost use Rattle.plain_run.specs.Files.{HasFile, MeansGraph, MeansNothing, IsFirstFaultOf, IsNoRefusal};
 ghost use Rattle.plain_run.specs.Outcomes.{known};
 ghost use Rattle.plain_run.specs.PlainRun.{RanPlain};
 ghost use Rattle.forest_run.specs.LinesRun.{HasGraphToCut};
@@ -15,7 +14,7 @@ ghost use Rattle.tcp_lines.specs.Lines.{tcp_line, unused};
 ghost use Rattle.program_words.specs.Arguments.{IsMistake, file_named, is_set, refusals};
 ghost use Rattle.program_words.specs.Messages.{IsWritten, message_line, no_text_line};
 ghost use Rattle.boruvka.specs.Streams.{AreReady, OnThree, OnStreams, OnInput, OnOutput, SameInput};
-ghost use Rattle.boruvka.specs.Status.{asked_of, status_of_run, report_of, IsReported, KeepsStreams, EndsOver, EndsAs, EndsOnSource, Obeys, ObeysWords};
+ghost use Rattle.boruvka.specs.Status.{asked_of, status_of_run, report_of, IsReported, JudgesFile, KeepsStreams, KeepsAsked, EndsOver, EndsAs, EndsOnSource, Obeys, ObeysWords};
 ghost use Rattle.boruvka.specs.Status.{HasNoGraph, IsDone, LeavesOutput, IsUntouched, AskForHelp, AskForVersion, AreWrong, HelpEnds, RefusesWords, EndsRefused};
 
 use crate::progress::Watched;
@@ -143,10 +142,7 @@ fn run_here<R: Alloc<A = Global> + Threads + Sync, I: Source, O: Sink>(
     requires output { O.can_write output.old }
     ensures ran { RanPlain result
         (known I.state O.state input.old output.old) (known I.state O.state input.new output.new) }
-    ensures malformed { (bytes : List ℕ) → HasFile bytes (I.state input.old) (I.state input.new)
-        → MeansNothing bytes → IsFirstFaultOf bytes result }
-    ensures lawful { (bytes : List ℕ) → HasFile bytes (I.state input.old) (I.state input.new)
-        → MeansGraph bytes → IsNoRefusal result }
+    ensures judged { JudgesFile result (I.state input.old) (I.state input.new) }
     ensures flushed { OnOk result (IsFlushed (O.unflushed output.new)) }
 {
     if threads < 2 {
@@ -174,8 +170,7 @@ where
     requires streams { AreReady I.can_read O.can_write E.can_write io }
     ensures ends { OnStreams I.state O.state E.state (EndsAs chosen.now.plain (asked_of chosen.now) result)
         io.entry io.exit }
-    ensures kept { KeepsStreams O.state O.unflushed chosen.now.report result io.entry io.exit }
-    ensures plain_status { chosen.now.plain ≡ true → result ≤ 4 }
+    ensures kept { KeepsAsked O.state O.unflushed (asked_of chosen.now) result io.entry io.exit }
 {
     let alloc = rt.alloc();
     if chosen.plain {
@@ -221,8 +216,7 @@ where
     requires progress { P.can_write progress.old }
     ensures ends { OnStreams I.state O.state E.state (EndsOnSource chosen.now.progress (asked_of chosen.now) result)
         io.entry io.exit }
-    ensures kept { KeepsStreams O.state O.unflushed chosen.now.report result io.entry io.exit }
-    ensures plain_status { chosen.now.plain ≡ true → result ≤ 4 }
+    ensures kept { KeepsAsked O.state O.unflushed (asked_of chosen.now) result io.entry io.exit }
     ensures untold { chosen.now.progress ≡ false → progress.new ≡ progress.old }
 {
     if !chosen.progress {
@@ -283,8 +277,7 @@ where
     // A file that is refused or can't be cut, want of memory and answers that make no forest write nothing to the
     // output. Where the run ends well none of its bytes waits for a flush, where that is known, and the errors get the
     // report alone.
-    ensures kept { KeepsStreams O.state O.unflushed chosen.now.report result io.entry io.exit }
-    ensures plain_status { chosen.now.plain ≡ true → result ≤ 4 }
+    ensures kept { KeepsAsked O.state O.unflushed (asked_of chosen.now) result io.entry io.exit }
     ensures untold { chosen.now.progress ≡ false → progress.new ≡ progress.old }
 {
     let Some(name) = &chosen.file else {

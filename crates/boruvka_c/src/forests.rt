@@ -1,7 +1,5 @@
 //! The forest of links in the caller's memory.
-ghost use Rattle.std.specs.Prelude.{◌≡◌, ◌≤ℤ◌, pos};
-ghost use Rattle.std.specs.Int.Signed.{◌<ℤ◌};
-ghost use Rattle.caller_forests.specs.Links.{FindsForest, RefusesLinks};
+ghost use Rattle.caller_forests.specs.Links.{AnswersForest};
 
 use caller_forests::{GivenLink, put_forest};
 use std::alloc::Global;
@@ -14,11 +12,7 @@ use std::alloc::Global;
 /// [`put_forest`] does.
 #[unsafe(no_mangle)]
 pub extern "C" fn boruvka_forest(alloc: Global, n: u32, links: &mut [GivenLink]) -> i64
-    ensures found { pos 0 ≤ℤ result → FindsForest n links.old links.new result }
-
-    // Too many vertices, or else too many links, or else an end that is no vertex; only where none of these is, memory.
-    ensures refused { result <ℤ pos 0 → RefusesLinks n links.old result }
-    ensures untouched { result <ℤ pos 0 → links.new ≡ links.old }
+    ensures { AnswersForest n links.old links.new result }
 {
     put_forest(alloc, n, links)
 }

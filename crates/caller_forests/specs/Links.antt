@@ -1,5 +1,6 @@
 -- Links in the caller's memory, and what becomes of them.
-use Rattle.std.specs.Prelude.{◌≡◌, ℕ, ℤ, pos, ◌<◌, ◌≤◌, List, ◌++◌, map, drop, length, All}
+use Rattle.std.specs.Prelude.{◌≡◌, ℕ, ℤ, pos, ◌<◌, ◌≤◌, ◌≤ℤ◌, List, ◌++◌, map, drop, length, All}
+use Rattle.std.specs.Int.Signed.{◌<ℤ◌}
 use Rattle.limits.specs.declared.TheConstants.{MAX_ARCS, MAX_VERTICES}
 use Rattle.links.specs.Arc.{Arc}
 use Rattle.links.specs.Link.{AreLinksOf}
@@ -57,3 +58,10 @@ FindsForest n before after answer = AreRight n before × ((count : ℕ) × (answ
 -- the answer is the code of why there is none
 abbrev pub RefusesLinks : ℕ → List GivenLink → ℤ → Type 0
 RefusesLinks n given answer = (why : Refusal) × (answer ≡ code_of why) × IsLinksRefusal n given why
+
+-- the forest stands first, or the answer is the code of why there is none, and the links are as they were
+pub record AnswersForest (n : ℕ) (before after : List GivenLink) (answer : ℤ) : Type 0 where
+  pub found : pos 0 ≤ℤ answer → FindsForest n before after answer
+  -- too many vertices, or else too many links, or else an end that is no vertex; only where none of these is, memory
+  pub refused : answer <ℤ pos 0 → RefusesLinks n before answer
+  pub untouched : answer <ℤ pos 0 → after ≡ before

@@ -1,9 +1,11 @@
 -- Texts in the caller's memory.
-use Rattle.std.specs.Prelude.{◌≡◌, ◌≢◌, ℕ, ◌-◌, ℤ, pos, ◌≤ℤ◌, ◌⊎◌, List, [], ◌∷◌, ◌++◌, take, drop, length, codes}
+use Rattle.std.specs.Prelude.{◌≡◌, ◌≢◌, ℕ, ◌-◌, ◌≤◌, ℤ, pos, ◌≤ℤ◌, ◌⊎◌, List, [], ◌∷◌, ◌++◌, take, drop, length, codes}
+use Rattle.std.specs.Int.Signed.{◌<ℤ◌}
+use Rattle.limits.specs.declared.TheConstants.{MAX_BYTES}
 use Rattle.gr_text.specs.Fault.{IsFirstFault}
 use Rattle.gr_text.specs.declared.faults.GrKind.{GrKind}
 use Rattle.gr_text.specs.declared.faults.ReadFault.TheVariants as read
-use Rattle.plain_run.specs.Files.{IsForestTextOf, IsFaultInMemory}
+use Rattle.plain_run.specs.Files.{MeansGraph, MeansNothing, IsForestTextOf, IsFaultInMemory}
 use Rattle.plain_run.specs.declared.fault.RunFault.{RunFault}
 use Rattle.plain_run.specs.declared.fault.RunFault.TheVariants as run
 use Rattle.caller_forests.specs.declared.faults.Fault.{Fault}
@@ -67,3 +69,14 @@ GivesFirstFault bytes fault = ((kind : GrKind) × IsFirstFault bytes fault.line 
 -- the answer is no refusal but want of memory
 abbrev pub WantsMemoryAtMost : ℤ → Type 0
 WantsMemoryAtMost answer = (pos 0 ≤ℤ answer) ⊎ (answer ≡ code_of NoMemory)
+
+-- the text of the forest of a text was put into the room, or the fault is why there is none, and the room is as it was
+pub record AnswersText (text before after : List ℕ) (fault : Fault) (answer : ℤ) : Type 0 where
+  pub written : pos 0 ≤ℤ answer → WritesForestText text before after answer
+  pub faultless : pos 0 ≤ℤ answer → fault ≡ no_fault
+  -- a refusal is a fault that reading the text meets, or want of memory
+  pub refused : answer <ℤ pos 0 → RefusesText text answer fault
+  pub untouched : answer <ℤ pos 0 → after ≡ before
+  -- a text that means no graph is refused by its first fault, one that does isn't, but for want of memory
+  pub malformed : length text ≤ MAX_BYTES → MeansNothing text → GivesFirstFault text fault
+  pub lawful : MeansGraph text → WantsMemoryAtMost answer

@@ -1,7 +1,6 @@
 //! The forest of links in the caller's memory.
-ghost use Rattle.std.specs.Prelude.{◌≡◌, ◌≤◌, ◌≤ℤ◌, pos, IfOk, IfErr, OnOk, OnErr};
-ghost use Rattle.std.specs.Int.Signed.{◌<ℤ◌};
-ghost use Rattle.caller_forests.specs.Links.{AreRight, HoldsForest, IsLinksRefusal, FindsForest, RefusesLinks};
+ghost use Rattle.std.specs.Prelude.{◌≡◌, ◌≤◌, IfOk, IfErr, OnOk, OnErr};
+ghost use Rattle.caller_forests.specs.Links.{AreRight, HoldsForest, IsLinksRefusal, AnswersForest};
 
 use crate::given::{GivenLink, have_ends, links_of, put_first};
 use crate::refusals::Refusal;
@@ -47,11 +46,7 @@ fn find_forest<A: Allocator + Copy>(
 /// The links may come in any order, with their ends in either order, as loops and more than once. It takes the time of
 /// [`forest_of`], two passes over the links beside, and its memory, with 16 bytes a link for the list that it works in.
 pub fn put_forest<A: Allocator + Copy>(alloc: A, n: u32, links: &mut [GivenLink]) -> i64
-    ensures found { pos 0 ≤ℤ result → FindsForest n links.old links.new result }
-
-    // Too many vertices, or else too many links, or else an end that is no vertex; only where none of these is, memory.
-    ensures refused { result <ℤ pos 0 → RefusesLinks n links.old result }
-    ensures untouched { result <ℤ pos 0 → links.new ≡ links.old }
+    ensures { AnswersForest n links.old links.new result }
 {
     match find_forest(alloc, n, links) {
         Ok(count) => count as i64,

@@ -1,12 +1,8 @@
 //! The text of the forest of a text in the caller's memory.
-ghost use Rattle.std.specs.Prelude.{◌≡◌, ◌≤◌, ◌≤ℤ◌, pos, length};
-ghost use Rattle.std.specs.Int.Signed.{◌<ℤ◌};
-ghost use Rattle.plain_run.specs.Files.{MeansGraph, MeansNothing};
-ghost use Rattle.caller_forests.specs.Texts.{WritesForestText, RefusesText, GivesFirstFault, WantsMemoryAtMost, no_fault};
+ghost use Rattle.caller_forests.specs.Texts.{AnswersText};
 
 use crate::faults::Fault;
 use crate::room::fill;
-use limits::MAX_BYTES;
 use plain_run::plain_text;
 use std::alloc::Allocator;
 
@@ -20,16 +16,7 @@ pub fn put_forest_text<A: Allocator + Copy>(
     into: &mut [u8],
     fault: &mut Fault,
 ) -> i64
-    ensures written { pos 0 ≤ℤ result → WritesForestText text.now into.old into.new result }
-    ensures no_fault { pos 0 ≤ℤ result → fault.new ≡ no_fault }
-
-    // A refusal is a fault that reading the text meets, or want of memory.
-    ensures refused { result <ℤ pos 0 → RefusesText text.now result fault.new }
-    ensures untouched { result <ℤ pos 0 → into.new ≡ into.old }
-
-    // A text that means no graph is refused by its first fault, one that does isn't, but for want of memory.
-    ensures malformed { length text.now ≤ MAX_BYTES → MeansNothing text.now → GivesFirstFault text.now fault.new }
-    ensures lawful { MeansGraph text.now → WantsMemoryAtMost result }
+    ensures { AnswersText text.now into.old into.new fault.new result }
 {
     match plain_text(alloc, text) {
         Ok(forest) => {

@@ -8,7 +8,7 @@ use Rattle.port_trait.specs.declared.port.Port as Port
 use Rattle.port_trait.specs.Exchanges.{Exchange, answers_of}
 use Rattle.port_rounds.specs.Lanes.{count_if}
 use Rattle.round_core.specs.BookValue.{BookValue}
-use Rattle.port_rounds.specs.Asks.{AnswersAsks, TakesExchange, AreInRounds, SameFaults, answered}
+use Rattle.port_rounds.specs.Asks.{AnswersAsks, AsksFor, TakesExchange, ClosesPort, AreInRounds, SameFaults, answered}
 
 pub either : (v : Bool) → (v ≡ true) ⊎ (v ≡ false)
 either true = inl refl
@@ -153,3 +153,13 @@ module _ {P A : Type 0} (port : Port.Ghosts P A) (keeping : Exchange → Type 0)
 
     pub asks_then : ComeFirst p.exchanges q.exchanges → AnswersAsks port keeping closing a c (xs ++ ys)
     asks_then first = elim (either (port.state b).is_open) [ inl e ↦ then_open first e | inr e ↦ then_closed e ]
+
+-- no port was asked
+pub none_asked : {P A : Type 0} (port : Port.Ghosts P A) (value : BookValue) (shard : ℕ) (a : P) → AsksFor port value shard a a None
+none_asked port value shard a = record {
+  asked = stayed port (TakesExchange value) (ClosesPort value) a;
+  of_shard = tt;
+  opened = tt;
+  taken = tt;
+  light = tt;
+}

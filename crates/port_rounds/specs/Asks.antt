@@ -1,5 +1,5 @@
 -- What some asks did to a port.
-use Rattle.std.specs.Prelude.{◌≡◌, ℕ, ◌+◌, ◌<◌, ◌≤◌, ◌⊎◌, true, false, List, [], ◌++◌, length, map, All, AllPairs, IsSome, Option, Some, None, option_to_list}
+use Rattle.std.specs.Prelude.{◌≡◌, ℕ, ◌+◌, ◌<◌, ◌≤◌, ◌⊎◌, true, false, List, [], ◌++◌, length, map, All, AllPairs, IsSome, IfSome, Option, Some, None, option_to_list}
 use Rattle.links.specs.AnswerValue.{AnswerValue}
 use Rattle.round_core.specs.BookValue.{BookValue, refusal, is_taken}
 use Rattle.port_trait.specs.declared.port.Port as Port
@@ -111,3 +111,12 @@ pub record AnswersAsks {P A : Type 0} (port : Port.Ghosts P A) (keeping : Exchan
       × closing (port.state after).last (Some exchange))
   pub why_honest : port.honest before → (port.state before).is_open ≡ true → (port.state after).is_open ≡ false
       → MoreFaults (port.state before) (port.state after)
+
+-- what a ferry's ask of an open port for a shard did, and its answer if that is kept: the book takes it, the port stays open, and
+-- an honest port's is light
+pub record AsksFor {P A : Type 0} (port : Port.Ghosts P A) (value : BookValue) (shard : ℕ) (before after : P) (kept : Option AnswerValue) : Type 0 where
+  pub asked : AnswersAsks port (TakesExchange value) (ClosesPort value) before after (option_to_list kept)
+  pub of_shard : IfSome kept (λ a. a.shard ≡ shard)
+  pub opened : IfSome kept (λ a. (port.state after).is_open ≡ true)
+  pub taken : IfSome kept (Takes value)
+  pub light : IfSome kept (λ a. port.honest before → IsLight value a)

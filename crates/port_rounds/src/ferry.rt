@@ -1,10 +1,10 @@
 //! The ferries of a pass: one thread a lane, which asks the lane's port for the shards that its seat wins.
 ghost use Rattle.std.specs.List.{AllZip};
-ghost use Rattle.std.specs.Prelude.{◌≡◌, ◌-◌, ◌<◌, ◌≤◌, ◌^◌, ◌++◌, length, All, IfSome, option_to_list, true, false};
+ghost use Rattle.std.specs.Prelude.{◌≡◌, ◌-◌, ◌<◌, ◌≤◌, ◌^◌, ◌++◌, length, All, option_to_list, true, false};
 ghost use Rattle.claim_board.specs.Machine.{held};
 ghost use Rattle.limits.specs.declared.TheConstants.{MAX_SHARDS, MAX_WORKERS};
 ghost use Rattle.round_core.specs.BookValue.{is_taken};
-ghost use Rattle.port_rounds.specs.Asks.{AnswersAsks, TakesExchange, ClosesPort, Takes, IsLight, shards_of};
+ghost use Rattle.port_rounds.specs.Asks.{AsksFor, shards_of};
 ghost use Rattle.port_rounds.specs.Bounds.{IsAskable, IsBoardOf};
 ghost use Rattle.port_rounds.specs.Ferries.{IsReady, RunsFerry, seated_lane, first_of, shard_at};
 
@@ -37,12 +37,7 @@ impl<'a, A: Allocator> Ferries<'a, A> {
         requires cut { (P.state port.old).cut ≡ self.now.book.now.cut }
         requires room { (P.state port.old).asks < 2 ^ 64 - 1 }
         requires opened { (P.state port.old).is_open ≡ true }
-        ensures asked { AnswersAsks P.Port (TakesExchange self.now.book.now) (ClosesPort self.now.book.now)
-            port.old port.new (option_to_list result) }
-        ensures shard { IfSome result (λ a. a.shard ≡ shard) }
-        ensures opened { IfSome result (λ _. (P.state port.new).is_open ≡ true) }
-        ensures taken { IfSome result (Takes self.now.book.now) }
-        ensures light { IfSome result (λ a. P.honest port.old → IsLight self.now.book.now a) }
+        ensures { AsksFor P.Port self.now.book.now shard port.old port.new result }
     {
         laws::light_offers_are_taken();
         let book = self.book;
@@ -56,7 +51,7 @@ impl<'a, A: Allocator> Ferries<'a, A> {
         Some(answer)
     }
 
-    #[tactic(auto, using(crate::proofs::AsksThen::stayed))]
+    #[tactic(auto, using(crate::proofs::AsksThen::none_asked))]
     // Claims a shard that the book misses, and asks the port for it. Where no answer is kept, the shard is given back.
     fn claim_and_ask<P: Port<A>>(
         &self,
@@ -70,13 +65,8 @@ impl<'a, A: Allocator> Ferries<'a, A> {
         requires room { (P.state port.old).asks < 2 ^ 64 - 1 }
         requires opened { (P.state port.old).is_open ≡ true }
         ensures seat { (seat.new.board ≡ seat.old.board) × (seat.new.number ≡ seat.old.number) }
-        ensures asked { AnswersAsks P.Port (TakesExchange self.now.book.now) (ClosesPort self.now.book.now)
-            port.old port.new (option_to_list result) }
+        ensures asks { AsksFor P.Port self.now.book.now shard port.old port.new result }
         ensures held { held seat.new.events ≡ held seat.old.events ++ shards_of (option_to_list result) }
-        ensures shard { IfSome result (λ a. a.shard ≡ shard) }
-        ensures opened { IfSome result (λ _. (P.state port.new).is_open ≡ true) }
-        ensures taken { IfSome result (Takes self.now.book.now) }
-        ensures light { IfSome result (λ a. P.honest port.old → IsLight self.now.book.now a) }
     {
         if !self.book.is_missing(shard) {
             return None;

@@ -107,6 +107,11 @@ fn begins_no_frame(fault: FrameFault) -> Result<(), AllocError>
 {
     match fault {
         FrameFault::Memory | FrameFault::Device => Err(AllocError),
-        _ => Ok(()),
+        FrameFault::Ended
+        | FrameFault::Torn
+        | FrameFault::BadKind
+        | FrameFault::BadLength
+        | FrameFault::BadVersion
+        | FrameFault::BadField => Ok(()),
     }
 }

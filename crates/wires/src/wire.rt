@@ -215,6 +215,11 @@ fn want_of(fault: PortFault) -> u64
 {
     match fault {
         PortFault::Memory => 1,
-        _ => 0,
+        PortFault::Down
+        | PortFault::Garbled
+        | PortFault::WrongHello
+        | PortFault::Gave(_)
+        | PortFault::Closed
+        | PortFault::TooOld => 0,
     }
 }

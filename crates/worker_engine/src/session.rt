@@ -136,7 +136,18 @@ fn stopped(served: Served, fault: ServeFault) -> Result<Served, ServeFault>
 {
     match fault {
         ServeFault::Read(FrameFault::Ended) => Ok(served),
-        _ => Err(fault),
+        ServeFault::Read(
+            FrameFault::Torn
+            | FrameFault::Device
+            | FrameFault::Memory
+            | FrameFault::BadKind
+            | FrameFault::BadLength
+            | FrameFault::BadVersion
+            | FrameFault::BadField,
+        )
+        | ServeFault::Write
+        | ServeFault::Memory
+        | ServeFault::TooMany => Err(fault),
     }
 }
 
@@ -217,7 +228,7 @@ fn write_reply<A: Allocator + Copy, W: Sink>(
             Ok(()) => Ok(Written::AnAnswer),
             Err(fault) => Err(fault),
         },
-        _ => unreachable!(),
+        Frame::Hello { .. } | Frame::Shard { .. } | Frame::Ask { .. } => unreachable!(),
     }
 }
 

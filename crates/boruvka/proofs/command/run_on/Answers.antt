@@ -9,19 +9,18 @@ returns-then-chosen-clause-ends g c = as_plain _ _ _ _ _ c.if-chosen.true
       status_is = c.write_end.ensures.status;
       ran = c.run_here-ended.ensures.ran;
       reported = c.write_end.ensures.reported;
-      malformed = c.run_here-ended.ensures.malformed;
-      lawful = c.run_here-ended.ensures.lawful;
+      judged = c.run_here-ended.ensures.judged;
     })
-
-pub returns-then-chosen-clause-plain_status : goal.returns-then-chosen-clause-plain_status
-returns-then-chosen-clause-plain_status g c = λ plain. plain_bound c.run_here-ended.result _ _ _ _ _ c.write_end.ensures.status c.run_here-ended.ensures.ran
 
 pub returns-then-chosen-clause-kept : goal.returns-then-chosen-clause-kept
 returns-then-chosen-clause-kept g c = record {
-  few = run_bound c.run_here-ended.result _ c.write_end.ensures.status;
-  silent = silent_plainly c.run_here-ended.result _ _ _ _ _ c.write_end.ensures.status c.run_here-ended.ensures.ran;
-  flushed = flushed_at_end c.run_here-ended.result _ _ c.write_end.ensures.status c.run_here-ended.ensures.flushed;
-  quiet = c.write_end.ensures.quiet;
+  streams = record {
+    few = run_bound c.run_here-ended.result _ c.write_end.ensures.status;
+    silent = silent_plainly c.run_here-ended.result _ _ _ _ _ c.write_end.ensures.status c.run_here-ended.ensures.ran;
+    flushed = flushed_at_end c.run_here-ended.result _ _ c.write_end.ensures.status c.run_here-ended.ensures.flushed;
+    quiet = c.write_end.ensures.quiet;
+  };
+  plain_status = λ plain. plain_bound c.run_here-ended.result _ _ _ _ _ c.write_end.ensures.status c.run_here-ended.ensures.ran;
 }
 
 pub returns-in_default-clause-ends : goal.returns-in_default-clause-ends

@@ -8,12 +8,12 @@ use Rattle.wires.proofs.steps.hear.Goals as goal
 pub returns-clause-went : goal.returns-clause-went
 returns-clause-went g c =
     let old : LineState = g.L.Line.state c.args.source.now.line in
-    came_of c.read_frame.result old _ (c.read_frame.ensures.lasts (WasSent old.failures old.sent) (omega arith, λ same. Appends-nil old.sent)).1 c.read_frame.ensures.text
+    came_of c.read_frame.result old _ (c.read_frame.ensures.kept.lasts (WasSent old.failures old.sent) (omega arith, λ same. Appends-nil old.sent)).1 c.read_frame.ensures.text
 
 pub returns-clause-broke : goal.returns-clause-broke
 returns-clause-broke g c =
     let old : LineState = g.L.Line.state c.args.source.now.line in
-    broke_of c.read_frame.result old _ (c.read_frame.ensures.lasts (WasSent old.failures old.sent) (omega arith, λ same. Appends-nil old.sent)).1 c.read_frame.ensures.refused
+    broke_of c.read_frame.result old _ (c.read_frame.ensures.kept.lasts (WasSent old.failures old.sent) (omega arith, λ same. Appends-nil old.sent)).1 c.read_frame.ensures.refused
 
 pub returns-clause-faithful : goal.returns-clause-faithful
-returns-clause-faithful g c worker = c.read_frame.ensures.lasts (ServesFor worker)
+returns-clause-faithful g c worker = c.read_frame.ensures.kept.lasts (ServesFor worker)

@@ -1,24 +1,39 @@
-use Rattle.std.proofs.Common.{sym}
+use Rattle.std.proofs.Common.{sym, rules}
 use Rattle.port_rounds.proofs.OneAsk.{honest_taken, some_of_err, none_of_ok, kept_one, refused_one, failed_one}
 use Rattle.port_rounds.proofs.ferry.Ferries.ask_port.Goals as goal
 
-pub returns-in_default-clause-asked : goal.returns-in_default-clause-asked
-returns-in_default-clause-asked g c =
-    failed_one g.P.Port c.args.self.now.book.now c.args.port.now c.round.result c.args.shard c.labels.result.now
-    c.round.ensures c.labels.ensures c.requires.shard c.requires.missed c.requires.opened c.ask.new.self c.in_default.field-0
-    c.in_default.ensures.went c.ask.ensures.honest c.in_default.ensures.sound_fault
+pub returns-in_default : goal.returns-in_default
+returns-in_default g c = record {
+  asked = failed_one g.P.Port c.args.self.now.book.now c.args.port.now c.round.result c.args.shard c.labels.result.now
+      c.round.ensures c.labels.ensures c.requires.shard c.requires.missed c.requires.opened c.ask.new.self c.in_default.field-0
+      c.in_default.ensures.went c.ask.ensures.honest c.in_default.ensures.sound_fault;
+  of_shard = tt;
+  opened = tt;
+  taken = tt;
+  light = tt;
+}
 
-pub returns-then-is_err-clause-asked : goal.returns-then-is_err-clause-asked
-returns-then-is_err-clause-asked g c =
-    refused_one g.P.Port c.args.self.now.book.now c.args.port.now c.round.result c.args.shard c.labels.result.now
-    c.round.ensures c.labels.ensures c.requires.shard c.requires.missed c.requires.opened c.ask.new.self c.shut.new.self c.in-Ok.answer
-    (some_of_err _ c.judge.result c.judge.ensures.refused (sym c.if-is_err.ensures.value))
-    (λ honest. honest_taken c.args.self.now.book.now _ c.round.result c.args.shard c.labels.result.now c.in-Ok.answer c.light_offers_are_taken.ensures c.requires.cut c.round.ensures (sym c.labels.ensures) c.requires.missed (c.in-Ok.ensures.honest_answer honest))
-    c.in-Ok.ensures.went.1 c.in-Ok.ensures.went.2 c.shut.ensures.went c.shut.ensures.shut c.in-Ok.ensures.exchanged c.shut.ensures.exchanged c.ask.ensures.honest c.shut.ensures.honest c.in-Ok.ensures.sound c.shut.ensures.sound
+pub returns-then-is_err : goal.returns-then-is_err
+returns-then-is_err g c = record {
+  asked = refused_one g.P.Port c.args.self.now.book.now c.args.port.now c.round.result c.args.shard c.labels.result.now
+      c.round.ensures c.labels.ensures c.requires.shard c.requires.missed c.requires.opened c.ask.new.self c.shut.new.self c.in-Ok.answer
+      (some_of_err _ c.judge.result c.judge.ensures.refused (sym c.if-is_err.ensures.value))
+      (λ honest. honest_taken c.args.self.now.book.now _ c.round.result c.args.shard c.labels.result.now c.in-Ok.answer c.light_offers_are_taken.ensures c.requires.cut c.round.ensures (sym c.labels.ensures) c.requires.missed (c.in-Ok.ensures.honest_answer honest))
+      c.in-Ok.ensures.went.1 c.in-Ok.ensures.went.2 c.shut.ensures.went c.shut.ensures.shut c.in-Ok.ensures.exchanged c.shut.ensures.exchanged c.ask.ensures.honest c.shut.ensures.honest c.in-Ok.ensures.sound c.shut.ensures.sound;
+  of_shard = tt;
+  opened = tt;
+  taken = tt;
+  light = tt;
+}
 
-pub returns-clause-asked : goal.returns-clause-asked
-returns-clause-asked g c =
-    kept_one g.P.Port c.args.self.now.book.now c.args.port.now c.round.result c.args.shard c.labels.result.now
-    c.round.ensures c.labels.ensures c.requires.shard c.requires.missed c.requires.opened c.ask.new.self c.in-Ok.answer
-    (none_of_ok _ c.judge.result c.judge.ensures.allowed (sym c.if-is_err.ensures.value)) c.in-Ok.ensures.went.0 c.in-Ok.ensures.went.1
-    c.in-Ok.ensures.exchanged c.ask.ensures.honest c.in-Ok.ensures.sound
+pub returns : goal.returns
+returns g c = record {
+  asked = kept_one g.P.Port c.args.self.now.book.now c.args.port.now c.round.result c.args.shard c.labels.result.now
+      c.round.ensures c.labels.ensures c.requires.shard c.requires.missed c.requires.opened c.ask.new.self c.in-Ok.answer
+      (none_of_ok _ c.judge.result c.judge.ensures.allowed (sym c.if-is_err.ensures.value)) c.in-Ok.ensures.went.0 c.in-Ok.ensures.went.1
+      c.in-Ok.ensures.exchanged c.ask.ensures.honest c.in-Ok.ensures.sound;
+  of_shard = search rules;
+  opened = search rules;
+  taken = search rules;
+  light = search rules;
+}

@@ -14,7 +14,7 @@ pub returns-then-not-is_open : goal.returns-then-not-is_open
 returns-then-not-is_open g c =
     let i = c.loop-step.invariant in
     let v = c.in-None.ensures in
-    let both = asks_then _ _ _ _ _ _ _ _ i.asked v.asked (one_round _ _ _ i.asked.keeps v.asked.keeps) in
+    let both = asks_then _ _ _ _ _ _ _ _ i.asked v.asks.asked (one_round _ _ _ i.asked.keeps v.asks.asked.keeps) in
     record {
       asked = rw append-nil at both;
       seat = (v.seat.0 ∙ i.board, v.seat.1 ∙ i.number, v.held ∙ (append-nil _ ∙ i.held));
@@ -49,24 +49,24 @@ loop-step-preserved g c = elim c.match-claim_and_ask.branch [
       let items : c.match-claim_and_ask.kept.items ≡ c.loop-step.kept.items ++ a ∷ [] = ap (λ v. v.items) w.kept-is ∙ w.push_reserved.ensures.items in
       let held : shards_of c.loop-step.kept.items ++ a.shard ∷ [] ≡ shards_of (c.loop-step.kept.items ++ a ∷ []) = sym (map-append (λ t. t.shard) c.loop-step.kept.items (a ∷ [])) in
       rw items (record {
-        asked = asks_then _ _ _ _ _ _ _ _ i.asked v.asked (one_round _ _ _ i.asked.keeps v.asked.keeps);
-        opened = v.opened;
+        asked = asks_then _ _ _ _ _ _ _ _ i.asked v.asks.asked (one_round _ _ _ i.asked.keeps v.asks.asked.keeps);
+        opened = v.asks.opened;
         board = v.seat.0 ∙ i.board;
         number = v.seat.1 ∙ i.number;
         held = v.held ∙ (ap (λ xs. xs ++ a.shard ∷ []) i.held ∙ held);
-        taken = All-append (Takes c.args.self.now.book.now) _ _ i.taken (one (Takes c.args.self.now.book.now) a v.taken);
-        light = λ h. All-append (IsLight c.args.self.now.book.now) _ _ (i.light h) (one (IsLight c.args.self.now.book.now) a (v.light (i.asked.honest_is h)));
+        taken = All-append (Takes c.args.self.now.book.now) _ _ i.taken (one (Takes c.args.self.now.book.now) a v.asks.taken);
+        light = λ h. All-append (IsLight c.args.self.now.book.now) _ _ (i.light h) (one (IsLight c.args.self.now.book.now) a (v.asks.light (i.asked.honest_is h)));
         count = rw (ap vec_len w.kept-is, w.push_reserved.ensures.len) (omega arith);
         capacity = ap vec_capacity w.kept-is ∙ (w.push_reserved.ensures.capacity ∙ i.capacity);
         steps = omega (arith, c.loop-step-test.true);
         way = subst (λ xs. AreOnWay c.first_shard-first.result c.len-shards.result (c.loop-step.step + 1) xs) held
-            (passed_one c.first_shard-first.result c.len-shards.result c.loop-step.step (shards_of c.loop-step.kept.items) a.shard (v.shard ∙ c.next_shard.ensures.shard) i.way);
+            (passed_one c.first_shard-first.result c.len-shards.result c.loop-step.step (shards_of c.loop-step.kept.items) a.shard (v.asks.of_shard ∙ c.next_shard.ensures.shard) i.way);
       }))
   | in-None+else-not-is_open w ↦ (
       let i = c.loop-step.invariant in
       let v = w.in-None.ensures in
       let items : c.match-claim_and_ask.kept.items ≡ c.loop-step.kept.items = ap (λ v. v.items) w.kept-is in
-      let both = asks_then _ _ _ _ _ _ _ _ i.asked v.asked (one_round _ _ _ i.asked.keeps v.asked.keeps) in
+      let both = asks_then _ _ _ _ _ _ _ _ i.asked v.asks.asked (one_round _ _ _ i.asked.keeps v.asks.asked.keeps) in
       rw items (record {
         asked = rw append-nil at both;
         opened = search rules;

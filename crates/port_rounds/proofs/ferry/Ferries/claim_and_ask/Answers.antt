@@ -2,9 +2,8 @@ use Rattle.std.proofs.Common.{◌≡◌, ◌∙◌, [], ◌∷◌, refl, ap, sym
 use Rattle.std.proofs.lemmas.Grind.{common_steps}
 use Rattle.std.proofs.lemmas.List.Elements.{Contains-append_right}
 use Rattle.claim_board.specs.Machine.{held}
-use Rattle.port_rounds.specs.Asks.{TakesExchange, ClosesPort}
 use Rattle.port_rounds.proofs.OneAsk.{not_taken, where_held}
-use Rattle.port_rounds.proofs.AsksThen.{stayed}
+use Rattle.port_rounds.proofs.AsksThen.{none_asked}
 use Rattle.port_rounds.proofs.ferry.Ferries.claim_and_ask.Goals as goal
 
 -- ---- nothing was asked
@@ -12,8 +11,8 @@ use Rattle.port_rounds.proofs.ferry.Ferries.claim_and_ask.Goals as goal
 pub returns-then-not-is_missing-clause-seat : goal.returns-then-not-is_missing-clause-seat
 returns-then-not-is_missing-clause-seat g c = (refl, refl)
 
-pub returns-then-not-is_missing-clause-asked : goal.returns-then-not-is_missing-clause-asked
-returns-then-not-is_missing-clause-asked g c = stayed g.P.Port (TakesExchange c.args.self.now.book.now) (ClosesPort c.args.self.now.book.now) c.args.port.now
+pub returns-then-not-is_missing-clause-asks : goal.returns-then-not-is_missing-clause-asks
+returns-then-not-is_missing-clause-asks g c = none_asked g.P.Port c.args.self.now.book.now c.args.shard c.args.port.now
 
 pub returns-then-not-is_missing-clause-held : goal.returns-then-not-is_missing-clause-held
 returns-then-not-is_missing-clause-held g c = sym (append-nil (held c.args.seat.now.events))
@@ -21,8 +20,8 @@ returns-then-not-is_missing-clause-held g c = sym (append-nil (held c.args.seat.
 pub returns-in_default-clause-seat : goal.returns-in_default-clause-seat
 returns-in_default-clause-seat g c = c.claim.ensures.same
 
-pub returns-in_default-clause-asked : goal.returns-in_default-clause-asked
-returns-in_default-clause-asked g c = stayed g.P.Port (TakesExchange c.args.self.now.book.now) (ClosesPort c.args.self.now.book.now) c.args.port.now
+pub returns-in_default-clause-asks : goal.returns-in_default-clause-asks
+returns-in_default-clause-asks g c = none_asked g.P.Port c.args.self.now.book.now c.args.shard c.args.port.now
 
 pub returns-in_default-clause-held : goal.returns-in_default-clause-held
 returns-in_default-clause-held g c =
@@ -43,7 +42,7 @@ pub returns-clause-seat : goal.returns-clause-seat
 returns-clause-seat g c = c.claim.ensures.same
 
 pub returns-clause-held : goal.returns-clause-held
-returns-clause-held g c = c.in-Won.ensures.list ∙ ap (λ s. held c.args.seat.now.events ++ s ∷ []) (sym c.in-Some.ensures.shard)
+returns-clause-held g c = c.in-Won.ensures.list ∙ ap (λ s. held c.args.seat.now.events ++ s ∷ []) (sym c.in-Some.ensures.of_shard)
 
 -- ---- what the calls ask for
 
