@@ -3,7 +3,6 @@ use Rattle.std.proofs.Common.{◌≡◌, zero, suc, ℕ, ◌+◌, ◌*◌, ◌%�
 use Rattle.std.specs.Int.{bit_at}
 use Rattle.std.specs.Int.Bits.{bit_or}
 use Rattle.std.specs.Int.Signed.{◌<ℤ◌, lt_z}
-use Rattle.std.specs.Ordering.{MatchOrdering}
 use Rattle.std.proofs.lemmas.Int.{ints}
 use Rattle.std.proofs.lemmas.Bool.{cases_eq, cases_lt, true≢false}
 use mir.Val.{bool_byte}
@@ -13,28 +12,14 @@ use Rattle.std.proofs.lemmas.Nat.Bits.{bit_at_or, bit_at-lt}
 use Rattle.std.proofs.lemmas.List.Sorted.{ranks_by, sorted_far}
 use Rattle.std.proofs.lemmas.Cmp.{int_cmp_total}
 use Rattle.links.specs.Arc.{Arc}
-use Rattle.links.specs.Link.{IsAscending, IsBelow, key_of, arc_key}
+use Rattle.links.specs.Link.{IsAscending, key_of, arc_key}
 use Rattle.links.specs.WideKey.{wide_key}
 use Rattle.links.specs.declared.links.Link.{Link}
-use Rattle.links.proofs.Keys.{trichotomy}
-use Rattle.links.proofs.WideKeys.{int_ranks, wide_compares}
+use Rattle.links.proofs.WideKeys.{wide_below, wide_one}
 use Rattle.boruvka_c.specs.declared.candidates.Candidate.{Candidate}
 use Rattle.boruvka_c.specs.Places.{IsLinkAt}
 use Rattle.boruvka_c.specs.Candidates.{IsMarked, AreInKeyOrder, AreOfArcs, HasCandidate, IsLeastOf}
 use Rattle.boruvka_c.proofs.FirstPlaces.{one_key, one_place}
-
--- a link below another one has the smaller number
-wide_below : (l m : Link) → IsBelow l m → wide_key l <ℤ wide_key m
-wide_below l m below =
-    subst (λ r. MatchOrdering r (wide_key l <ℤ wide_key m) (wide_key l ≡ wide_key m) (wide_key m <ℤ wide_key l)) (sym (wide_compares l m) ∙ below) (int_ranks (wide_key l) (wide_key m))
-
--- links of one number are one link
-wide_one : (l m : Link) → wide_key l ≡ wide_key m → l ≡ m
-wide_one l m same = elim (trichotomy l m) [
-  | inl below ↦ let less = wide_below l m below in absurd (omega (arith, ints, less, same))
-  | inr (inl is) ↦ is
-  | inr (inr above) ↦ let less = wide_below m l above in absurd (omega (arith, ints, less, same))
-]
 
 not_less : (x y : ℤ) → is_lt (int_cmp x y) ≡ false → lt_z x y ≡ false
 not_less x y = by_tests (lt_z x y) (lt_z y x)

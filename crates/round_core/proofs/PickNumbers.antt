@@ -1,10 +1,8 @@
 -- The numbers of picks: each link's number stands for it alone, and the lesser of two numbers is that of the lesser link.
-use Rattle.std.proofs.Common.{◌≡◌, ◌≢◌, ℕ, ◌+◌, ◌-◌, ◌*◌, ◌/◌, ◌%◌, ◌^◌, ◌<◌, ◌≤◌, ◌⊎◌, ◌↔◌, min, ℤ, pos, negsuc, Less, List, length, map, get_or, set, Some, None, refl, sym, ap, ◌∙◌, subst, inl, inr, arith}
+use Rattle.std.proofs.Common.{◌≡◌, ◌≢◌, ℕ, ◌+◌, ◌-◌, ◌*◌, ◌/◌, ◌%◌, ◌^◌, ◌<◌, ◌≤◌, ◌⊎◌, ◌↔◌, min, ℤ, pos, negsuc, List, length, map, get_or, set, Some, None, refl, sym, ap, ◌∙◌, subst, inl, inr, arith}
 use Rattle.std.specs.Prelude.{All, ◌+ℤ◌, ◌-ℤ◌, FitsSigned}
 use Rattle.std.specs.Int.{w64, int_wrap}
 use Rattle.std.specs.Int.Signed.{◌<ℤ◌}
-use Rattle.std.specs.Ordering.{int_cmp, MatchOrdering}
-use Rattle.std.specs.declared.cmp.Ordering.{Ordering}
 use Rattle.std.proofs.lemmas.Bool.{cases_lt}
 use Rattle.std.proofs.lemmas.Int.{ints, int_wrap_fits}
 use Rattle.std.proofs.lemmas.List.{length-map, get_or-map, map-set, length-set}
@@ -15,7 +13,7 @@ use Rattle.links.specs.Link.{IsBelow}
 use Rattle.links.specs.Labels.{label_of, AreLabels}
 use Rattle.links.specs.WideKey.{wide_key}
 use Rattle.links.proofs.Keys.{link_eq}
-use Rattle.links.proofs.WideKeys.{int_ranks, wide_compares}
+use Rattle.links.proofs.WideKeys.{wide_below}
 use Rattle.round_core.specs.PickNumbers.{IsKeyNumber, no_pick, IsPickNumber, link_of, pick_in}
 use Rattle.round_core.specs.Picks.{AreNoPicks}
 use Rattle.round_core.proofs.Counts.{IsLesserOf, AreCounted, set_counted}
@@ -82,10 +80,7 @@ key_below_no_pick l k is = omega (arith, ints, is, l.ascending, l.in_limit, l.we
 
 -- of two links the one with the lesser number is below
 pub below_is_less : (l m : Link) (j k : ℕ) → IsKeyNumber l j → IsKeyNumber m k → IsBelow l m → j < k
-below_is_less l m j k l_is m_is below =
-    let less : int_cmp (wide_key l) (wide_key m) ≡ Less = sym (wide_compares l m) ∙ below in
-    let ranks : wide_key l <ℤ wide_key m = subst (λ (o : Ordering). MatchOrdering o (wide_key l <ℤ wide_key m) (wide_key l ≡ wide_key m) (wide_key m <ℤ wide_key l)) less (int_ranks (wide_key l) (wide_key m)) in
-    omega (arith, ints, ranks, l_is, m_is)
+below_is_less l m j k l_is m_is below = let less = wide_below l m below in omega (arith, ints, less, l_is, m_is)
 
 -- so the lesser of a pick's number and a link's is that of the lesser of the two
 pub lesser_is_min : (k m : ℕ) (l : Link) → IsPickNumber k → IsKeyNumber l m → IsPickNumber (min k m) × IsLesserOf (pick_in k) l (pick_in (min k m))

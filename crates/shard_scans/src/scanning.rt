@@ -248,7 +248,8 @@ pub(crate) fn keep_next<A: Allocator + Copy>(links: &[Link], next: LiveLink, tab
 }
 
 // A key of 32 bits: the weight cut off at 2^30 either way, plus its 2^33rd part rounded down. A greater weight has no lesser
-// key. Weights within 2^30 of zero, and farther out those 2^33 apart, are parted by their keys, with no look at the links.
+// key, and where two keys are equal the links decide: so it is no order of its own. Weights within 2^30 of zero, and farther
+// out those 2^33 apart, are parted by their keys, with no look at the links. A label takes 8 bytes so, and 32 with a wide key.
 #[inline]
 pub(crate) fn short_key(weight: i64) -> i32
     ensures { result ≡ short_key weight }
