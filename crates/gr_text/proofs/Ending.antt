@@ -3,7 +3,7 @@ use Rattle.std.proofs.Common.{◌≡◌, ℕ, ◌+◌, ◌≤◌, inl, inr, List
 use Rattle.std.proofs.lemmas.List.{length_push}
 use Rattle.std.proofs.lemmas.Bool.Decides.{leb_tells}
 use Rattle.gr_text.specs.Lines.{with_last, AreLines}
-use Rattle.gr_text.specs.Graph.{GraphValue, with_links}
+use Rattle.gr_text.specs.Graph.{GraphValue}
 use Rattle.gr_text.specs.Fault.{IsFirstFaulty, IsFirstFault, IsEndedFault}
 use Rattle.gr_text.specs.LinesSoFar.{Swap, IsLineFault, IsGraphOfLinesBut, IsLack}
 use Rattle.gr_text.specs.PartialLine.{is_begun}

@@ -1,13 +1,13 @@
 -- Links that are kept of all that were read, when more come and when they are replaced.
-use Rattle.std.proofs.Common.{◌≡◌, ℕ, ◌+◌, ◌≤◌, [], ◌++◌, List, Contains, refl, ap, sym, ◌∙◌, subst, arith, append-nil, length, length-append, Option, Some, None, Result, Ok, Err}
+use Rattle.std.proofs.Common.{◌≡◌, ℕ, ◌+◌, ◌≤◌, [], ◌++◌, List, refl, ap, sym, ◌∙◌, subst, arith, append-nil, length, length-append, Option, Some, None, Result, Ok, Err}
 use Rattle.std.specs.Prelude.{OnOk}
 use Rattle.byte_streams.specs.Streams.{SourceState}
 use Rattle.links.specs.Covers.{IsCoveredBy}
 use Rattle.links.specs.declared.links.Link.{Link}
 use Rattle.links.proofs.Covers.{same_links_cover, cover_of_cover, covers_together}
 use Rattle.gr_text.specs.Graph.{GraphValue, with_links}
-use Rattle.gr_text.specs.LinesSoFar.{LinesSoFarValue, Swap, no_swap, DifferBy, AreKept, Gives}
-use Rattle.gr_text.specs.Reader.{ReaderValue, HasRead, HasReadBut, Stands}
+use Rattle.gr_text.specs.LinesSoFar.{LinesSoFarValue, Swap, DifferBy, AreKept}
+use Rattle.gr_text.specs.Reader.{ReaderValue}
 use Rattle.gr_text.specs.Sourced.{IsReadOf}
 use Rattle.gr_text.specs.Kept.{AreKeptOf, IsKeptReadOf, KeepsOn, HasKept}
 use Rattle.gr_text.specs.declared.faults.ReadFault.{ReadFault}

@@ -9,7 +9,7 @@ use Rattle.gr_text.specs.Fault.{HasLawfulLines}
 use Rattle.gr_text.specs.LinesSoFar.{Swap, no_swap}
 use Rattle.gr_text.specs.Reader.{ReaderValue, HasRead, HasReadBut, IsRead, IsReadBut, StopsBy}
 use Rattle.gr_text.specs.Sourced.{IsReadOf}
-use Rattle.gr_text.specs.Kept.{AreKeptOf, HasKept, HasFollowed, IsKeptReadOf}
+use Rattle.gr_text.specs.Kept.{HasKept, HasFollowed, IsKeptReadOf}
 use Rattle.gr_text.specs.declared.faults.ReadFault.{ReadFault}
 use Rattle.gr_text.specs.declared.faults.ReadFault.TheVariants as fault
 use Rattle.gr_text.proofs.Feeding.{lawful_lines, read_on, stopped_by}

@@ -10,7 +10,7 @@ use Rattle.links.specs.Link.{Key, key_of, arc_key, is_no_loop, AreLinksOf}
 use Rattle.links.specs.declared.links.Link.{Link}
 use Rattle.gr_text.specs.Statement.{Statement, Problem, ArcLine, IsSilent, Says, Say}
 use Rattle.gr_text.specs.Graph.{IsArcOf, AreLawfulLines}
-use Rattle.gr_text.specs.LinesSoFar.{LinesSoFarValue, Counts, Swap, DifferBy, AreKept, Gives, Judges, AddsLink, IsLineFault}
+use Rattle.gr_text.specs.LinesSoFar.{LinesSoFarValue, Counts, Swap, AreKept, Gives, Judges, AddsLink, IsLineFault}
 use Rattle.gr_text.proofs.Alls.{All-push}
 use Rattle.gr_text.proofs.Swaps.{differ_more}
 use Rattle.gr_text.specs.declared.sizes.Size.{Size}

@@ -1,5 +1,5 @@
 -- Links of which some were swapped, when more come; and what is read where none were.
-use Rattle.std.proofs.Common.{◌≡◌, ℕ, ◌+◌, List, [], ◌++◌, refl, ap, sym, ◌∙◌, subst, append_assoc, append-nil, length, Result, Ok, Err}
+use Rattle.std.proofs.Common.{◌≡◌, ℕ, List, [], ◌++◌, refl, ap, sym, ◌∙◌, subst, append_assoc, Result, Ok, Err}
 use Rattle.links.specs.declared.links.Link.{Link}
 use Rattle.gr_text.specs.Graph.{GraphValue, with_links}
 use Rattle.gr_text.specs.LinesSoFar.{Swap, no_swap, DifferBy}

@@ -7,7 +7,7 @@ ghost use Rattle.links.specs.Link.{EndsUpTo};
 use links::Link;
 use std::alloc::{AllocError, Allocator};
 
-/// Looks at the links while they are read, and may replace them by fewer that cover them, as their forest does.
+/// Looks at the links while a source is read, and may replace them by fewer that cover them, as their forest does.
 pub trait Keep<A: Allocator> {
     // What a call rests on.
     ghost ready: { Type 0 } = { Unit {0} };
@@ -18,8 +18,8 @@ pub trait Keep<A: Allocator> {
     // How many links were dropped.
     ghost dropped: { Self → ℕ };
 
-    /// Is asked after a piece was read. `links` are those that are kept so far of a graph of so many vertices and stated arc
-    /// lines. Where it fails, the links may be any, and aren't used.
+    /// Is asked after each read, which may have given few bytes, so a call that does nothing has to be cheap. `links` are
+    /// those kept so far of a graph of so many vertices and stated arc lines. If it fails, they may be any, and aren't used.
     fn keep(&mut self, vertices: u32, arcs: u32, links: &mut Vec<Link, A>) -> Result<(), AllocError>
         requires ready { ready }
         requires few_vertices { vertices ≤ MAX_VERTICES }

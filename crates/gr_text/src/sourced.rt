@@ -51,10 +51,10 @@ pub fn read_graph_upto<S: Source, A: Allocator>(
     read_kept_upto(&mut KeepAll, alloc, source, limit)
 }
 
-/// The graph of a source of at most 2^40 bytes, and the links that a keeper keeps of its links.
+/// The graph of a source of at most 2^40 bytes, with the links that a keeper keeps of all of its links.
 ///
-/// As [`read_graph`], but the keeper is asked after each piece of 64 KiB or less, once the problem line has come. Where it
-/// refuses, the fault is `Memory`.
+/// As [`read_graph`], but the keeper is asked after each read, once the problem line has come. If it fails, the fault is
+/// `Memory`. The memory is that of the links kept and of those of one read, beside what the keeper takes.
 pub fn read_graph_kept<K: Keep<A>, S: Source, A: Allocator>(
     keeper: &mut K,
     alloc: A,
@@ -110,7 +110,7 @@ pub fn read_graph_par<R: Threads + Sync, S: Source, A: Allocator + Copy>(
     read_graph_kept_par(rt, threads, &mut KeepAll, alloc, source)
 }
 
-/// The same with a keeper, which is asked after each of these pieces, as [`read_graph_kept`] asks it.
+/// As [`read_graph_par`], with a keeper that is asked after each read, as [`read_graph_kept`] does.
 pub fn read_graph_kept_par<R: Threads + Sync, K: Keep<A>, S: Source, A: Allocator + Copy>(
     rt: &R,
     threads: usize,

@@ -1,6 +1,6 @@
 use Rattle.std.proofs.Common.{[], subst, cond, Err, ◌∙◌}
 use Rattle.limits.specs.declared.TheConstants.{MAX_BYTES}
-use Rattle.gr_text.specs.Kept.{HasFollowed, HasKept, IsKeptReadOf}
+use Rattle.gr_text.specs.Kept.{HasFollowed, IsKeptReadOf}
 use Rattle.gr_text.proofs.Sourcing.{nothing_fed, nothing_kept, read_to_end}
 use Rattle.gr_text.proofs.sourced.read_graph_kept_par.Goals as goal
 
