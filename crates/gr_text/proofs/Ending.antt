@@ -5,9 +5,9 @@ use Rattle.std.proofs.lemmas.Bool.Decides.{leb_tells}
 use Rattle.gr_text.specs.Lines.{with_last, AreLines}
 use Rattle.gr_text.specs.Graph.{GraphValue}
 use Rattle.gr_text.specs.Fault.{IsFirstFaulty, IsFirstFault, IsEndedFault}
-use Rattle.gr_text.specs.LinesSoFar.{IsLineFault, IsGraphOfLines, IsLack}
+use Rattle.gr_text.specs.LinesSoFar.{Swap, IsLineFault, IsGraphOfLinesBut, IsLack}
 use Rattle.gr_text.specs.PartialLine.{is_begun}
-use Rattle.gr_text.specs.Reader.{ReaderValue, Stands, StopsBy, FailsBy, IsRead}
+use Rattle.gr_text.specs.Reader.{ReaderValue, Stands, StopsBy, FailsBy, IsReadBut}
 use Rattle.gr_text.specs.declared.faults.GrKind.{GrKind}
 use Rattle.gr_text.specs.declared.faults.ReadFault.{ReadFault}
 use Rattle.gr_text.specs.declared.faults.ReadFault.TheVariants as fault
@@ -38,7 +38,7 @@ first_of_ended text number kind (lines, rest, cut, first) =
     )
 
 -- the last line has a fault
-pub last_fault : (e : ReadFault) (limit : ℕ) (r : ReaderValue) (text : List ℕ) → length text ≤ limit → (stands : Stands r text) → is_begun stands.part ≡ true
+pub last_fault : {swap : Swap} (e : ReadFault) (limit : ℕ) (r : ReaderValue) (text : List ℕ) → length text ≤ limit → (stands : Stands swap r text) → is_begun stands.part ≡ true
     → IsLineFault e r.number stands.lines stands.part → FailsBy e limit text
 last_fault (fault.Gr f) limit r text short stands begun (line_is, fits) =
     let first = first_faulty_at stands.lines stands.part [] f.line f.kind (lawful_of r.so_far stands.lines stands.give) (line_is ∙ stands.numbered) fits in
@@ -55,29 +55,29 @@ last_fault fault.TooLong limit r text short stands begun no_such = absurd no_suc
 last_fault fault.Memory limit r text short stands begun any = tt
 
 -- what the lines of the whole text give
-graph_of : (outcome : Result GraphValue ReadFault) (limit : ℕ) (text : List ℕ) (lines : List (List ℕ)) (number : ℕ) → length text ≤ limit → AreLines text lines
-    → number ≡ length lines + 1 → MatchResult outcome (λ graph. IsGraphOfLines lines graph) (λ e. IsLack e number lines) → IsRead limit text outcome
-graph_of (Ok graph) limit text lines number short are numbered (arcs, lawful, links) = (short, (arcs, (lines, are, lawful), links))
-graph_of (Err (fault.Gr f)) limit text lines number short are numbered (line_is, lacks) = inl (short, (lines, are, inr (lacks, line_is ∙ numbered)))
-graph_of (Err (fault.Source k)) limit text lines number short are numbered no_such = no_such
-graph_of (Err fault.TooLong) limit text lines number short are numbered no_such = absurd no_such
-graph_of (Err fault.Memory) limit text lines number short are numbered no_such = absurd no_such
+graph_of : (swap : Swap) (outcome : Result GraphValue ReadFault) (limit : ℕ) (text : List ℕ) (lines : List (List ℕ)) (number : ℕ) → length text ≤ limit → AreLines text lines
+    → number ≡ length lines + 1 → MatchResult outcome (λ graph. IsGraphOfLinesBut swap lines graph) (λ e. IsLack e number lines) → IsReadBut swap limit text outcome
+graph_of swap (Ok graph) limit text lines number short are numbered (all, by, (arcs, lawful, links)) = (all, by, (short, (arcs, (lines, are, lawful), links)))
+graph_of swap (Err (fault.Gr f)) limit text lines number short are numbered (line_is, lacks) = inl (short, (lines, are, inr (lacks, line_is ∙ numbered)))
+graph_of swap (Err (fault.Source k)) limit text lines number short are numbered no_such = no_such
+graph_of swap (Err fault.TooLong) limit text lines number short are numbered no_such = absurd no_such
+graph_of swap (Err fault.Memory) limit text lines number short are numbered no_such = absurd no_such
 
 -- the text ends in a line feed, or is empty
-pub ends_whole : (outcome : Result GraphValue ReadFault) (limit : ℕ) (r : ReaderValue) (text : List ℕ) → length text ≤ limit → (stands : Stands r text)
-    → is_begun stands.part ≡ false → MatchResult outcome (λ graph. IsGraphOfLines stands.lines graph) (λ e. IsLack e r.number stands.lines)
-    → IsRead limit text outcome
-ends_whole outcome limit r text short stands none gives =
-    graph_of outcome limit text stands.lines r.number short (stands.lines, stands.part, stands.cut, sym (with_last-none stands.lines stands.part none))
+pub ends_whole : {swap : Swap} (outcome : Result GraphValue ReadFault) (limit : ℕ) (r : ReaderValue) (text : List ℕ) → length text ≤ limit → (stands : Stands swap r text)
+    → is_begun stands.part ≡ false → MatchResult outcome (λ graph. IsGraphOfLinesBut swap stands.lines graph) (λ e. IsLack e r.number stands.lines)
+    → IsReadBut swap limit text outcome
+ends_whole {swap} outcome limit r text short stands none gives =
+    graph_of swap outcome limit text stands.lines r.number short (stands.lines, stands.part, stands.cut, sym (with_last-none stands.lines stands.part none))
     stands.numbered gives
 
 -- the last line lacks its line feed, and is taken
-pub ends_within : (outcome : Result GraphValue ReadFault) (limit : ℕ) (r : ReaderValue) (text : List ℕ) → length text ≤ limit → (stands : Stands r text)
+pub ends_within : {swap : Swap} (outcome : Result GraphValue ReadFault) (limit : ℕ) (r : ReaderValue) (text : List ℕ) → length text ≤ limit → (stands : Stands swap r text)
     → is_begun stands.part ≡ true
-    → MatchResult outcome (λ graph. IsGraphOfLines (stands.lines ++ stands.part ∷ []) graph) (λ e. IsLack e (r.number + 1) (stands.lines ++ stands.part ∷ []))
-    → IsRead limit text outcome
-ends_within outcome limit r text short stands begun gives =
-    graph_of outcome limit text (stands.lines ++ stands.part ∷ []) (r.number + 1) short
+    → MatchResult outcome (λ graph. IsGraphOfLinesBut swap (stands.lines ++ stands.part ∷ []) graph) (λ e. IsLack e (r.number + 1) (stands.lines ++ stands.part ∷ []))
+    → IsReadBut swap limit text outcome
+ends_within {swap} outcome limit r text short stands begun gives =
+    graph_of swap outcome limit text (stands.lines ++ stands.part ∷ []) (r.number + 1) short
     (stands.lines, stands.part, stands.cut, sym (with_last-begun stands.lines stands.part begun)) (omega (arith, length_push stands.lines stands.part, stands.numbered)) gives
 
 -- what stopped the reader is why the whole text isn't read

@@ -8,7 +8,8 @@ use Rattle.std.proofs.lemmas.Bool.{cases_lt}
 use Rattle.std.proofs.lemmas.Bool.Decides.{eqb_tells}
 use Rattle.gr_text.specs.Lines.{line_feed, IsLine, ended, EndsLines}
 use Rattle.gr_text.specs.Fault.{IsFirstFaulty, IsEndedFault, HasLawfulLines}
-use Rattle.gr_text.specs.Reader.{ReaderValue, Stands, StopsAt, StopsBy, HasRead}
+use Rattle.gr_text.specs.LinesSoFar.{Swap}
+use Rattle.gr_text.specs.Reader.{ReaderValue, Stands, StopsAt, StopsBy, HasReadBut}
 use Rattle.gr_text.specs.declared.faults.GrKind.{GrKind}
 use Rattle.gr_text.specs.declared.faults.ReadFault.{ReadFault}
 use Rattle.gr_text.specs.declared.faults.ReadFault.TheVariants as fault
@@ -52,19 +53,19 @@ StopsBy-more fault.TooLong limit text more (longer, lawful) =
 StopsBy-more fault.Memory limit text more stops = tt
 
 -- what the reader has read, by whether it has a fault
-pub read_on : (reader : ReaderValue) (text : List ℕ) → reader.fault ≡ None → HasRead reader text
-    → (length text ≤ reader.limit) × (length text ≡ reader.fed) × Stands reader text
-read_on reader text is read =
-    subst (λ (f : Option ReadFault). MatchOption f ((length text ≤ reader.limit) × (length text ≡ reader.fed) × Stands reader text) (λ e. StopsBy e reader.limit text)) is read.outcome
+pub read_on : {swap : Swap} (reader : ReaderValue) (text : List ℕ) → reader.fault ≡ None → HasReadBut swap reader text
+    → (length text ≤ reader.limit) × (length text ≡ reader.fed) × Stands swap reader text
+read_on {swap} reader text is read =
+    subst (λ (f : Option ReadFault). MatchOption f ((length text ≤ reader.limit) × (length text ≡ reader.fed) × Stands swap reader text) (λ e. StopsBy e reader.limit text)) is read.outcome
 
-pub stopped_by : (reader : ReaderValue) (e : ReadFault) (text : List ℕ) → reader.fault ≡ Some e → HasRead reader text → StopsBy e reader.limit text
+pub stopped_by : {swap : Swap} (reader : ReaderValue) (e : ReadFault) (text : List ℕ) → reader.fault ≡ Some e → HasReadBut swap reader text → StopsBy e reader.limit text
 stopped_by reader e text is read = rw is at read.outcome
 
-pub has_stopped : (reader : ReaderValue) (e : ReadFault) (text : List ℕ) → reader.fault ≡ Some e → StopsBy e reader.limit text → HasRead reader text
+pub has_stopped : {swap : Swap} (reader : ReaderValue) (e : ReadFault) (text : List ℕ) → reader.fault ≡ Some e → StopsBy e reader.limit text → HasReadBut swap reader text
 has_stopped reader e text is stops = record { outcome = rw is stops }
 
 -- a reader that has stopped
-pub HasRead-fault : (reader : ReaderValue) (e : ReadFault) (text more : List ℕ) → reader.fault ≡ Some e → HasRead reader text → HasRead reader (text ++ more)
+pub HasRead-fault : {swap : Swap} (reader : ReaderValue) (e : ReadFault) (text more : List ℕ) → reader.fault ≡ Some e → HasReadBut swap reader text → HasReadBut swap reader (text ++ more)
 HasRead-fault reader e text more is read = has_stopped reader e (text ++ more) is (StopsBy-more e reader.limit text more (stopped_by reader e text is read))
 
 -- the part of a piece that fits the limit
@@ -90,7 +91,7 @@ pub too_long : (limit fed len : ℕ) (text piece : List ℕ) → length text ≡
 too_long limit fed len text piece counted within is short lawful =
     (omega (arith, length-append text piece), subst HasLawfulLines (sym (fitting limit fed len text piece counted within is)) lawful)
 
-pub lawful_lines : (r : ReaderValue) (text : List ℕ) → Stands r text → HasLawfulLines text
+pub lawful_lines : {swap : Swap} (r : ReaderValue) (text : List ℕ) → Stands swap r text → HasLawfulLines text
 lawful_lines r text stands = (stands.lines, stands.part, stands.cut, lawful_of r.so_far stands.lines stands.give)
 
 -- the line feeds of a text end its lines

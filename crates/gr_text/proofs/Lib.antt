@@ -11,10 +11,12 @@ pub mod Sorts
 pub mod Faulty
 pub mod Cuts
 pub mod ArcLineParts
+pub mod Swaps
 pub mod Standing
 pub mod Feeding
 pub mod Ending
 pub mod Pieces
+pub mod Keeping
 pub mod Sourcing
 pub mod Handing
 pub mod ForestLines

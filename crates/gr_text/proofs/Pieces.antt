@@ -2,32 +2,32 @@
 use Rattle.std.proofs.Common.{◌≡◌, ℕ, ◌+◌, ◌≤◌, List, [], ◌++◌, refl, sym, ◌∙◌, subst, arith, append_assoc, length, length-append, Option, None, false, Result, Ok, Err}
 use Rattle.std.specs.Prelude.{OnOk, MatchOption}
 use Rattle.gr_text.specs.Lines.{EndsLines}
-use Rattle.gr_text.specs.LinesSoFar.{LinesSoFarValue, AddsLines}
+use Rattle.gr_text.specs.LinesSoFar.{LinesSoFarValue, Swap, AddsLines}
 use Rattle.gr_text.specs.PartialLine.{IsKeptAs}
-use Rattle.gr_text.specs.Reader.{ReaderValue, Stands, StopsBy, HasRead, IsFed, TakesPiece}
+use Rattle.gr_text.specs.Reader.{ReaderValue, Stands, StopsBy, HasReadBut, IsFed, TakesPiece}
 use Rattle.gr_text.specs.declared.faults.ReadFault.{ReadFault}
 use Rattle.gr_text.proofs.Cuts.{EndsLines-more}
 use Rattle.gr_text.proofs.Parts.{not_begun}
 use Rattle.gr_text.proofs.Feeding.{HasRead-fault, read_on}
 
 -- whole lines, where no part of a line has come
-pub Stands-lines : (r : ReaderValue) (so_far : LinesSoFarValue) (fed count : ℕ) (text piece : List ℕ) → Stands r text → r.partial.begun ≡ false → AddsLines count piece r.so_far so_far
-    → Stands (record r { fed = fed; number = r.number + count; so_far = so_far }) (text ++ piece)
-Stands-lines r so_far fed count text piece stands fresh adds =
+pub Stands-lines : {swap : Swap} (r : ReaderValue) (so_far : LinesSoFarValue) (fed count : ℕ) (text piece : List ℕ) → Stands swap r text → r.partial.begun ≡ false → AddsLines count piece r.so_far so_far
+    → Stands swap (record r { fed = fed; number = r.number + count; so_far = so_far }) (text ++ piece)
+Stands-lines {swap} r so_far fed count text piece stands fresh adds =
     let none : stands.part ≡ [] = not_begun stands.part (sym stands.kept.0 ∙ fresh) in
     record {
       lines = stands.lines ++ adds.lines;
       part = [];
       cut = EndsLines-more text piece stands.lines adds.lines stands.part [] stands.cut
           (subst (λ (xs : List ℕ). EndsLines (xs ++ piece) adds.lines []) (sym none) adds.cut);
-      give = adds.gives stands.lines stands.give;
+      give = adds.gives swap stands.lines stands.give;
       kept = subst (IsKeptAs r.partial) none stands.kept;
       numbered = omega (arith, length-append stands.lines adds.lines, stands.numbered, adds.each_line);
     }
 
-has_read_on : (reader : ReaderValue) (text : List ℕ) → reader.fault ≡ None → length text ≤ reader.limit → length text ≡ reader.fed → Stands reader text → HasRead reader text
-has_read_on reader text is short counted stands = record {
-  outcome = subst (λ (f : Option ReadFault). MatchOption f ((length text ≤ reader.limit) × (length text ≡ reader.fed) × Stands reader text) (λ e. StopsBy e reader.limit text))
+pub has_read_on : {swap : Swap} (reader : ReaderValue) (text : List ℕ) → reader.fault ≡ None → length text ≤ reader.limit → length text ≡ reader.fed → Stands swap reader text → HasReadBut swap reader text
+has_read_on {swap} reader text is short counted stands = record {
+  outcome = subst (λ (f : Option ReadFault). MatchOption f ((length text ≤ reader.limit) × (length text ≡ reader.fed) × Stands swap reader text) (λ e. StopsBy e reader.limit text))
       (sym is) (short, counted, stands);
 }
 
@@ -38,7 +38,7 @@ lines_taken old so_far count piece none fresh fits adds = record {
   limit = refl;
   within = fits;
   grows = refl;
-  fed = λ text read.
+  fed = λ swap text read.
       let (short, counted, stands) = read_on old text none read in
       has_read_on _ (text ++ piece) none (omega (arith, counted, fits, length-append text piece)) (omega (arith, counted, length-append text piece))
       (Stands-lines old so_far (old.fed + length piece) count text piece stands fresh adds);
@@ -59,7 +59,7 @@ fed_then {X} {Y} x r first second old mid new a b = record {
   limit = b.limit ∙ a.limit;
   within = b.within;
   grows = both r b.grows;
-  fed = λ text read. subst (HasRead new) (append_assoc text first second) (b.fed (text ++ first) (a.fed text read));
+  fed = λ swap text read. subst (HasReadBut swap new) (append_assoc text first second) (b.fed swap (text ++ first) (a.fed swap text read));
   fault = b.fault;
 }
   where
@@ -73,6 +73,6 @@ fed_fault e first second old new a = record {
   limit = a.limit;
   within = a.within;
   grows = a.grows;
-  fed = λ text read. subst (HasRead new) (append_assoc text first second) (HasRead-fault new e (text ++ first) second a.fault (a.fed text read));
+  fed = λ swap text read. subst (HasReadBut swap new) (append_assoc text first second) (HasRead-fault new e (text ++ first) second a.fault (a.fed swap text read));
   fault = a.fault;
 }

@@ -5,7 +5,7 @@ use Rattle.links.specs.declared.links.Link.{Link}
 use Rattle.gr_text.specs.Lines.{IsLine, ended, EndsLines}
 use Rattle.gr_text.specs.Graph.{AreLawfulSoFar}
 use Rattle.gr_text.specs.Fault.{IsFirstFaulty}
-use Rattle.gr_text.specs.LinesSoFar.{LinesSoFarValue, AreKept, Gives, IsLineFault}
+use Rattle.gr_text.specs.LinesSoFar.{LinesSoFarValue, Swap, AreKept, Gives, IsLineFault}
 use Rattle.gr_text.specs.PartialLine.{IsKeptAs}
 use Rattle.gr_text.specs.Reader.{ReaderValue, Stands, StopsAt}
 use Rattle.gr_text.specs.declared.faults.ReadFault.{ReadFault}
@@ -15,8 +15,8 @@ use Rattle.gr_text.specs.declared.sizes.Size.{Size}
 use Rattle.gr_text.proofs.Cuts.{EndsLines-bytes, EndsLines-line, EndsLines-more, cut_of}
 use Rattle.gr_text.proofs.Faulty.{first_faulty_at}
 
-pub lawful_of : (kept : LinesSoFarValue) (lines : List (List ℕ)) → Gives kept lines → AreLawfulSoFar lines
-lawful_of kept lines = lawful_at kept.size kept.count kept.links lines
+pub lawful_of : {swap : Swap} (kept : LinesSoFarValue) (lines : List (List ℕ)) → Gives swap kept lines → AreLawfulSoFar lines
+lawful_of kept lines (all, by, gives) = lawful_at kept.size kept.count all lines gives
   where
     lawful_at : (size : Option Size) (count : ℕ) (links : List Link) (lines : List (List ℕ)) → AreKept size count links lines → AreLawfulSoFar lines
     lawful_at None count links lines (say, zero_count, none) = inl say
@@ -36,7 +36,7 @@ first_faulty lines part more fault.TooLong number lawful numbered no_such text r
 first_faulty lines part more fault.Memory number lawful numbered any text r cut = tt
 
 -- however much the reader was fed
-pub Stands-fed : (r : ReaderValue) (fed : ℕ) (text : List ℕ) → Stands r text → Stands (record r { fed = fed }) text
+pub Stands-fed : {swap : Swap} (r : ReaderValue) (fed : ℕ) (text : List ℕ) → Stands swap r text → Stands swap (record r { fed = fed }) text
 Stands-fed r fed text stands = record {
   lines = stands.lines;
   part = stands.part;
@@ -47,8 +47,8 @@ Stands-fed r fed text stands = record {
 }
 
 -- more bytes of a line
-pub Stands-part : (r : ReaderValue) (partial : PartialLine) (text more : List ℕ) → (stands : Stands r text) → IsLine more → IsKeptAs partial (stands.part ++ more)
-    → Stands (record r { partial = partial }) (text ++ more)
+pub Stands-part : {swap : Swap} (r : ReaderValue) (partial : PartialLine) (text more : List ℕ) → (stands : Stands swap r text) → IsLine more → IsKeptAs partial (stands.part ++ more)
+    → Stands swap (record r { partial = partial }) (text ++ more)
 Stands-part r partial text more stands is_line kept = record {
   lines = stands.lines;
   part = stands.part ++ more;
@@ -59,8 +59,8 @@ Stands-part r partial text more stands is_line kept = record {
 }
 
 -- the rest of a line with its line feed, where the line is taken
-pub Stands-line : (r : ReaderValue) (fresh : PartialLine) (so_far : LinesSoFarValue) (text line : List ℕ) → (stands : Stands r text) → IsLine line → IsKeptAs fresh []
-    → Gives so_far (stands.lines ++ (stands.part ++ line) ∷ []) → Stands (record r { number = r.number + 1; partial = fresh; so_far = so_far }) (text ++ ended line)
+pub Stands-line : {swap : Swap} (r : ReaderValue) (fresh : PartialLine) (so_far : LinesSoFarValue) (text line : List ℕ) → (stands : Stands swap r text) → IsLine line → IsKeptAs fresh []
+    → Gives swap so_far (stands.lines ++ (stands.part ++ line) ∷ []) → Stands swap (record r { number = r.number + 1; partial = fresh; so_far = so_far }) (text ++ ended line)
 Stands-line r fresh so_far text line stands is_line none gives = record {
   lines = stands.lines ++ (stands.part ++ line) ∷ [];
   part = [];
@@ -71,7 +71,7 @@ Stands-line r fresh so_far text line stands is_line none gives = record {
 }
 
 -- the same, where the line has a fault: what follows doesn't matter
-pub StopsAt-line : (e : ReadFault) (r : ReaderValue) (text line rest : List ℕ) → (stands : Stands r text) → IsLine line
+pub StopsAt-line : {swap : Swap} (e : ReadFault) (r : ReaderValue) (text line rest : List ℕ) → (stands : Stands swap r text) → IsLine line
     → IsLineFault e r.number stands.lines (stands.part ++ line) → StopsAt e ((text ++ ended line) ++ rest)
 StopsAt-line e r text line rest stands is_line fault =
     let (more, last, cut) = cut_of rest in

@@ -10,8 +10,9 @@ use Rattle.links.specs.Link.{Key, key_of, arc_key, is_no_loop, AreLinksOf}
 use Rattle.links.specs.declared.links.Link.{Link}
 use Rattle.gr_text.specs.Statement.{Statement, Problem, ArcLine, IsSilent, Says, Say}
 use Rattle.gr_text.specs.Graph.{IsArcOf, AreLawfulLines}
-use Rattle.gr_text.specs.LinesSoFar.{LinesSoFarValue, Counts, AreKept, Gives, Judges, AddsLink, IsLineFault}
+use Rattle.gr_text.specs.LinesSoFar.{LinesSoFarValue, Counts, Swap, AreKept, Gives, Judges, AddsLink, IsLineFault}
 use Rattle.gr_text.proofs.Alls.{All-push}
+use Rattle.gr_text.proofs.Swaps.{differ_more}
 use Rattle.gr_text.specs.declared.sizes.Size.{Size}
 use Rattle.gr_text.specs.declared.faults.ReadFault.{ReadFault}
 use Rattle.gr_text.specs.declared.faults.ReadFault.TheVariants as fault
@@ -108,10 +109,11 @@ Gives-arc (Some size) size' count count' old new lines line link (arcs, lawful, 
       subst (AreLinksOf (arcs ++ arc ∷ [])) (sym adds) (AreLinksOf-append arcs (arc ∷ []) old (option_to_list link) are of_arc),
     )
 
-pub arc_taken : {X : Type 0} (r : Result X ReadFault) (old new : LinesSoFarValue) (lines : List (List ℕ)) (line : List ℕ) (link : Option Link) (number : ℕ)
+pub arc_taken : {X : Type 0} {swap : Swap} (r : Result X ReadFault) (old new : LinesSoFarValue) (lines : List (List ℕ)) (line : List ℕ) (link : Option Link) (number : ℕ)
     → MatchResult r (λ _. AddsLink old new link) (λ e. e ≡ fault.Memory)
-    → Gives old lines → Judges (verdict.Adds link) old.size old.count lines line
-    → MatchResult r (λ _. Gives new (lines ++ line ∷ [])) (λ e. IsLineFault e number lines line)
-arc_taken (Ok x) old new lines line link number (same, more, adds) gives judged =
-    Gives-arc old.size new.size old.count new.count old.links new.links lines line link gives judged same more adds
+    → Gives swap old lines → Judges (verdict.Adds link) old.size old.count lines line
+    → MatchResult r (λ _. Gives swap new (lines ++ line ∷ [])) (λ e. IsLineFault e number lines line)
+arc_taken (Ok x) old new lines line link number (same, more, adds) (all, by, gives) judged =
+    let now = all ++ option_to_list link in
+    (now, differ_more (option_to_list link) new.links by adds, Gives-arc old.size new.size old.count new.count all now lines line link gives judged same more refl)
 arc_taken (Err e) old new lines line link number is gives judged = rw is tt

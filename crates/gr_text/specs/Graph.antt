@@ -43,5 +43,9 @@ pub record GraphValue : Type 0 where
   pub vertices : ℕ
   pub links : List Link
 
+-- the graph with these links in place of its own
+abbrev pub with_links : List Link → GraphValue → GraphValue
+with_links links graph = record { vertices = graph.vertices; links = links }
+
 abbrev pub IsGraphOf : List ℕ → GraphValue → Type 0
 IsGraphOf text graph = (arcs : List Arc) × Means text graph.vertices arcs × AreLinksOf arcs graph.links

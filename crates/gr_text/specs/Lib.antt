@@ -13,6 +13,7 @@ pub mod UsualArc
 pub mod ArcLines
 pub mod Reader
 pub mod Sourced
+pub mod Kept
 pub mod Written
 pub mod Handing
 pub mod Laws

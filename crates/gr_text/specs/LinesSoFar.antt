@@ -6,7 +6,7 @@ use Rattle.links.specs.Link.{AreLinksOf, EndsUpTo}
 use Rattle.links.specs.declared.links.Link.{Link}
 use Rattle.gr_text.specs.Lines.{EndsLines}
 use Rattle.gr_text.specs.Statement.{Problem, ArcLine, IsSilent, Says, Say}
-use Rattle.gr_text.specs.Graph.{GraphValue, IsArcOf, AreLawfulLines}
+use Rattle.gr_text.specs.Graph.{GraphValue, with_links, IsArcOf, AreLawfulLines}
 use Rattle.gr_text.specs.Fault.{IsFaultAfter, Lacks}
 use Rattle.gr_text.specs.declared.faults.ReadFault.{ReadFault}
 use Rattle.gr_text.specs.declared.faults.ReadFault.TheVariants as fault
@@ -59,9 +59,23 @@ AreKept None count links lines = Say lines [] × (count ≡ 0) × (links ≡ [])
 AreKept (Some size) count links lines =
     (arcs : List Arc) × AreLawfulLines lines size.vertices size.arcs arcs × (length arcs ≡ count) × AreLinksOf arcs links
 
--- this is what is kept of the lines
-abbrev pub Gives : LinesSoFarValue → List (List ℕ) → Type 0
-Gives kept lines = AreKept kept.size kept.count kept.links lines
+-- links that were read, and those that were put in their place
+pub record Swap : Type 0 where
+  pub gone : List Link
+  pub put : List Link
+
+abbrev pub no_swap : Swap
+no_swap = record { gone = []; put = [] }
+
+-- the links are all that were read, but for the swap of those in front
+pub record DifferBy (swap : Swap) (all links : List Link) : Type 0 where
+  pub more : List Link
+  pub all_are : all ≡ swap.gone ++ more
+  pub links_are : links ≡ swap.put ++ more
+
+-- this is what is kept of the lines, but for a swap of links
+abbrev pub Gives : Swap → LinesSoFarValue → List (List ℕ) → Type 0
+Gives swap kept lines = (all : List Link) × DifferBy swap all kept.links × AreKept kept.size kept.count all lines
 
 -- why a line wasn't taken: its fault, or memory
 abbrev pub IsLineFault : ReadFault → ℕ → List (List ℕ) → List ℕ → Type 0
@@ -71,8 +85,8 @@ IsLineFault fault.TooLong number lines line = ⊥
 IsLineFault fault.Memory number lines line = Unit {0}
 
 -- a line of this number behind these lines was taken, so that this is kept of all, or has this fault
-abbrev pub IsTaken : {X : Type 0} → Result X ReadFault → LinesSoFarValue → ℕ → List (List ℕ) → List ℕ → Type 0
-IsTaken result kept number lines line = MatchResult result (λ _. Gives kept (lines ++ line ∷ [])) (λ e. IsLineFault e number lines line)
+abbrev pub IsTaken : {X : Type 0} → Result X ReadFault → Swap → LinesSoFarValue → ℕ → List (List ℕ) → List ℕ → Type 0
+IsTaken result swap kept number lines line = MatchResult result (λ _. Gives swap kept (lines ++ line ∷ [])) (λ e. IsLineFault e number lines line)
 
 -- one more arc is kept, of this link, or a loop
 abbrev pub AddsLink : LinesSoFarValue → LinesSoFarValue → Option Link → Type 0
@@ -84,11 +98,15 @@ pub record AddsLines (count : ℕ) (bytes : List ℕ) (old new : LinesSoFarValue
   pub cut : EndsLines bytes lines []
   pub each_line : length lines ≡ count
   pub few : count ≤ length bytes
-  pub gives : (before : List (List ℕ)) → Gives old before → Gives new (before ++ lines)
+  pub gives : (swap : Swap) (before : List (List ℕ)) → Gives swap old before → Gives swap new (before ++ lines)
 
 -- the graph of whole lines
 abbrev pub IsGraphOfLines : List (List ℕ) → GraphValue → Type 0
 IsGraphOfLines lines graph = (arcs : List Arc) × AreLawfulLines lines graph.vertices (length arcs) arcs × AreLinksOf arcs graph.links
+
+-- the same, but for a swap of links
+abbrev pub IsGraphOfLinesBut : Swap → List (List ℕ) → GraphValue → Type 0
+IsGraphOfLinesBut swap lines graph = (all : List Link) × DifferBy swap all graph.links × IsGraphOfLines lines (with_links all graph)
 
 -- why whole lines have no graph: what lacks behind them
 abbrev pub IsLack : ReadFault → ℕ → List (List ℕ) → Type 0

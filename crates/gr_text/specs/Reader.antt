@@ -1,9 +1,10 @@
 -- What a reader has read, and what it answers.
 use Rattle.std.specs.Prelude.{◌≡◌, ℕ, ◌+◌, ◌<◌, ◌≤◌, ◌⊎◌, List, ◌++◌, length, take, Option, None, Some, MatchOption, Result, Ok, Err, OnOk, MatchResult}
+use Rattle.links.specs.declared.links.Link.{Link}
 use Rattle.gr_text.specs.Lines.{EndsLines}
-use Rattle.gr_text.specs.Graph.{GraphValue, IsGraphOf}
+use Rattle.gr_text.specs.Graph.{GraphValue, with_links, IsGraphOf}
 use Rattle.gr_text.specs.Fault.{IsFirstFault, IsEndedFault, HasLawfulLines}
-use Rattle.gr_text.specs.LinesSoFar.{LinesSoFarValue, Gives}
+use Rattle.gr_text.specs.LinesSoFar.{LinesSoFarValue, Swap, no_swap, DifferBy, Gives}
 use Rattle.gr_text.specs.PartialLine.{IsKeptAs}
 use Rattle.gr_text.specs.declared.faults.ReadFault.{ReadFault}
 use Rattle.gr_text.specs.declared.faults.ReadFault.TheVariants as fault
@@ -18,12 +19,13 @@ pub record ReaderValue : Type 0 where
   pub so_far : LinesSoFarValue
   pub fault : Option ReadFault
 
--- the text is whole lines that give what the reader keeps of them, and then a part of the coming line, which is kept so
-pub record Stands (reader : ReaderValue) (text : List ℕ) : Type 0 where
+-- the text is whole lines that give what the reader keeps of them, but for a swap of links, and then a part of the coming
+-- line, which is kept so
+pub record Stands (swap : Swap) (reader : ReaderValue) (text : List ℕ) : Type 0 where
   pub lines : List (List ℕ)
   pub part : List ℕ
   pub cut : EndsLines text lines part
-  pub give : Gives reader.so_far lines
+  pub give : Gives swap reader.so_far lines
   pub kept : IsKeptAs reader.partial part
   pub numbered : reader.number ≡ length lines + 1
 
@@ -51,18 +53,23 @@ FailsBy (fault.Source number) limit text = ⊥
 FailsBy fault.TooLong limit text = (limit < length text) × HasLawfulLines (take limit text)
 FailsBy fault.Memory limit text = Unit {0}
 
--- the reader was fed this text, in whatever pieces: it has a fault, which is right, or it has read all of it
-pub record HasRead (reader : ReaderValue) (text : List ℕ) : Type 0 where
+-- the reader was fed this text, in whatever pieces, while links were swapped: it has a fault, which is right, or it has read
+-- all of it
+pub record HasReadBut (swap : Swap) (reader : ReaderValue) (text : List ℕ) : Type 0 where
   pub outcome : MatchOption reader.fault
-      ((length text ≤ reader.limit) × (length text ≡ reader.fed) × Stands reader text)
+      ((length text ≤ reader.limit) × (length text ≡ reader.fed) × Stands swap reader text)
       (λ f. StopsBy f reader.limit text)
+
+-- the same, and no links were swapped
+abbrev pub HasRead : ReaderValue → List ℕ → Type 0
+HasRead reader text = HasReadBut no_swap reader text
 
 -- a reader was fed this piece, and answered so
 pub record IsFed {X : Type 0} (result : Result X ReadFault) (piece : List ℕ) (old new : ReaderValue) : Type 0 where
   pub limit : new.limit ≡ old.limit
   pub within : new.fed ≤ new.limit
   pub grows : OnOk result (new.fed ≡ old.fed + length piece)
-  pub fed : (text : List ℕ) → HasRead old text → HasRead new (text ++ piece)
+  pub fed : (swap : Swap) (text : List ℕ) → HasReadBut swap old text → HasReadBut swap new (text ++ piece)
   pub fault : MatchResult result (λ _. new.fault ≡ None) (λ e. new.fault ≡ Some e)
 
 -- a reader was fed this piece without a fault
@@ -73,3 +80,8 @@ TakesPiece piece old new = IsFed {X = Unit {0}} (Ok (tt {0})) piece old new
 abbrev pub IsRead : ℕ → List ℕ → Result GraphValue ReadFault → Type 0
 IsRead limit text (Ok graph) = (length text ≤ limit) × IsGraphOf text graph
 IsRead limit text (Err e) = FailsBy e limit text
+
+-- the same, but for a swap of links
+abbrev pub IsReadBut : Swap → ℕ → List ℕ → Result GraphValue ReadFault → Type 0
+IsReadBut swap limit text (Ok graph) = (all : List Link) × DifferBy swap all graph.links × IsRead limit text (Ok (with_links all graph))
+IsReadBut swap limit text (Err e) = FailsBy e limit text

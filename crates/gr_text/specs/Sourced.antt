@@ -4,7 +4,7 @@ use Rattle.byte_streams.specs.Streams.{SourceState, Gave}
 use Rattle.gr_text.specs.Lines.{line_feed}
 use Rattle.gr_text.specs.Graph.{GraphValue}
 use Rattle.gr_text.specs.Fault.{HasLawfulLines}
-use Rattle.gr_text.specs.Reader.{ReaderValue, HasRead, IsRead, StopsBy}
+use Rattle.gr_text.specs.Reader.{IsRead, StopsBy}
 use Rattle.gr_text.specs.declared.faults.ReadFault.{ReadFault}
 use Rattle.gr_text.specs.declared.faults.ReadFault.TheVariants as fault
 
@@ -36,9 +36,3 @@ abbrev pub IsReadOf : ℕ → Result GraphValue ReadFault → SourceState → So
 IsReadOf limit outcome before after = IsReadToEnd limit outcome before after
     ⊎ IsErrAnd outcome (λ why. IsReadUpTo limit why before after)
     ⊎ ((line : ℕ) × (outcome ≡ Err (fault.Source line)) × BreaksOff limit line before after)
-
--- a reader was fed just what the source gave, which found its end so many times
-pub record HasFollowed (ended : ℕ) (reader : ReaderValue) (before after : SourceState) : Type 0 where
-  pub text : List ℕ
-  pub read : HasRead reader text
-  pub gave : Gave 0 ended text before after

@@ -4,6 +4,7 @@
 //! ```text
 //! source --sourced--> pieces --reader--> bytes --partial_line/words or usual_line--> lines
 //! lines --verdicts/lines_so_far--> graph
+//! links --keep, after each piece--> fewer links that stand for them
 //! pieces --feeders--> whole arc lines --parallel, by threads--> parts --arc_lines--> links
 //! forest --spelled--> lines --piece--> 8 KiB --writer--> sink
 //! forest --spelled, by threads--> text_parts of 8,192 lines --parallel_writer--> sink
@@ -12,6 +13,8 @@
 //! What it promises:
 //! - A text, a source or pieces give a graph exactly where they mean one; else the fault of the first faulty line, with
 //!   its number and its kind ([`GrFault`]).
+//! - While a source is read, a keeper may replace the links by fewer that cover them ([`Keep`]). What is read is else the
+//!   same.
 //! - The text of a forest goes out byte for byte, or the fault counts how many of its bytes did.
 //!   So it does by several threads.
 //! - A text means one graph or has one first fault, and never both; a forest's text means just its links ([`laws`]).
@@ -28,6 +31,7 @@ mod arc_lines;
 mod faults;
 mod feeders;
 mod graphs;
+mod keep;
 pub mod laws;
 mod lines_so_far;
 mod parallel;
@@ -49,9 +53,12 @@ mod writer;
 pub use byte_streams::{FusedSink, FusedSource};
 pub use faults::{FAULT_ROOM, GrFault, GrKind, ReadFault};
 pub use graphs::Graph;
+pub use keep::{Keep, KeepAll};
 pub use limits::MAX_BYTES;
 pub use parallel_writer::write_forest_par;
 pub use parsing::parse;
 pub use reader::GrReader;
-pub use sourced::{read_graph, read_graph_par, read_graph_upto};
+pub use sourced::{
+    read_graph, read_graph_kept, read_graph_kept_par, read_graph_par, read_graph_upto,
+};
 pub use writer::{WriteFault, write_forest};

@@ -1,15 +1,17 @@
-ghost use Rattle.std.specs.Prelude.{◌≡◌, ℕ, List, [], MatchOption, MatchResult};
+ghost use Rattle.std.specs.Prelude.{◌≡◌, ◌≤◌, ◌+◌, ℕ, List, [], length, OnOk, MatchOption, MatchResult};
+ghost use Rattle.gr_text.specs.Kept.{KeepsOn};
 ghost use Rattle.gr_text.specs.PartialLine.{IsWhole};
-ghost use Rattle.gr_text.specs.LinesSoFar.{AddsLines, AddsLink, FitsAfter, Gives, IsGraphOfLines, IsLack, IsTaken};
+ghost use Rattle.gr_text.specs.LinesSoFar.{AddsLines, AddsLink, FitsAfter, Gives, IsGraphOfLinesBut, IsLack, IsTaken, Swap, no_swap};
 
 use crate::faults::{GrFault, GrKind, ReadFault};
 use crate::graphs::Graph;
+use crate::keep::Keep;
 use crate::parallel::append_arc_lines;
 use crate::sizes::Size;
 use crate::verdicts::{Verdict, judge};
 use crate::words::LineFields;
 use links::Link;
-use std::alloc::Allocator;
+use std::alloc::{AllocError, Allocator};
 use std::marker::Model;
 use std::thread::Threads;
 
@@ -37,7 +39,7 @@ impl<A: Allocator> Model for LinesSoFar<A> {
 impl<A: Allocator> LinesSoFar<A> {
     /// What no lines say.
     pub(crate) fn new(alloc: A) -> LinesSoFar<A>
-        ensures { Gives result [] }
+        ensures { Gives no_swap result [] }
     {
         LinesSoFar {
             size: None,
@@ -50,8 +52,8 @@ impl<A: Allocator> LinesSoFar<A> {
     /// link finds none; nothing is read behind it.
     #[inline(always)]
     pub(crate) fn take_line(&mut self, number: u64, line: LineFields) -> Result<(), ReadFault>
-        ensures { (lines : List (List ℕ)) (bytes : List ℕ) → Gives self.old lines → IsWhole line bytes
-            → IsTaken result self.new number lines bytes }
+        ensures { (swap : Swap) (lines : List (List ℕ)) (bytes : List ℕ) → Gives swap self.old lines → IsWhole line bytes
+            → IsTaken result swap self.new number lines bytes }
     {
         match judge(self.size, self.count, line) {
             Verdict::Silent => Ok(()),
@@ -66,8 +68,8 @@ impl<A: Allocator> LinesSoFar<A> {
 
     /// The graph of the lines so far, where nothing lacks. `number` is that of the line after them.
     pub(crate) fn graph(self, number: u64) -> Result<Graph<A>, ReadFault>
-        ensures { (lines : List (List ℕ)) → Gives self lines
-            → MatchResult result (λ graph. IsGraphOfLines lines graph) (λ e. IsLack e number lines) }
+        ensures { (swap : Swap) (lines : List (List ℕ)) → Gives swap self lines
+            → MatchResult result (λ graph. IsGraphOfLinesBut swap lines graph) (λ e. IsLack e number lines) }
     {
         match self.size {
             None => Err(ReadFault::Gr(GrFault {
@@ -109,6 +111,24 @@ impl<A: Allocator> LinesSoFar<A> {
             _ => {
                 self.links.truncate(before);
                 None
+            }
+        }
+    }
+
+    /// Has a keeper look at the links, once the problem line has come. Where it fails, no links are left.
+    pub(crate) fn keep<K: Keep<A>>(&mut self, keeper: &mut K) -> Result<(), AllocError>
+        requires ready { K.ready }
+        requires few { K.dropped keeper.old + length self.old.links ≤ self.old.count }
+        ensures { OnOk result (KeepsOn K.drops (K.dropped keeper.old) (K.dropped keeper.new) self.old self.new) }
+    {
+        let Some(size) = self.size else {
+            return Ok(());
+        };
+        match keeper.keep(size.vertices, size.arcs, &mut self.links) {
+            Ok(()) => Ok(()),
+            Err(refused) => {
+                self.links.clear();
+                Err(refused)
             }
         }
     }

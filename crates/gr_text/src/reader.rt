@@ -1,14 +1,17 @@
 ghost use Rattle.std.specs.Prelude.{◌≡◌, ℕ, ◌+◌, ◌≤◌, ◌==◌, List, [], ◌++◌, None, Some, IfErr, IfSome, IsTrue, OnOk, MatchResult, Err, ◌⊎◌, count_by, length};
 ghost use Rattle.gr_text.specs.Lines.{line_feed};
-ghost use Rattle.gr_text.specs.Reader.{HasRead, IsRead, Stands, StopsAt, TakesPiece};
+ghost use Rattle.gr_text.specs.Kept.{HasKept};
+ghost use Rattle.gr_text.specs.LinesSoFar.{Swap};
+ghost use Rattle.gr_text.specs.Reader.{HasRead, HasReadBut, IsRead, IsReadBut, Stands, StopsAt, TakesPiece};
 
 use crate::faults::ReadFault;
 use crate::graphs::Graph;
+use crate::keep::Keep;
 use crate::lines_so_far::LinesSoFar;
 use crate::partial_line::PartialLine;
 use limits::MAX_BYTES;
 use links::Link;
-use std::alloc::{Allocator, Global};
+use std::alloc::{AllocError, Allocator, Global};
 use std::marker::Model;
 use std::thread::Threads;
 
@@ -78,6 +81,7 @@ impl<A: Allocator> GrReader<A> {
         ensures within { self.new.fed ≤ self.new.limit }
         ensures grows { OnOk result (self.new.fed ≡ self.old.fed + length piece.now) }
         ensures fed { (text : List ℕ) → HasRead self.old text → HasRead self.new (text ++ piece.now) }
+        ensures fed_but { (swap : Swap) (text : List ℕ) → HasReadBut swap self.old text → HasReadBut swap self.new (text ++ piece.now) }
         ensures fault { MatchResult result (λ _. self.new.fault ≡ None) (λ e. self.new.fault ≡ Some e) }
         ensures again { IfSome self.old.fault (λ e. result ≡ Err e) }
     {
@@ -100,7 +104,9 @@ impl<A: Allocator> GrReader<A> {
     /// The number of the line that the next byte belongs to: 1 plus the number of line feeds among the
     /// bytes fed, until a fault. In constant time.
     pub fn line(&self) -> u64
-        ensures { (text : List ℕ) → HasRead self.now text → self.now.fault ≡ None → result ≡ 1 + count_by (λ b. b == line_feed) text }
+        ensures line { (text : List ℕ) → HasRead self.now text → self.now.fault ≡ None → result ≡ 1 + count_by (λ b. b == line_feed) text }
+        ensures line_but { (swap : Swap) (text : List ℕ) → HasReadBut swap self.now text → self.now.fault ≡ None
+            → result ≡ 1 + count_by (λ b. b == line_feed) text }
     {
         self.number
     }
@@ -111,6 +117,7 @@ impl<A: Allocator> GrReader<A> {
     /// links aren't copied.
     pub fn finish(self) -> Result<Graph<A>, ReadFault>
         ensures outcome { (text : List ℕ) → HasRead self text → IsRead self.limit text result }
+        ensures outcome_but { (swap : Swap) (text : List ℕ) → HasReadBut swap self text → IsReadBut swap self.limit text result }
         ensures again { IfSome self.fault (λ e. result ≡ Err e) }
     {
         let GrReader {
@@ -157,6 +164,20 @@ impl<A: Allocator> GrReader<A> {
         true
     }
 
+    /// Has a keeper look at the links, once the problem line has come. Where it fails, the reader isn't to be read on.
+    pub(crate) fn keep<K: Keep<A>>(&mut self, keeper: &mut K) -> Result<(), AllocError>
+        requires ready { K.ready }
+        requires clean { self.old.fault ≡ None }
+        requires kept { (text : List ℕ) × HasKept K.drops (K.dropped keeper.old) self.old text }
+        ensures limit { self.new.limit ≡ self.old.limit }
+        ensures fed { self.new.fed ≡ self.old.fed }
+        ensures fault { self.new.fault ≡ self.old.fault }
+        ensures kept { OnOk result ((text : List ℕ) → HasKept K.drops (K.dropped keeper.old) self.old text
+            → HasKept K.drops (K.dropped keeper.new) self.new text) }
+    {
+        self.so_far.keep(keeper)
+    }
+
     // Reads a piece that the limit has room for. It fails at the first line that ends in it and is faulty, or at an
     // arc whose link finds no memory; then it isn't to be read on. Each byte takes constant time, and one that goes on
     // with a number only a few instructions.
@@ -165,8 +186,8 @@ impl<A: Allocator> GrReader<A> {
         ensures limit { self.new.limit ≡ self.old.limit }
         ensures fed { self.new.fed ≡ self.old.fed + length piece.now }
         ensures fault { self.new.fault ≡ self.old.fault }
-        ensures judged { (text : List ℕ) → Stands self.old text → MatchResult result
-            (λ _. Stands self.new (text ++ piece.now)) (λ e. StopsAt e (text ++ piece.now)) }
+        ensures judged { (swap : Swap) (text : List ℕ) → Stands swap self.old text → MatchResult result
+            (λ _. Stands swap self.new (text ++ piece.now)) (λ e. StopsAt e (text ++ piece.now)) }
     {
         self.fed += piece.len() as u64;
         let mut rest = piece;

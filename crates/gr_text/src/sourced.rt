@@ -1,16 +1,18 @@
-ghost use Rattle.std.specs.Prelude.{◌≡◌, ◌≤◌, ◌<◌, false, None, cond, length, IfOk, OnOk, MatchResult, Err};
+ghost use Rattle.std.specs.Prelude.{◌≡◌, ◌≤◌, ◌<◌, ℕ, List, false, None, cond, length, IfOk, OnOk, MatchResult, Err};
 ghost use Rattle.byte_streams.specs.Streams.{SourceState};
-ghost use Rattle.gr_text.specs.Sourced.{HasFollowed, IsReadOf};
+ghost use Rattle.gr_text.specs.Kept.{HasFollowed, HasKept, IsKeptReadOf};
+ghost use Rattle.gr_text.specs.Sourced.{IsReadOf};
 
 use crate::faults::ReadFault;
 use crate::feeders::{Feed, ManyThreads, OneThread};
 use crate::graphs::Graph;
+use crate::keep::{Keep, KeepAll};
 use crate::parallel::LEAST_LINE;
 use crate::reader::GrReader;
 use byte_streams::{Failed, Source};
 use limits::MAX_BYTES;
 use links::Link;
-use std::alloc::Allocator;
+use std::alloc::{AllocError, Allocator};
 use std::thread::Threads;
 
 // The number of bytes that one thread reads at once, into an array on the stack.
@@ -37,8 +39,6 @@ pub fn read_graph<S: Source, A: Allocator>(alloc: A, source: &mut S) -> Result<G
 /// The source is read to its end, up to the first fault, or until it gave more than `limit` bytes. The
 /// fault of a line that ended before a read failed comes first, then `Source`. It is read 64 KiB at a
 /// time into an array on the stack; the memory is that of the links, and the time linear in the bytes.
-// (within a caller its array would lie beside another's, and the stack that Linux maps at first has 132 KiB)
-#[inline(never)]
 pub fn read_graph_upto<S: Source, A: Allocator>(
     alloc: A,
     source: &mut S,
@@ -48,9 +48,44 @@ pub fn read_graph_upto<S: Source, A: Allocator>(
     requires limit { limit ≤ MAX_BYTES }
     ensures outcome { IsReadOf limit result (S.state source.old) (S.state source.new) }
 {
+    read_kept_upto(&mut KeepAll, alloc, source, limit)
+}
+
+/// The graph of a source of at most 2^40 bytes, and the links that a keeper keeps of its links.
+///
+/// As [`read_graph`], but the keeper is asked after each piece of 64 KiB or less, once the problem line has come. Where it
+/// refuses, the fault is `Memory`.
+pub fn read_graph_kept<K: Keep<A>, S: Source, A: Allocator>(
+    keeper: &mut K,
+    alloc: A,
+    source: &mut S,
+) -> Result<Graph<A>, ReadFault>
+    requires ready { K.ready }
+    requires can { S.can_read source.old }
+    requires none { K.dropped keeper.old ≡ 0 }
+    ensures outcome { IsKeptReadOf K.drops MAX_BYTES (K.dropped keeper.new) result (S.state source.old) (S.state source.new) }
+{
+    read_kept_upto(keeper, alloc, source, MAX_BYTES)
+}
+
+// (within a caller its array would lie beside another's, and the stack that Linux maps at first has 132 KiB)
+#[inline(never)]
+fn read_kept_upto<K: Keep<A>, S: Source, A: Allocator>(
+    keeper: &mut K,
+    alloc: A,
+    source: &mut S,
+    limit: u64,
+) -> Result<Graph<A>, ReadFault>
+    requires ready { K.ready }
+    requires can { S.can_read source.old }
+    requires none { K.dropped keeper.old ≡ 0 }
+    requires limit { limit ≤ MAX_BYTES }
+    ensures outcome { IsKeptReadOf K.drops limit (K.dropped keeper.new) result (S.state source.old) (S.state source.new) }
+{
     let mut buffer = [0; READ_ROOM];
     read_rest(
         &mut OneThread,
+        keeper,
         GrReader::new(alloc, limit),
         source,
         &mut buffer,
@@ -72,12 +107,35 @@ pub fn read_graph_par<R: Threads + Sync, S: Source, A: Allocator + Copy>(
     requires { S.can_read source.old }
     ensures outcome { IsReadOf MAX_BYTES result (S.state source.old) (S.state source.new) }
 {
+    read_graph_kept_par(rt, threads, &mut KeepAll, alloc, source)
+}
+
+/// The same with a keeper, which is asked after each of these pieces, as [`read_graph_kept`] asks it.
+pub fn read_graph_kept_par<R: Threads + Sync, K: Keep<A>, S: Source, A: Allocator + Copy>(
+    rt: &R,
+    threads: usize,
+    keeper: &mut K,
+    alloc: A,
+    source: &mut S,
+) -> Result<Graph<A>, ReadFault>
+    requires ready { K.ready }
+    requires can { S.can_read source.old }
+    requires none { K.dropped keeper.old ≡ 0 }
+    ensures outcome { IsKeptReadOf K.drops MAX_BYTES (K.dropped keeper.new) result (S.state source.old) (S.state source.new) }
+{
     let mut reader = GrReader::new(alloc, MAX_BYTES);
     let mut buffer = [0; READ_ROOM];
     if threads < 2 {
-        return read_rest(&mut OneThread, reader, source, &mut buffer);
+        return read_rest(&mut OneThread, keeper, reader, source, &mut buffer);
     }
-    match read_pieces(&mut OneThread, &mut reader, source, &mut buffer, ALONE) {
+    match read_pieces(
+        &mut OneThread,
+        keeper,
+        &mut reader,
+        source,
+        &mut buffer,
+        ALONE,
+    ) {
         Ok(true) => return reader.finish(),
         Ok(false) => {}
         Err(fault) => return Err(fault),
@@ -92,52 +150,60 @@ pub fn read_graph_par<R: Threads + Sync, S: Source, A: Allocator + Copy>(
     if pieces.resize(PAR_READ_ROOM, 0).is_err()
         || room.resize(PAR_READ_ROOM / LEAST_LINE, any).is_err()
     {
-        return read_rest(&mut OneThread, reader, source, &mut buffer);
+        return read_rest(&mut OneThread, keeper, reader, source, &mut buffer);
     }
     let mut feeder = ManyThreads { rt, threads, room };
-    read_rest(&mut feeder, reader, source, pieces.as_mut_slice())
+    read_rest(&mut feeder, keeper, reader, source, pieces.as_mut_slice())
 }
 
 // Reads a source to its end, from where a reader has followed it on.
-fn read_rest<F: Feed<A>, S: Source, A: Allocator>(
+fn read_rest<F: Feed<A>, K: Keep<A>, S: Source, A: Allocator>(
     feeder: &mut F,
+    keeper: &mut K,
     mut reader: GrReader<A>,
     source: &mut S,
     buffer: &mut [u8],
 ) -> Result<Graph<A>, ReadFault>
     requires ready { F.ready }
+    requires keeps { K.ready }
     requires can { S.can_read source.old }
     requires room { 0 < length buffer.old }
     requires limit { reader.limit ≤ MAX_BYTES }
     requires clean { reader.fault ≡ None }
-    ensures { (before : SourceState) → HasFollowed 0 reader before (S.state source.old) → IsReadOf reader.limit result before (S.state source.new) }
+    requires kept { (text : List ℕ) × HasKept K.drops (K.dropped keeper.old) reader text }
+    ensures { (before : SourceState) → HasFollowed K.drops (K.dropped keeper.old) 0 reader before (S.state source.old)
+        → IsKeptReadOf K.drops reader.limit (K.dropped keeper.new) result before (S.state source.new) }
 {
-    match read_pieces(feeder, &mut reader, source, buffer, MAX_BYTES + 1) {
+    match read_pieces(feeder, keeper, &mut reader, source, buffer, MAX_BYTES + 1) {
         Ok(_ended) => reader.finish(),
         Err(fault) => Err(fault),
     }
 }
 
 // Reads a source piece by piece, each by one read of at most so many bytes as `buffer` has: to its end, or else until so
-// many bytes or more were read here. It answers whether it has found the end.
-fn read_pieces<F: Feed<A>, S: Source, A: Allocator>(
+// many bytes or more were read here. After each the keeper is asked. It answers whether it has found the end.
+fn read_pieces<F: Feed<A>, K: Keep<A>, S: Source, A: Allocator>(
     feeder: &mut F,
+    keeper: &mut K,
     reader: &mut GrReader<A>,
     source: &mut S,
     buffer: &mut [u8],
     enough: u64,
 ) -> Result<bool, ReadFault>
     requires ready { F.ready }
+    requires keeps { K.ready }
     requires can { S.can_read source.old }
     requires room { 0 < length buffer.old }
     requires limit { reader.old.limit ≤ MAX_BYTES }
     requires clean { reader.old.fault ≡ None }
+    requires kept { (text : List ℕ) × HasKept K.drops (K.dropped keeper.old) reader.old text }
     ensures limit { reader.new.limit ≡ reader.old.limit }
     ensures clean { OnOk result (reader.new.fault ≡ None) }
     ensures again { IfOk result (λ ended. ended ≡ false → S.can_read source.new) }
     ensures enough { IfOk result (λ ended. ended ≡ false → enough ≤ reader.new.limit) }
-    ensures followed { (before : SourceState) → HasFollowed 0 reader.old before (S.state source.old) → MatchResult result
-        (λ ended. HasFollowed (cond ended 1 0) reader.new before (S.state source.new))
+    ensures kept { OnOk result ((text : List ℕ) × HasKept K.drops (K.dropped keeper.new) reader.new text) }
+    ensures followed { (before : SourceState) → HasFollowed K.drops (K.dropped keeper.old) 0 reader.old before (S.state source.old) → MatchResult result
+        (λ ended. HasFollowed K.drops (K.dropped keeper.new) (cond ended 1 0) reader.new before (S.state source.new))
         (λ why. IsReadOf reader.old.limit (Err why) before (S.state source.new)) }
 {
     let mut read = 0;
@@ -153,7 +219,10 @@ fn read_pieces<F: Feed<A>, S: Source, A: Allocator>(
                 if let Err(fault) = feeder.feed(reader, &buffer[..n]) {
                     return Err(fault);
                 }
-                read += n as u64;
+                match reader.keep(keeper) {
+                    Ok(()) => read += n as u64,
+                    Err(AllocError) => return Err(ReadFault::Memory),
+                }
             }
         }
     }

@@ -13,7 +13,7 @@ returns-in-Err g c =
       limit = c.in-Err.ensures.limit;
       within = c.in-Err.ensures.within;
       grows = c.in-Err.ensures.grows;
-      fed = c.in-Err.ensures.fed;
+      fed = c.in-Err.ensures.fed_but;
       fault = c.in-Err.ensures.fault;
     } in
     subst (λ (xs : List ℕ). IsFed {X = Unit {0}} (Err c.in-Err.fault) xs c.args.reader.now c.feed.new.self) (sym whole) (fed_fault c.in-Err.fault first others _ _ fed)
@@ -32,7 +32,7 @@ returns-in-Err-feed_lines g c =
       limit = c.in_default.ensures.limit;
       within = c.in_default.ensures.within;
       grows = c.in_default.ensures.grows;
-      fed = c.in_default.ensures.fed;
+      fed = c.in_default.ensures.fed_but;
       fault = c.in_default.ensures.fault;
     } in
     subst (λ (xs : List ℕ). IsFed {X = Unit {0}} (Err fault) xs c.args.reader.now c.feed_lines.new.reader) (sym whole)
@@ -51,14 +51,14 @@ returns g c =
       limit = c.in_default.ensures.limit;
       within = c.in_default.ensures.within;
       grows = c.in_default.ensures.grows;
-      fed = c.in_default.ensures.fed;
+      fed = c.in_default.ensures.fed_but;
       fault = c.in_default.ensures.fault;
     } in
     let end : IsFed {X = Unit {0}} c.feed-2.result last c.feed_lines.new.reader c.feed-2.new.self = record {
       limit = c.feed-2.ensures.limit;
       within = c.feed-2.ensures.within;
       grows = c.feed-2.ensures.grows;
-      fed = c.feed-2.ensures.fed;
+      fed = c.feed-2.ensures.fed_but;
       fault = c.feed-2.ensures.fault;
     } in
     subst (λ (xs : List ℕ). IsFed {X = Unit {0}} c.feed-2.result xs c.args.reader.now c.feed-2.new.self) (sym whole)

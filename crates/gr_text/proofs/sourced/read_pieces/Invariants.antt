@@ -1,19 +1,22 @@
-use Rattle.std.proofs.Common.{◌≡◌, ◌-◌, ◌≤◌, None}
+use Rattle.std.proofs.Common.{◌≡◌, ℕ, List, ◌-◌, ◌≤◌, None}
 use Rattle.byte_streams.specs.Streams.{SourceState}
-use Rattle.gr_text.specs.Sourced.{HasFollowed}
+use Rattle.gr_text.specs.Kept.{HasFollowed, HasKept}
 use Rattle.gr_text.proofs.sourced.read_pieces.Given as goal
 
 -- the reader was fed what the source gave here
 abbrev pub invariant-loop-read : goal.invariant-loop-read
 invariant-loop-read g l =
     let source = g.S.Source in
+    let keep = g.K.Keep in
     record {
       can : source.can_read l.source;
       limit : l.reader.limit ≡ l.fn.reader.limit;
       few : l.read ≤ l.reader.fed;
       within : l.read ≤ l.reader.limit;
       clean : l.reader.fault ≡ None;
-      followed : (before : SourceState) → HasFollowed 0 l.fn.reader before (source.state l.fn.source) → HasFollowed 0 l.reader before (source.state l.source);
+      kept : (text : List ℕ) × HasKept keep.drops (keep.dropped l.keeper) l.reader text;
+      followed : (before : SourceState) → HasFollowed keep.drops (keep.dropped l.fn.keeper) 0 l.fn.reader before (source.state l.fn.source)
+          → HasFollowed keep.drops (keep.dropped l.keeper) 0 l.reader before (source.state l.source);
     }
 
 abbrev pub decreases-loop-read : goal.decreases-loop-read

@@ -3,6 +3,7 @@ use Rattle.links.specs.declared.links.Link.{Link}
 use Rattle.gr_text.specs.LinesSoFar.{LinesSoFarValue, AreKept, Gives, IsWithinSize}
 use Rattle.gr_text.specs.declared.sizes.Size.{Size}
 use Rattle.gr_text.proofs.ArcLineParts.{kept_more, within_more}
+use Rattle.gr_text.proofs.Swaps.{differ_more}
 use Rattle.gr_text.proofs.lines_so_far.LinesSoFar.take_arcs.Goals as goal
 
 pub invariant_of-self : goal.invariant_of-self
@@ -32,11 +33,13 @@ returns-in-Some g c =
       cut = are.cut;
       each_line = are.each_line;
       few = done.found.0;
-      gives = λ before gives.
-          let known = subst (λ (v : LinesSoFarValue). Gives v before) (sym c.self.view_is) gives in
-          let kept = subst (λ (s : Option Size). AreKept s was.count was.links.items before) c.in_ok-size.was known in
-          let lines = before ++ are.lines in
-          subst (λ (s : Option Size). AreKept s count c.append_arc_lines.new.links.items lines) (sym c.in_ok-size.was)
-          (subst (λ (xs : List Link). AreKept (Some size) count xs lines) (sym added)
-          (kept_more size was.count c.in-Some.count was.links.items done.more before c.args.bytes.now kept are room));
+      gives = λ swap before gives.
+          let (all, by, known) = subst (λ (v : LinesSoFarValue). Gives swap v before) (sym c.self.view_is) gives in
+          let kept = subst (λ (s : Option Size). AreKept s was.count all before) c.in_ok-size.was known in
+          let lines = before ++ are.lines in (
+            all ++ done.more,
+            differ_more done.more c.append_arc_lines.new.links.items by added,
+            subst (λ (s : Option Size). AreKept s count (all ++ done.more) lines) (sym c.in_ok-size.was)
+                (kept_more size was.count c.in-Some.count all done.more before c.args.bytes.now kept are room),
+          );
     }

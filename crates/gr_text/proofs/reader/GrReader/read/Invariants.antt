@@ -1,5 +1,6 @@
 -- what stands is the text with what was taken of the piece
 use Rattle.std.proofs.Common.{◌≡◌, ℕ, List, ◌+◌, ◌≤◌, ◌++◌, length}
+use Rattle.gr_text.specs.LinesSoFar.{Swap}
 use Rattle.gr_text.specs.Reader.{Stands}
 use Rattle.gr_text.proofs.reader.GrReader.read.Given as goal
 
@@ -12,8 +13,8 @@ invariant-loop-line g l =
       fault : kept.fault ≡ l.fn.self.fault;
       within : kept.fed ≤ kept.limit;
       few_lines : kept.number + length l.rest ≤ kept.fed + 1;
-      stands : (text : List ℕ) → Stands l.fn.self text → (done : List ℕ) × (l.piece ≡ done ++ l.rest)
-          × Stands (record { limit = kept.limit; fed = kept.fed; number = kept.number; partial = kept.partial; so_far = kept.so_far; fault = kept.fault })
+      stands : (swap : Swap) (text : List ℕ) → Stands swap l.fn.self text → (done : List ℕ) × (l.piece ≡ done ++ l.rest)
+          × Stands swap (record { limit = kept.limit; fed = kept.fed; number = kept.number; partial = kept.partial; so_far = kept.so_far; fault = kept.fault })
           (text ++ done);
     }
 

@@ -1,0 +1,15 @@
+use Rattle.std.proofs.Common.{◌+◌, ◌≤◌, length, sym, subst}
+use Rattle.gr_text.specs.Reader.{ReaderValue}
+use Rattle.gr_text.proofs.Keeping.{kept_few, kept_ok}
+use Rattle.gr_text.proofs.reader.GrReader.keep.Goals as goal
+
+pub keep-requires-clause-few : goal.keep-requires-clause-few
+keep-requires-clause-few g c =
+    let (text, kept) = c.requires.kept in
+    subst (λ (r : ReaderValue). g.K.Keep.dropped c.args.keeper.now + length r.so_far.links ≤ r.so_far.count) (sym c.self.view_is)
+    (kept_few c.args.self.now text c.requires.clean kept)
+
+pub returns-clause-kept : goal.returns-clause-kept
+returns-clause-kept g c =
+    let keep = g.K.Keep in
+    kept_ok keep.drops (keep.dropped c.args.keeper.now) (keep.dropped c.keep.new.keeper) c.keep.result _ _ c.keep.new.self c.self.view_is c.requires.clean c.keep.ensures

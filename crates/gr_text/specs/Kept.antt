@@ -1,0 +1,41 @@
+-- What is read of a source while links are replaced by fewer that stand for them.
+use Rattle.std.specs.Prelude.{◌≡◌, ℕ, ◌+◌, List, length, Result, Ok, Err}
+use Rattle.byte_streams.specs.Streams.{SourceState, Gave}
+use Rattle.links.specs.Covers.{IsCoveredBy}
+use Rattle.links.specs.declared.links.Link.{Link}
+use Rattle.gr_text.specs.Graph.{GraphValue, with_links}
+use Rattle.gr_text.specs.LinesSoFar.{LinesSoFarValue, Swap}
+use Rattle.gr_text.specs.Reader.{ReaderValue, HasReadBut}
+use Rattle.gr_text.specs.Sourced.{IsReadOf}
+use Rattle.gr_text.specs.declared.faults.ReadFault.{ReadFault}
+
+-- of all links that were read these are kept: they cover all; so many were dropped, and none if none may be
+pub record AreKeptOf (drops : Type 0) (dropped : ℕ) (all kept : List Link) : Type 0 where
+  pub cover : IsCoveredBy all kept
+  pub counted : length all ≡ dropped + length kept
+  pub whole : ¬ drops → kept ≡ all
+
+-- what is answered of a source: a graph's vertices, and the links that are kept of all of its links; or a fault, as
+-- whoever keeps all answers it
+abbrev pub IsKeptReadOf : Type 0 → ℕ → ℕ → Result GraphValue ReadFault → SourceState → SourceState → Type 0
+IsKeptReadOf drops limit dropped (Ok graph) before after =
+    (all : List Link) × AreKeptOf drops dropped all graph.links × IsReadOf limit (Ok (with_links all graph)) before after
+IsKeptReadOf drops limit dropped (Err e) before after = IsReadOf limit (Err e) before after
+
+-- a keeper had dropped `dropped` links and now `now`: whatever the old links were kept of, the new ones are
+pub record KeepsOn (drops : Type 0) (dropped now : ℕ) (old new : LinesSoFarValue) : Type 0 where
+  pub size : new.size ≡ old.size
+  pub count : new.count ≡ old.count
+  pub kept : (all : List Link) → AreKeptOf drops dropped all old.links → AreKeptOf drops now all new.links
+
+-- a reader was fed this text, and keeps such links of those that it read
+pub record HasKept (drops : Type 0) (dropped : ℕ) (reader : ReaderValue) (text : List ℕ) : Type 0 where
+  pub swap : Swap
+  pub are : AreKeptOf drops dropped swap.gone swap.put
+  pub read : HasReadBut swap reader text
+
+-- a reader was fed just what the source gave, which found its end so many times
+pub record HasFollowed (drops : Type 0) (dropped ended : ℕ) (reader : ReaderValue) (before after : SourceState) : Type 0 where
+  pub text : List ℕ
+  pub kept : HasKept drops dropped reader text
+  pub gave : Gave 0 ended text before after
