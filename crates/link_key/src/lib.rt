@@ -20,4 +20,6 @@ pub mod sequential;
 pub use links::{
     Answer, Cut, CutFault, Forest, Labels, Link, Offers, Shard, check_even, check_places, laws,
 };
-pub use sequential::{components_of, forest_of, forest_of_par, plain_forest};
+pub use sequential::{
+    components_of, forest_of, forest_of_par, keep_forest, keep_forest_par, plain_forest,
+};

@@ -1,8 +1,6 @@
 -- The text of a forest is written again.
-use Rattle.std.proofs.Common.{◌≡◌, ◌≤◌, ℕ, zero, suc, List, [], ◌∷◌, length, map, max, Ok, sym, ap, subst, ◌∙◌, arith}
+use Rattle.std.proofs.Common.{◌≡◌, ◌≤◌, ℕ, zero, suc, List, [], ◌∷◌, length, map, max, Ok, ap, subst, ◌∙◌, arith}
 use Rattle.std.specs.Prelude.{All, Contains, filter}
-use Rattle.std.proofs.lemmas.List.{length-map}
-use Rattle.std.proofs.lemmas.List.Sums.{length-filter, count_by-le-length}
 use Rattle.std.proofs.lemmas.List.Elements.{All-from_recursion, All-filter, All-head, All-tail, All-contains, Contains-get_or}
 use Rattle.limits.specs.declared.TheConstants.{MAX_ARCS}
 use Rattle.byte_streams.specs.Streams.{Took}
@@ -17,7 +15,7 @@ use Rattle.plain_run.specs.declared.report.Report.{Report}
 use Rattle.plain_run.specs.Outcomes.{Streams}
 use Rattle.plain_run.specs.PlainRun.{RanPlain, WritesAgain}
 use Rattle.plain_run.proofs.PlainRunning.{given_file}
-use Rattle.plain_run.proofs.Lengths.{no_longer, same_length}
+use Rattle.plain_run.proofs.Lengths.{no_longer, same_length, fewer_links}
 
 -- ---- what a file says of its graph
 
@@ -36,12 +34,6 @@ ends_of_kept n (arc ∷ kept) (l ∷ links) each are (suc i) d b =
 
 ends_of_links : (n : ℕ) (arcs : List Arc) (links : List Link) → All (IsArcOf n) arcs → AreLinksOf arcs links → EndsUpTo n links
 ends_of_links n arcs links each are = ends_of_kept n (filter is_no_loop arcs) links (All-filter is_no_loop (IsArcOf n) arcs each) are
-
--- and there are no more than arc lines
-fewer_links : (arcs : List Arc) (links : List Link) → AreLinksOf arcs links → length links ≤ length arcs
-fewer_links arcs links are =
-    let same : length links ≡ length (filter is_no_loop arcs) = sym (length-map links key_of) ∙ (ap (λ ks. length ks) are ∙ length-map (filter is_no_loop arcs) arc_key) in
-    omega (arith, same, length-filter is_no_loop arcs, count_by-le-length is_no_loop arcs)
 
 -- ---- the run
 

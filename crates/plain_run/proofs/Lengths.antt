@@ -2,12 +2,13 @@
 use Rattle.std.proofs.Common.{◌≡◌, ℕ, zero, suc, ◌≤◌, List, [], ◌∷◌, length, get_or, map, sym, ap, subst, ◌∙◌, arith}
 use Rattle.std.specs.Prelude.{All, Contains, filter}
 use Rattle.std.proofs.lemmas.List.{length-map}
+use Rattle.std.proofs.lemmas.List.Sums.{length-filter, count_by-le-length}
 use Rattle.std.proofs.lemmas.List.Elements.{All-head, All-tail}
 use Rattle.std.proofs.lemmas.List.Sorted.{IsPermutation-remove, length_permutation, Contains-permutation}
 use Rattle.std.specs.List.{remove}
 use Rattle.links.specs.Arc.{Arc}
 use Rattle.links.specs.declared.links.Link.{Link}
-use Rattle.links.specs.Link.{IsBelow, IsAscending, key_of, arc_key, is_no_loop}
+use Rattle.links.specs.Link.{IsBelow, IsAscending, AreLinksOf, key_of, arc_key, is_no_loop}
 use Rattle.links.proofs.Keys.{below_irrefl}
 use Rattle.gr_text.specs.Graph.{GraphValue, IsGraphOf}
 use Rattle.gr_text.proofs.Texts.{means_one_graph}
@@ -34,3 +35,9 @@ same_length bytes graph other (arcs, means, links) (arcs', means', links') =
     let same = means_one_graph bytes graph.vertices other.vertices arcs arcs' means means' in
     let keys : map key_of graph.links ≡ map key_of other.links = links ∙ (ap (λ (xs : List Arc). map arc_key (filter is_no_loop xs)) same.1 ∙ sym links') in
     sym (length-map graph.links key_of) ∙ (ap (λ ks. length ks) keys ∙ length-map other.links key_of)
+
+-- of arcs there are no more links than arcs
+pub fewer_links : (arcs : List Arc) (links : List Link) → AreLinksOf arcs links → length links ≤ length arcs
+fewer_links arcs links are =
+    let same : length links ≡ length (filter is_no_loop arcs) = sym (length-map links key_of) ∙ (ap (λ ks. length ks) are ∙ length-map (filter is_no_loop arcs) arc_key) in
+    omega (arith, same, length-filter is_no_loop arcs, count_by-le-length is_no_loop arcs)

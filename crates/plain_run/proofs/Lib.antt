@@ -3,3 +3,4 @@ pub mod FaultTexts
 pub mod PlainRunning
 pub mod Lengths
 pub mod Again
+pub mod KeptLinks

@@ -20,7 +20,7 @@ use Rattle.plain_run.specs.declared.report.Report.{Report}
 use Rattle.plain_run.specs.declared.fault.RunFault.TheVariants as fault
 
 -- a graph is read only of a whole file
-whole_file : (graph : GraphValue) (s t : SourceState) → IsReadOf MAX_BYTES (Ok graph) s t → (bytes : List ℕ) × Gave 0 1 bytes s t × IsFileOf bytes graph
+pub whole_file : (graph : GraphValue) (s t : SourceState) → IsReadOf MAX_BYTES (Ok graph) s t → (bytes : List ℕ) × Gave 0 1 bytes s t × IsFileOf bytes graph
 whole_file graph s t (inl whole) = (whole.bytes, whole.gave, record { within = whole.within; means = whole.read.1 })
 whole_file graph s t (inr (inl stopped)) = absurd stopped
 whole_file graph s t (inr (inr (line, is, broke))) = cc

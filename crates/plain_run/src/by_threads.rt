@@ -6,10 +6,11 @@ ghost use Rattle.plain_run.specs.Outcomes.{known};
 ghost use Rattle.plain_run.specs.PlainRun.{RanPlain, WritesAgain};
 
 use crate::fault::RunFault;
+use crate::keeper::{Keeper, ManyThreads};
 use crate::plain::report_of;
 use crate::report::Report;
 use byte_streams::{Sink, Source};
-use gr_text::{read_graph_par, write_forest_par};
+use gr_text::{read_graph_kept_par, write_forest_par};
 use link_key::forest_of_par;
 use std::alloc::Allocator;
 use std::thread::Threads;
@@ -18,7 +19,7 @@ use std::thread::Threads;
 ///
 /// Each step of the run takes as many threads as its work is worth, and goes on with fewer where one can't be made. What
 /// goes out and what is answered is the same for any number, but that the system may refuse memory. It takes the memory of
-/// `run_plain`, and what [`read_graph_par`], [`forest_of_par`] and [`write_forest_par`] take for their threads.
+/// `run_plain`, and what [`read_graph_kept_par`], [`forest_of_par`] and [`write_forest_par`] take for their threads.
 pub fn run_threads<R: Threads + Sync, S: Source, W: Sink, A: Allocator + Copy + Send + Sync>(
     rt: &R,
     threads: usize,
@@ -47,13 +48,14 @@ pub fn run_threads<R: Threads + Sync, S: Source, W: Sink, A: Allocator + Copy + 
     ensures flushed { OnOk result (IsFlushed (W.unflushed sink.new)) }
     ensures again { OnOk result (W.can_write sink.new) }
 {
-    let graph = match read_graph_par(rt, threads, alloc, source) {
+    let mut keeper = Keeper::new(ManyThreads { rt, threads });
+    let graph = match read_graph_kept_par(rt, threads, &mut keeper, alloc, source) {
         Ok(graph) => graph,
         Err(fault) => return Err(RunFault::Read(fault)),
     };
     let n = graph.n();
     let links = graph.into_links();
-    let count = links.len() as u64;
+    let count = keeper.dropped + links.len() as u64;
     let Ok(forest) = forest_of_par(rt, threads, alloc, n, links) else {
         return Err(RunFault::Memory);
     };

@@ -2,10 +2,13 @@
 //! several; and what every run answers: its report, or its fault.
 //!
 //! ```text
-//!     Source --read_graph--> Graph --forest_of--> Forest --write_forest--> Sink        run_plain
-//!     Source -------- the same steps, each by several threads ------------> Sink        run_threads
-//!     bytes  ---------------------- the same, in memory ------------------> Vec        plain_text
+//!     Source --read_graph_kept--> Graph --forest_of--> Forest --write_forest--> Sink   run_plain
+//!     Source ---------- the same steps, each by several threads ---------------> Sink   run_threads
+//!     bytes  ------------------------ the same, in memory ---------------------> Vec    plain_text
 //! ```
+//!
+//! While a file of many arcs is read, a long list of links becomes its forest, which covers it (`keeper`). So memory has a
+//! bound by the vertices, and all links are counted.
 //!
 //! What it promises:
 //! - A run that ends well has read a whole file that means a graph, and written just the text of the graph's minimum
@@ -20,6 +23,7 @@
 mod by_threads;
 mod fault;
 mod in_memory;
+mod keeper;
 mod plain;
 mod report;
 mod spelling;

@@ -7,9 +7,10 @@ ghost use Rattle.plain_run.specs.PlainRun.{RanPlain, WritesAgain, counted_report
 ghost use Rattle.links.specs.Least.{sum_of_weights};
 
 use crate::fault::RunFault;
+use crate::keeper::{Keeper, OneThread};
 use crate::report::Report;
 use byte_streams::{Sink, Source};
-use gr_text::{read_graph, write_forest};
+use gr_text::{read_graph_kept, write_forest};
 use link_key::{Forest, forest_of};
 use std::alloc::Allocator;
 
@@ -36,7 +37,8 @@ pub(crate) fn report_of<A: Allocator>(vertices: u32, links: u64, forest: &Forest
 /// No spanning forest of the graph weighs less than the total that it reports. The text of a forest is written again as
 /// it is, with the same total. The forest is whole before the first byte is written. For b bytes, m links and n vertices
 /// it takes O(b + m log m + n log n) time, and memory for one list of the links, in which the forest is found, and what
-/// [`forest_of`] takes beside it.
+/// [`forest_of`] takes beside it. If the file states more than 65,536 arcs, and more than 16 a vertex, a list of 8 links a
+/// vertex, and of 32,768 or more, becomes its forest before more are read.
 pub fn run_plain<S: Source, W: Sink, A: Allocator + Copy>(
     alloc: A,
     source: &mut S,
@@ -63,13 +65,14 @@ pub fn run_plain<S: Source, W: Sink, A: Allocator + Copy>(
     ensures flushed { OnOk result (IsFlushed (W.unflushed sink.new)) }
     ensures again { OnOk result (W.can_write sink.new) }
 {
-    let graph = match read_graph(alloc, source) {
+    let mut keeper = Keeper::new(OneThread);
+    let graph = match read_graph_kept(&mut keeper, alloc, source) {
         Ok(graph) => graph,
         Err(fault) => return Err(RunFault::Read(fault)),
     };
     let n = graph.n();
     let links = graph.into_links();
-    let count = links.len() as u64;
+    let count = keeper.dropped + links.len() as u64;
     let Ok(forest) = forest_of(alloc, n, links) else {
         return Err(RunFault::Memory);
     };

@@ -1,0 +1,32 @@
+-- Links that are kept of all that were read: what is so of these.
+use Rattle.std.proofs.Common.{◌+◌, ◌≤◌, ℕ, List, length, Ok, arith}
+use Rattle.std.proofs.lemmas.List.Elements.{All-contains, Contains-get_or}
+use Rattle.limits.specs.declared.TheConstants.{MAX_ARCS, MAX_BYTES}
+use Rattle.byte_streams.specs.Streams.{SourceState}
+use Rattle.links.specs.Covers.{IsCoveredBy}
+use Rattle.links.specs.Forest.{IsForestOf}
+use Rattle.links.specs.Link.{EndsUpTo}
+use Rattle.links.specs.declared.links.Link.{Link}
+use Rattle.links.proofs.Covers.{same_links_cover, cover_has_forest}
+use Rattle.gr_text.specs.Graph.{GraphValue, with_links}
+use Rattle.gr_text.specs.Kept.{AreKeptOf, IsKeptReadOf}
+use Rattle.plain_run.proofs.Lengths.{fewer_links}
+use Rattle.plain_run.proofs.PlainRunning.{whole_file}
+
+pub covers_itself : (links : List Link) → IsCoveredBy links links
+covers_itself links = same_links_cover links links (λ l. (λ here. here, λ here. here))
+
+-- a forest's links are its list's, so they end within the vertices
+pub ends_of_forest : (n : ℕ) (links forest : List Link) → EndsUpTo n links → IsForestOf links forest → EndsUpTo n forest
+ends_of_forest n links forest ends is i d b = All-contains (λ (l : Link). l.high ≤ n) links _ ends ((is.exact _).0 (Contains-get_or forest i d b)).0
+
+-- a file has at most 2^30 arc lines, whose links were dropped or are kept
+pub few_read : (drops : Type 0) (dropped : ℕ) (graph : GraphValue) (s t : SourceState) → IsKeptReadOf drops MAX_BYTES dropped (Ok graph) s t → dropped + length graph.links ≤ MAX_ARCS
+few_read drops dropped graph s t (all, kept, read) =
+    let (bytes, gave, file) = whole_file (with_links all graph) s t read in
+    let (arcs, (lines, are_lines, lawful), links) = file.means in
+    omega (arith, kept.counted, fewer_links arcs all links, lawful.arc_lines)
+
+-- the forest of what is kept is that of all links that were read
+pub forest_of_all : (drops : Type 0) (dropped : ℕ) (all kept forest : List Link) → AreKeptOf drops dropped all kept → IsForestOf kept forest → IsForestOf all forest
+forest_of_all drops dropped all kept forest are is = cover_has_forest all kept forest are.cover is
