@@ -21,7 +21,8 @@ use Rattle.links.proofs.WideKeys.{int_ranks, wide_compares}
 use Rattle.boruvka_c.specs.declared.candidates.Candidate.{Candidate}
 use Rattle.boruvka_c.specs.Places.{IsLinkAt}
 use Rattle.boruvka_c.specs.Candidates.{IsMarked, AreInKeyOrder, AreOfArcs, HasCandidate, IsLeastOf}
-use Rattle.boruvka_c.proofs.FirstPlaces.{one_key, one_place}
+use Rattle.caller_forests.proofs.Givens.{one_key}
+use Rattle.boruvka_c.proofs.FirstPlaces.{one_place}
 
 -- a link below another one has the smaller number
 wide_below : (l m : Link) → IsBelow l m → wide_key l <ℤ wide_key m
