@@ -135,15 +135,16 @@ size_t boruvka_fault_text(int64_t kind, char *into, size_t room);
 uint32_t boruvka_version(void);
 
 /* ---- Calls within memory that the caller gives up, of libboruvka_within.a. Each is the call of its name without `_within`,
- * but for where it takes memory. They call memcpy, memmove and memset, and nothing else: no malloc. */
+ * but for where it takes memory; boruvka_merges_within is boruvka_merges_in. They call memcpy, memmove and memset, and
+ * nothing else: no malloc. */
 
 /* `size` bytes from `start` on, which is aligned to 16 bytes and never null. Nothing else touches them during the call, and
  * no other parameter points into them. What stood there is lost. After the call they are the caller's again.
  *
  * Whole pages of 4096 bytes are used. If they are too few, the answer is BORUVKA_NO_MEMORY, and what the other parameters
  * point to is as it was, but for `fault`: so the same call may be made again with more. Enough are, for a list, 29 bytes a
- * link, 12 a vertex and 16384 more; for a text, 6 times its length, 12 bytes a vertex and 16384 more. No clause says so: it
- * is counted where it is tightest. */
+ * link, 12 a vertex and 16384 more; for a text, 6 times its length, 12 bytes a vertex and 16384 more; for merges, 28 bytes a
+ * link, 20 a vertex and 16384 more. No clause says so: it is counted where it is tightest. */
 struct boruvka_memory {
     void *start;
     size_t size;
@@ -152,6 +153,8 @@ struct boruvka_memory {
 int64_t boruvka_forest_within(struct boruvka_memory memory, uint32_t n, struct boruvka_link *links, size_t m);
 int64_t boruvka_forest_text_within(struct boruvka_memory memory, const uint8_t *text, size_t length, uint8_t *into, size_t room,
                                    struct boruvka_fault *fault);
+int64_t boruvka_merges_within(struct boruvka_memory memory, uint32_t n, const struct boruvka_link *links, size_t k,
+                              struct boruvka_merge *merges, size_t room);
 size_t boruvka_fault_text_within(int64_t kind, char *into, size_t room);
 
 #ifdef __cplusplus

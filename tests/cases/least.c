@@ -1,10 +1,11 @@
 /* The least memory that a call needs, beside what it takes from malloc. For each graph it writes a line
  *
- *     SHAPE N M  LEAST PEAK  LEAST PEAK
+ *     SHAPE N M  LEAST PEAK  LEAST PEAK  LEAST PEAK
  *
- * first of the call over links, then of the call over their text. LEAST is the size, in whole pages, of the least memory
- * within which the call of libboruvka_within.a has its answer, PEAK how many bytes the call of libboruvka.a had at once
- * from malloc and realloc. Both calls have to find the same, and LEAST is no more than include/boruvka.h calls enough.
+ * first of the call over links, then of the call over their text, then of the call over their forest for its merges. LEAST
+ * is the size, in whole pages, of the least memory within which the call of libboruvka_within.a has its answer, PEAK how many
+ * bytes the call of libboruvka.a had at once from malloc and realloc. Both calls have to find the same, and LEAST is no more
+ * than include/boruvka.h calls enough.
  *
  *     least SHAPE N M    of this graph: grid (M counts for nothing), drawn, star, path, ring, pair, or late (N is past 300)
  *
@@ -18,8 +19,11 @@
  * large forest are longer. `late` takes all of it for a list: the first part has nearly all links, between two vertices, and
  * the second needs two rounds. `pair` takes it for a text: two short lines in turn, just more of them than a power of two.
  *
- * A_LINK, A_VERTEX, A_BYTE and MORE are the figures of include/boruvka.h. It is linked with --wrap=malloc, --wrap=realloc
- * and --wrap=free. */
+ * Merges take blocks that stay until the end: 16 bytes a link for the list, 8 and 12 a vertex for places and slots, and 12
+ * for each link or each vertex, the fewer of the two.
+ *
+ * A_LINK, A_VERTEX, A_BYTE, MERGED_LINK, MERGED_VERTEX and MORE are the figures of include/boruvka.h. It is linked with
+ * --wrap=malloc, --wrap=realloc and --wrap=free. */
 #include <boruvka.h>
 #include <inttypes.h>
 #include <stdio.h>
@@ -83,10 +87,11 @@ void *__wrap_realloc(void *block, size_t size) {
     return counted(made, size);
 }
 
+/* With a forest of `count` links. */
 struct graph {
     uint32_t n;
-    size_t m, length;
-    struct boruvka_link *links;
+    size_t m, length, count;
+    struct boruvka_link *links, *forest;
     char *text;
 };
 
@@ -172,8 +177,13 @@ static void put(struct graph *graph, const char *shape) {
 }
 
 static struct graph graph_of(const char *shape, uint32_t n, size_t m) {
-    struct graph graph = {n, m, 0, block_of((m + 2 * (size_t)n) * sizeof *graph.links), 0};
+    struct graph graph = {n, m, 0, 0, block_of((m + 2 * (size_t)n) * sizeof *graph.links), 0, 0};
     put(&graph, shape);
+    graph.forest = block_of(graph.m * sizeof *graph.forest);
+    memcpy(graph.forest, graph.links, graph.m * sizeof *graph.forest);
+    const int64_t count = boruvka_forest(graph.n, graph.forest, graph.m);
+    CHECK(count >= 0);
+    graph.count = (size_t)count;
     graph.text = block_of(64 + 45 * graph.m);
     graph.length = (size_t)sprintf(graph.text, "p sp %" PRIu32 " %zu\n", graph.n, graph.m);
     for (size_t i = 0; i < graph.m; i++) {
@@ -199,6 +209,12 @@ static int64_t of_text(const struct graph *graph, void *block, size_t size, void
     memset(out, 0, room);
     return block == 0 ? boruvka_forest_text(text, graph->length, out, room, &fault)
                       : boruvka_forest_text_within((struct boruvka_memory){block, size}, text, graph->length, out, room, &fault);
+}
+
+static int64_t of_merges(const struct graph *graph, void *block, size_t size, void *out) {
+    memset(out, 0, graph->count * sizeof(struct boruvka_merge));
+    return block == 0 ? boruvka_merges(graph->n, graph->forest, graph->count, out)
+                      : boruvka_merges_within((struct boruvka_memory){block, size}, graph->n, graph->forest, graph->count, out, graph->count);
 }
 
 static void tell(const struct graph *graph, answer_of *answer, size_t out_size, size_t told) {
@@ -232,8 +248,10 @@ int main(int count, char **words) {
     printf("%s %" PRIu32 " %zu", words[1], graph.n, graph.m);
     tell(&graph, of_links, graph.m * sizeof *graph.links, A_LINK * graph.m + A_VERTEX * (size_t)graph.n + MORE);
     tell(&graph, of_text, graph.length + 64, A_BYTE * graph.length + A_VERTEX * (size_t)graph.n + MORE);
+    tell(&graph, of_merges, graph.count * sizeof(struct boruvka_merge), MERGED_LINK * graph.count + MERGED_VERTEX * (size_t)graph.n + MORE);
     printf("\n");
     give_back(graph.links);
+    give_back(graph.forest);
     give_back(graph.text);
     return 0;
 }

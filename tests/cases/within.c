@@ -1,10 +1,10 @@
 /* Calls within memory of many sizes: each answers the forest, or that memory lacks and changes nothing; and what is served
  * within some memory is served within more. Bytes beside the memory stay as they were. A wrong answer ends it by status 1.
  *
- *     within sizes     a small net and its text, within each size up to four pages, and within two blocks in turn
- *     within enough    lists and texts of many shapes, within as many bytes as include/boruvka.h calls enough
+ *     within sizes     a small net, its text and its merges, within each size up to four pages, and within two blocks in turn
+ *     within enough    lists, texts and merges of many shapes, within as many bytes as include/boruvka.h calls enough
  *
- * A_LINK, A_VERTEX, A_BYTE and MORE are its figures. */
+ * A_LINK, A_VERTEX, A_BYTE, MERGED_LINK, MERGED_VERTEX and MORE are its figures. */
 #include <boruvka.h>
 #include <inttypes.h>
 #include <stdio.h>
@@ -19,6 +19,7 @@ static const char given_text[] = "p sp 6 8\na 1 2 17\na 1 3 10\na 2 4 2\na 3 5 0
 static const char found_text[] = "p sp 6 5\na 2 5 0\na 3 4 0\na 3 5 0\na 4 6 3\na 1 3 10\n";
 static const struct boruvka_link net[LINKS] = {{17, 1, 2}, {10, 1, 3}, {2, 2, 4}, {0, 3, 5}, {0, 4, 3}, {3, 4, 6}, {0, 5, 2}, {20, 5, 6}};
 static const struct boruvka_link forest[FOUND] = {{0, 2, 5}, {0, 3, 4}, {0, 3, 5}, {3, 4, 6}, {10, 1, 3}};
+static const struct boruvka_merge joined[FOUND] = {{1, 4, 2}, {2, 3, 2}, {6, 7, 4}, {5, 8, 5}, {0, 9, 6}};
 
 static void wrong(const char *what, int line) {
     fprintf(stderr, "within.c, line %d: not so: %s\n", line, what);
@@ -47,6 +48,15 @@ static int has_text(unsigned char *block, size_t size) {
     return answer >= 0;
 }
 
+static int has_merges(unsigned char *block, size_t size) {
+    static const struct boruvka_merge none[FOUND];
+    struct boruvka_merge merges[FOUND] = {{0, 0, 0}};
+    const int64_t answer = boruvka_merges_within((struct boruvka_memory){block, size}, VERTICES, forest, FOUND, merges, FOUND);
+    CHECK(answer == FOUND || answer == BORUVKA_NO_MEMORY);
+    CHECK(!memcmp(merges, answer == FOUND ? joined : none, sizeof merges));
+    return answer == FOUND;
+}
+
 /* Refusals that come before memory is wanted come without any, too. */
 static void refusals_without_memory(unsigned char *block) {
     struct boruvka_link links[LINKS];
@@ -55,17 +65,24 @@ static void refusals_without_memory(unsigned char *block) {
     CHECK(boruvka_forest_within(none, BORUVKA_MAX_VERTICES + 1, links, LINKS) == BORUVKA_TOO_MANY_VERTICES);
     CHECK(boruvka_forest_within(none, VERTICES - 1, links, LINKS) == BORUVKA_BAD_END);
     CHECK(!memcmp(links, net, sizeof net));
+    struct boruvka_merge merges[2] = {joined[0], joined[1]};
+    const struct boruvka_link loops[2] = {{1, 1, 2}, {0, 3, 3}};
+    CHECK(boruvka_merges_within(none, BORUVKA_MAX_VERTICES + 1, loops, 2, merges, 1) == BORUVKA_LENGTHS_DIFFER);
+    CHECK(boruvka_merges_within(none, BORUVKA_MAX_VERTICES + 1, loops, 2, merges, 2) == BORUVKA_TOO_MANY_VERTICES);
+    CHECK(boruvka_merges_within(none, 2, loops, 2, merges, 2) == BORUVKA_BAD_END);
+    CHECK(boruvka_merges_within(none, 3, loops, 2, merges, 2) == BORUVKA_CYCLE);
+    CHECK(!memcmp(merges, joined, sizeof merges));
     struct boruvka_fault fault = {1, 1};
     CHECK(boruvka_forest_text_within(none, (const uint8_t *)"x\n", 2, block, 0, &fault) == BORUVKA_UNKNOWN_LINE && fault.line == 1);
 }
 
 static void sizes(void) {
     static _Alignas(16) unsigned char pages[EDGE + 4 * PAGE + EDGE];
-    int had_forest = 0, had_text = 0;
+    int had_forest = 0, had_text = 0, had_merges = 0;
     refusals_without_memory(pages + EDGE);
     for (size_t size = 0; size <= 4 * PAGE; size += size < 3 * 16 || size % PAGE >= PAGE - 20 || size % PAGE < 20 ? 1 : 13) {
         memset(pages, SIGN, sizeof pages);
-        const int has = has_forest(pages + EDGE, size), says = has_text(pages + EDGE, size);
+        const int has = has_forest(pages + EDGE, size), says = has_text(pages + EDGE, size), joins = has_merges(pages + EDGE, size);
         for (size_t i = 0; i < EDGE; i++) {
             CHECK(pages[i] == SIGN);
         }
@@ -74,18 +91,20 @@ static void sizes(void) {
         }
         CHECK(has >= had_forest || size < PAGE);
         CHECK(says >= had_text || size < PAGE);
+        CHECK(joins >= had_merges || size < PAGE);
         had_forest = has;
         had_text = says;
+        had_merges = joins;
     }
-    CHECK(had_forest && had_text);
+    CHECK(had_forest && had_text && had_merges);
 }
 
 /* After a call its memory is the caller's again: a later call within other memory doesn't read or write it. */
 static void given_back(void) {
     static _Alignas(16) unsigned char first[4 * PAGE], second[4 * PAGE];
-    CHECK(has_forest(first, sizeof first) && has_text(first, sizeof first));
+    CHECK(has_forest(first, sizeof first) && has_text(first, sizeof first) && has_merges(first, sizeof first));
     memset(first, SIGN, sizeof first);
-    CHECK(has_forest(second, sizeof second) && has_text(second, sizeof second));
+    CHECK(has_forest(second, sizeof second) && has_text(second, sizeof second) && has_merges(second, sizeof second));
     for (size_t i = 0; i < sizeof first; i++) {
         CHECK(first[i] == SIGN);
     }
@@ -121,6 +140,23 @@ static unsigned char *block_of(size_t size) {
     return block;
 }
 
+/* The merges of a forest of `count` of these m links, and the refusal of all m, which close a cycle if one is there. */
+static void enough_for_merges(uint32_t n, struct boruvka_link *links, size_t m, size_t count) {
+    struct boruvka_merge *merges = calloc(m, sizeof *merges);
+    CHECK(merges != 0);
+    for (size_t k = count;; k = m) {
+        const size_t size = MERGED_LINK * k + MERGED_VERTEX * (size_t)n + MORE;
+        unsigned char *block = block_of(size);
+        const int64_t answer = boruvka_merges_within((struct boruvka_memory){block, size}, n, links, k, merges, k);
+        CHECK(k == count ? answer == (int64_t)k : answer == BORUVKA_CYCLE);
+        free(block);
+        if (k == m) {
+            break;
+        }
+    }
+    free(merges);
+}
+
 static void enough_for(enum shape shape, uint64_t seed, uint32_t n, size_t m) {
     struct boruvka_link *links = malloc(m * sizeof *links);
     char *text = malloc(64 + 45 * m);
@@ -134,6 +170,7 @@ static void enough_for(enum shape shape, uint64_t seed, uint32_t n, size_t m) {
     unsigned char *block = block_of(of_links > of_text ? of_links : of_text);
     const int64_t count = boruvka_forest_within((struct boruvka_memory){block, of_links}, n, links, m);
     CHECK(count >= 0);
+    enough_for_merges(n, links, m, (size_t)count);
     struct boruvka_fault fault;
     uint8_t none;
     CHECK(boruvka_forest_text_within((struct boruvka_memory){block, of_text}, (const uint8_t *)text, length, &none, 0, &fault) > 0);

@@ -74,6 +74,28 @@ static inline int64_t forest_text_within(const uint8_t *text, size_t length, uin
     return answer;
 }
 
+static inline int64_t merges_in_within(uint32_t n, const struct boruvka_link *links, size_t k, struct boruvka_merge *merges, size_t room) {
+    void *before = calloc(room + 1, sizeof *merges);
+    memcpy(before, merges, room * sizeof *merges);
+    int64_t answer = BORUVKA_NO_MEMORY;
+    for (size_t size = 100; answer == BORUVKA_NO_MEMORY && size < (size_t)1 << 36; size = size * 2 + 7) {
+        unsigned char *block = edged(size);
+        answer = boruvka_merges_within((struct boruvka_memory){block + EDGE, size}, n, links, k, merges, room);
+        given_back(block, size);
+        if (answer == BORUVKA_NO_MEMORY) {
+            same(before, merges, room * sizeof *merges);
+        }
+    }
+    free(before);
+    return answer;
+}
+
+static inline int64_t merges_within(uint32_t n, const struct boruvka_link *links, size_t k, struct boruvka_merge *merges) {
+    return merges_in_within(n, links, k, merges, k);
+}
+
 #define boruvka_forest forest_within
 #define boruvka_forest_text forest_text_within
+#define boruvka_merges merges_within
+#define boruvka_merges_in merges_in_within
 #define boruvka_fault_text boruvka_fault_text_within

@@ -5,6 +5,9 @@
 //                                                                      error `answer kind line` and the text of the kind
 //     node --experimental-wasm-memory64 within.mjs MODULE list         `n m` and then m times `low high weight` on standard
 //                                                                      input: their forest's text
+//     node --experimental-wasm-memory64 within.mjs MODULE merges       the same input, of links that close no cycle and
+//                                                                      don't descend: a line `first second size` for each,
+//                                                                      or the refusal's code
 //
 // One instance makes all calls, the memory is doubled while it is too small, and a wrong byte behind it ends the script.
 import { readFileSync, writeSync } from "node:fs";
@@ -60,20 +63,26 @@ function text(source, room) {
   writeSync(2, `${answer} ${kind} ${line} ${why}\n`);
 }
 
-function list(source) {
+// The words of a list, with its links at `links`.
+const links = base + 32;
+function listed(source) {
   const words = new TextDecoder().decode(source).split(/\s+/);
   const n = Number(words[0]), m = Number(words[1]);
-  const links = base + 32;
   reach(links + 16 * m);
-  let view = new DataView(exports.memory.buffer);
+  const view = new DataView(exports.memory.buffer);
   for (let i = 0; i < m; i++) {
     view.setBigInt64(links + 16 * i, BigInt(words[3 * i + 4]), true);
     view.setUint32(links + 16 * i + 8, Number(words[3 * i + 2]), true);
     view.setUint32(links + 16 * i + 12, Number(words[3 * i + 3]), true);
   }
+  return { n, m };
+}
+
+function list(source) {
+  const { n, m } = listed(source);
   const count = within(links + 16 * m, (memory) => exports.boruvka_forest_within(memory, n, BigInt(links), BigInt(m)));
   if (count < 0n) throw new Error(`refused: ${count}`);
-  view = new DataView(exports.memory.buffer);
+  const view = new DataView(exports.memory.buffer);
   let text = `p sp ${n} ${count}\n`;
   for (let i = 0; i < Number(count); i++) {
     text += `a ${view.getUint32(links + 16 * i + 8, true)} ${view.getUint32(links + 16 * i + 12, true)} ${view.getBigInt64(links + 16 * i, true)}\n`;
@@ -81,6 +90,20 @@ function list(source) {
   writeSync(1, text);
 }
 
+function merges(source) {
+  const { n, m } = listed(source), into = links + 16 * m, behind = into + 12 * m;
+  reach(behind + 64);
+  new Uint8Array(exports.memory.buffer, into, 12 * m + 64).fill(SIGN);
+  const answer = within(unit(behind + 64), (memory) => exports.boruvka_merges_within(memory, n, BigInt(links), BigInt(m), BigInt(into), BigInt(m)));
+  const from = answer < 0n ? into : behind;
+  if (!new Uint8Array(exports.memory.buffer, from, behind + 64 - from).every((it) => it === SIGN)) throw new Error("a byte that is no merge was written");
+  const rows = new Uint32Array(exports.memory.buffer, into, 3 * m);
+  let text = answer < 0n ? `${answer}\n` : "";
+  for (let i = 0; i < Number(answer); i++) text += `${rows.subarray(3 * i, 3 * i + 3).join(" ")}\n`;
+  writeSync(1, text);
+}
+
 const source = readFileSync(0);
 if (process.argv[3] === "text") text(source, Number(process.argv[4]));
+else if (process.argv[3] === "merges") merges(source);
 else list(source);

@@ -9,7 +9,7 @@ from cases.embedding import ENVIRONMENT, FAULTY, INCLUDE, MINUTES, compiler, lib
 from cases.running import ROOT, SMALL_FOREST, SMALL_NET, Skipped, case, drawn_graph, expect, forest_text, ran, run
 
 BUILT = f"{ROOT}/crates/boruvka_within/out"
-NAMES = {"boruvka_fault_text_within", "boruvka_forest_text_within", "boruvka_forest_within"}
+NAMES = {"boruvka_fault_text_within", "boruvka_forest_text_within", "boruvka_forest_within", "boruvka_merges_within"}
 CALLED = {"memcpy", "memmove", "memset"}
 
 
@@ -30,9 +30,10 @@ def enough():
     """What include/boruvka.h calls enough, as words for a compiler."""
     with open(f"{ROOT}/include/boruvka.h", encoding="utf-8") as it:
         text = " ".join(it.read().replace("\n *", "\n").split())
-    shape = r"for a list, (\d+) bytes a link, (\d+) a vertex and (\d+) more; for a text, (\d+) times its length, \2 bytes a vertex and \3 more"
-    link, vertex, more, byte = re.search(shape, text).groups()
-    return [f"-DA_LINK={link}", f"-DA_VERTEX={vertex}", f"-DMORE={more}", f"-DA_BYTE={byte}"]
+    shape = r"for a list, (\d+) bytes a link, (\d+) a vertex and (\d+) more; for a text, (\d+) times its length, \2 bytes a vertex and \3 more; "
+    shape += r"for merges, (\d+) bytes a link, (\d+) a vertex and \3 more"
+    names = ("A_LINK", "A_VERTEX", "MORE", "A_BYTE", "MERGED_LINK", "MERGED_VERTEX")
+    return [f"-D{name}={figure}" for name, figure in zip(names, re.search(shape, text).groups())]
 
 
 def caller(room):
@@ -71,6 +72,17 @@ def expect_answers(of):
         expect(run(of("text", "100"), source), 0, b"", b"%d %d %d %s\n" % (code, code, line, kind.encode()))
 
 
+def merged(vertices, links):
+    """The merges of links by whole sets of vertices, the lower cluster first."""
+    clusters = {end - 1: {end} for low, high, _ in links for end in (low, high)}
+    rows = []
+    for place, (low, high, _) in enumerate(links):
+        one, other = (next(name for name, members in clusters.items() if end in members) for end in (low, high))
+        clusters[vertices + place] = clusters.pop(one) | clusters.pop(other)
+        rows.append((min(one, other), max(one, other), len(clusters[vertices + place])))
+    return rows
+
+
 @case
 def the_library_within_memory_calls_nothing_else(room):
     archive = library()
@@ -96,7 +108,7 @@ def each_size_of_memory(room):
 
 
 def least(room, shape, vertices, arcs):
-    """Of the list and of the text of a graph: the least memory, and the peak by malloc; tests/cases/least.c, built once."""
+    """Of a graph's list, its text and its forest's merges: the least memory, and the peak by malloc; tests/cases/least.c, built once."""
     made = f"{room}/../least"
     if not os.path.exists(made):
         wrapped = [f"-Wl,--wrap={it}" for it in ("malloc", "realloc", "free")]
@@ -104,8 +116,8 @@ def least(room, shape, vertices, arcs):
         expect(run([*words, library(), libraries()[0]]), 0, b"", b"")
     status, output, errors = run([made, shape, str(vertices), str(arcs)], seconds=300)
     expect((status, b"", errors), 0, b"", b"")
-    *_, of_list, list_by_malloc, of_text, text_by_malloc = map(int, output.split()[1:])
-    return (of_list, list_by_malloc), (of_text, text_by_malloc)
+    figures = [int(it) for it in output.split()[3:]]
+    return list(zip(figures[::2], figures[1::2]))
 
 
 @case
@@ -118,16 +130,19 @@ def the_least_memory_beside_that_of_malloc(room):
 
 
 @case
-def the_most_memory_that_lists_and_texts_need(room):
+def the_most_memory_that_lists_texts_and_merges_need(room):
     """What the header calls enough is enough for these, and little more than they need."""
-    link, vertex, more, byte = (int(it.split("=")[1]) for it in enough())
+    link, vertex, _, byte, merged_link, merged_vertex = (int(it.split("=")[1]) for it in enough())
     for arcs in (1_025, 16_385, 65_537):
-        _, (of_text, _) = least(room, "pair", 9, arcs)
+        _, (of_text, _), _ = least(room, "pair", 9, arcs)
         length = len(f"p sp 9 {arcs}\n") + 8 * arcs
         expect((arcs, 10 * of_text >= 9 * byte * length, b""), arcs, True, b"")
     for vertices, arcs, tenths in [(60_000, 80_004, 98), (30_000, 60_000, 97)]:
-        (of_list, _), _ = least(room, "late", vertices, arcs)
+        (of_list, _), _, _ = least(room, "late", vertices, arcs)
         expect((arcs, 100 * of_list >= tenths * (link * arcs + vertex * vertices), b""), arcs, True, b"")
+    for shape, vertices, arcs in [("path", 60_000, 59_999), ("star", 60_000, 30_000), ("drawn", 60_000, 1)]:
+        *_, (of_merges, _) = least(room, shape, vertices, arcs)
+        expect((shape, 100 * of_merges >= 99 * (merged_link * arcs + merged_vertex * vertices), b""), shape, True, b"")
     # just past, and just at, where a list and a text double; and numbers that part after part leaves apart
     for graph in [("ring", 23_740, 189_917), ("path", 16_386, 16_385), ("star", 16_384, 16_383), ("drawn", 90_000, 65_537), ("pair", 9, 16_384)]:
         least(room, *graph)
@@ -154,3 +169,19 @@ def threads_within_memory_of_their_own(room):
 def the_module_answers_as_the_program(room):
     words = by_node()
     expect_answers(lambda *more: [*words, *more])
+
+
+@case
+def the_module_merges_clusters(room):
+    words = [*by_node(), "merges"]
+    # the single linkage of scipy for the points 0, 2, 5, 9, 10 and 20 of a line, by hand
+    line = [(4, 5, 1), (1, 2, 2), (2, 3, 3), (3, 4, 4), (5, 6, 10)]
+    wanted = [(3, 4, 2), (0, 1, 2), (2, 7, 3), (6, 8, 5), (5, 9, 6)]
+    for vertices, links, rows in [(0, [], []), (3, [], []), (6, line, wanted)]:
+        source = "".join(" ".join(map(str, it)) + "\n" for it in [(vertices, len(links)), *links]).encode()
+        expect(run(words, source), 0, "".join("%d %d %d\n" % it for it in rows).encode(), b"")
+    for vertices, _, forest in worked():
+        source = "".join(" ".join(map(str, it)) + "\n" for it in [(vertices, len(forest)), *forest]).encode()
+        expect(run(words, source), 0, "".join("%d %d %d\n" % it for it in merged(vertices, forest)).encode(), b"")
+    for source, code in [(b"2 1\n1 3 0\n", -2), (b"67108865 1\n1 2 0\n", -3), (b"2 2\n1 2 0\n2 1 1\n", -19), (b"3 2\n1 2 0\n2 3 -1\n", -20)]:
+        expect(run(words, source), 0, b"%d\n" % code, b"")

@@ -1,5 +1,5 @@
 -- The first places of links among arcs.
-use Rattle.std.proofs.Common.{◌≡◌, ℕ, ◌-◌, ◌^◌, ◌<◌, ◌≤◌, ◌⊎◌, Bool, true, false, List, [], ◌∷◌, map, drop, ap₂, Contains, length, get_or, min, max, refl, sym, ap, ◌∙◌, subst, inl, inr, arith}
+use Rattle.std.proofs.Common.{◌≡◌, ℕ, ◌-◌, ◌^◌, ◌<◌, ◌≤◌, ◌⊎◌, Bool, true, false, List, Contains, length, get_or, min, max, refl, sym, ap, ◌∙◌, subst, inl, inr, arith}
 use Rattle.std.specs.List.{filter}
 use Rattle.std.specs.List.Sorted.{IsPermutation}
 use mathlib.Core.Bool.{false≢true}
@@ -12,15 +12,11 @@ use Rattle.limits.specs.declared.TheConstants.{MAX_ARCS}
 use Rattle.links.specs.Arc.{Arc}
 use Rattle.links.specs.Link.{Key, AreLinksOf, IsAscending, IsBelow, key_of, arc_key, is_no_loop}
 use Rattle.links.specs.declared.links.Link.{Link}
-use Rattle.links.proofs.Keys.{link_eq, below_irrefl}
+use Rattle.links.proofs.Keys.{below_irrefl}
 use Rattle.links.proofs.Kept.{kept_in}
 use Rattle.boruvka_c.specs.declared.candidates.Candidate.{Candidate}
 use Rattle.boruvka_c.specs.Candidates.{AreOfArcs, HasCandidate, IsLeastOf}
 use Rattle.boruvka_c.specs.Places.{IsLinkAt, IsAmong, IsFirstFrom}
-
--- links of one key are one link
-pub one_key : (l m : Link) → key_of l ≡ key_of m → l ≡ m
-one_key l m same = link_eq l m (ap (λ (k : Key). k.0) same) (ap (λ (k : Key). k.1) same) (ap (λ (k : Key). k.2) same)
 
 -- a loop is no link
 pub loop_no_link : (arcs : List Arc) (k : ℕ) (d : Arc) (l : Link) → is_no_loop (get_or arcs k d) ≡ false → IsLinkAt arcs l k → ⊥
@@ -107,12 +103,3 @@ one_place links i j d up i_in j_in same = elim (cases_lt i j) [
 pub not_true : (b : Bool) → (b ≡ true → false ≡ true) → b ≡ false
 not_true true never = absurd (false≢true (never refl))
 not_true false never = refl
-
--- lists of links with the same keys are one list
-pub same_keys : (links others : List Link) → map key_of links ≡ map key_of others → links ≡ others
-same_keys [] [] same = refl
-same_keys [] (m ∷ others) same = absurd (omega (arith, ap length same))
-same_keys (l ∷ links) [] same = absurd (omega (arith, ap length same))
-same_keys (l ∷ links) (m ∷ others) same =
-    ap₂ (λ (k : Link) (ks : List Link). k ∷ ks) (one_key l m (ap (λ (keys : List Key). get_or keys 0 (key_of l)) same))
-    (same_keys links others (ap (λ (keys : List Key). drop 1 keys) same))

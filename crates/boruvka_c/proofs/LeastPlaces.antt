@@ -19,7 +19,8 @@ use Rattle.links.proofs.WideKeys.{wide_below, wide_one}
 use Rattle.boruvka_c.specs.declared.candidates.Candidate.{Candidate}
 use Rattle.boruvka_c.specs.Places.{IsLinkAt}
 use Rattle.boruvka_c.specs.Candidates.{IsMarked, AreInKeyOrder, AreOfArcs, HasCandidate, IsLeastOf}
-use Rattle.boruvka_c.proofs.FirstPlaces.{one_key, one_place}
+use Rattle.caller_forests.proofs.Givens.{one_key}
+use Rattle.boruvka_c.proofs.FirstPlaces.{one_place}
 
 not_less : (x y : ℤ) → is_lt (int_cmp x y) ≡ false → lt_z x y ≡ false
 not_less x y = by_tests (lt_z x y) (lt_z y x)

@@ -1,4 +1,3 @@
 mod Columns
 mod LeastPlaces
 mod FirstPlaces
-mod NoLoops

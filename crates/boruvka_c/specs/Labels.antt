@@ -1,25 +1,12 @@
 -- Labels of vertices by the components that links in the caller's memory join.
-use Rattle.std.specs.Prelude.{◌≡◌, ◌≢◌, ℕ, ℤ, ◌<◌, ◌≤◌, List, length, All, Contains}
+use Rattle.std.specs.Prelude.{◌≡◌, ℕ, ℤ, ◌<◌, ◌≤◌, List, length, Contains}
 use Rattle.limits.specs.declared.TheConstants.{MAX_ARCS, MAX_VERTICES}
-use Rattle.links.specs.Link.{AreLinksOf}
-use Rattle.links.specs.declared.links.Link.{Link}
-use Rattle.link_key.specs.Components.{IsAcyclic, AreLeastVertices}
-use Rattle.caller_forests.specs.Links.{AreRight, HaveEnds, arcs_of}
+use Rattle.link_key.specs.Components.{AreLeastVertices}
+use Rattle.caller_forests.specs.Links.{AreRight, HaveEnds, HaveNoLoop, CloseNoCycle}
 use Rattle.caller_forests.specs.declared.given.GivenLink.{GivenLink}
 use Rattle.caller_forests.specs.declared.refusals.Refusal.{Refusal}
 use Rattle.caller_forests.specs.declared.refusals.Refusal.TheVariants.{NoMemory, BadEnd, TooManyVertices, TooManyLinks, Cycle}
 use Rattle.caller_forests.specs.Refusals.{code_of}
-
--- the ends of each link differ
-abbrev pub HaveNoLoop : List GivenLink → Type 0
-HaveNoLoop given = All (λ l. l.low ≢ l.high) given
-
--- links that close no cycle: none is a loop, and none is given twice
-pub record CloseNoCycle (given : List GivenLink) : Type 0 where
-  pub no_loop : HaveNoLoop given
-  pub links : List Link
-  pub are_links : AreLinksOf (arcs_of given) links
-  pub acyclic : IsAcyclic links
 
 -- each of the vertices 1 to n is labelled by the least of those that the links join with it
 pub record AreLabelsBy (n : ℕ) (given : List GivenLink) (label : List ℕ) : Type 0 where

@@ -1,6 +1,5 @@
 pub mod Arcs
 pub mod Candidates
 pub mod Labels
-pub mod Merges
 pub mod Places
 pub mod Totals

@@ -1,20 +1,13 @@
 //! Labels of vertices by the components that links in the caller's memory join.
-ghost use Rattle.std.specs.Prelude.{◌≡◌, ◌↔◌, ◌≤ℤ◌, pos, length, IsTrue, IfErr, OnOk, OnErr};
+ghost use Rattle.std.specs.Prelude.{◌≡◌, ◌≤ℤ◌, pos, length, IfErr, OnOk, OnErr};
 ghost use Rattle.std.specs.Int.Signed.{◌<ℤ◌};
-ghost use Rattle.boruvka_c.specs.Labels.{HaveNoLoop, AreLabelsBy, IsLabelsRefusal, RefusesLabels};
+ghost use Rattle.boruvka_c.specs.Labels.{AreLabelsBy, IsLabelsRefusal, RefusesLabels};
 ghost use Rattle.caller_forests.specs.Links.{AreRight};
 
-use caller_forests::{GivenLink, Refusal, have_ends, links_of};
+use caller_forests::{GivenLink, Refusal, have_ends, have_no_loop, links_of};
 use limits::{MAX_ARCS, MAX_VERTICES};
 use link_key::components_of;
 use std::alloc::Global;
-
-// Whether the ends of each link differ.
-pub(crate) fn have_no_loop(links: &[GivenLink]) -> bool
-    ensures { IsTrue result ↔ HaveNoLoop links.now }
-{
-    links.iter().all(|link| link.low != link.high)
-}
 
 // Writes the labels of the vertices 1, 2, ..
 fn find_labels(alloc: Global, links: &[GivenLink], label: &mut [u32]) -> Result<(), Refusal>

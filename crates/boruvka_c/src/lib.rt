@@ -5,7 +5,7 @@
 //!   links    --caller_forests::put_forest-->  the first of the links                           boruvka_forest
 //!   columns  --arcs-->  Vec<Link>  --forest_of-->  Forest  --candidates-->  the caller's places       boruvka_places_in
 //!   links    --links_of-->  Vec<Link>  --components_of-->  Labels  -->  the caller's labels       boruvka_labels_in
-//!   links    --links_of-->  Vec<Link>  --merges_of-->  Vec<Merge>  -->  the caller's merges      boruvka_merges_in
+//!   links    --caller_forests::put_merges-->  the caller's merges                                boruvka_merges_in
 //!   links    --totals-->  their sum in two words                                                 boruvka_total
 //!   text     --caller_forests::put_forest_text-->  the caller's room                           boruvka_forest_text
 //!   a code   --caller_forests::put_fault_text-->  the caller's room                              boruvka_fault_text
@@ -16,7 +16,7 @@
 //!   cause; where it refuses, the caller's links, places, labels, merges and room stay as they were.
 //! - Nothing is written past what a caller gave.
 //!
-//! Where to start a change: a call's meaning, `specs/Places`, `Labels`, `Merges` and `Totals` here, `specs/Links` and `Texts` of
+//! Where to start a change: a call's meaning, `specs/Places`, `Labels` and `Totals` here, `specs/Links`, `Merges` and `Texts` of
 //! `caller_forests`; a refusal, its code and its text, `caller_forests`; what C sees change its meaning, `CALLS_VERSION`
 //! too.
 #![tactic(auto)]

@@ -1,71 +1,19 @@
 //! The merges of clusters that links in the caller's memory make.
-ghost use Rattle.std.specs.Prelude.{◌≡◌, ◌↔◌, ◌≤ℤ◌, pos, length, IsTrue, IfErr, OnOk, OnErr};
+ghost use Rattle.std.specs.Prelude.{◌≡◌, ◌≤ℤ◌, pos, length};
 ghost use Rattle.std.specs.Int.Signed.{◌<ℤ◌};
-ghost use Rattle.boruvka_c.specs.Merges.{NoneDescends, HaveMerges, AreMergesBy, IsMergesRefusal, RefusesMerges};
+ghost use Rattle.caller_forests.specs.Merges.{HaveMerges, AreMergesBy, RefusesMerges};
 
-use crate::labels::have_no_loop;
-use caller_forests::{GivenLink, Refusal, have_ends, links_of};
-use limits::{MAX_ARCS, MAX_VERTICES};
-use link_merges::{Merge, merges_of};
+use caller_forests::{GivenLink, put_merges};
+use link_merges::Merge;
 use std::alloc::Global;
 
-// Whether no link weighs less than one before it.
-fn none_descends(links: &[GivenLink]) -> bool
-    ensures { IsTrue result ↔ NoneDescends links.now }
-{
-    links.is_sorted_by(|earlier, later| earlier.weight <= later.weight)
-}
-
-// Writes the merges, link by link.
-fn find_merges(
-    alloc: Global,
-    n: u32,
-    links: &[GivenLink],
-    merges: &mut [Merge],
-) -> Result<(), Refusal>
-    ensures right { OnOk result (HaveMerges n links.now (length merges.old)) }
-    ensures found { OnOk result (AreMergesBy n links.now merges.new) }
-    ensures refused { IfErr result (λ why. IsMergesRefusal n links.now (length merges.old) why) }
-    ensures untouched { OnErr result (merges.new ≡ merges.old) }
-{
-    if merges.len() != links.len() {
-        return Err(Refusal::LengthsDiffer);
-    }
-    if n > MAX_VERTICES {
-        return Err(Refusal::TooManyVertices);
-    }
-    if links.len() > MAX_ARCS as usize {
-        return Err(Refusal::TooManyLinks);
-    }
-    if !have_ends(n, links) {
-        return Err(Refusal::BadEnd);
-    }
-    if !have_no_loop(links) {
-        return Err(Refusal::Cycle);
-    }
-    let Ok(list) = links_of(alloc, n, links) else {
-        return Err(Refusal::NoMemory);
-    };
-    let Ok(found) = merges_of(alloc, n, list.as_slice()) else {
-        return Err(Refusal::NoMemory);
-    };
-    let Some(rows) = found else {
-        return Err(Refusal::Cycle);
-    };
-    if !none_descends(links) {
-        return Err(Refusal::Descending);
-    }
-    merges.copy_from_slice(rows.as_slice());
-    Ok(())
-}
-
 /// Writes the merges of the clusters of `n` points by these links over `merges`, a merge for each link, and answers how many
-/// these are; or answers the code of a [`Refusal`], which is negative. The points are the clusters 0 to n - 1, of which
-/// cluster v - 1 is the vertex v; the link at place i joins two clusters into the cluster n + i. So with weights for heights
-/// n - 1 merges are a linkage matrix, and those of a forest are single linkage.
+/// these are; or answers the code of a [`caller_forests::Refusal`], which is negative. The points are the clusters 0 to
+/// n - 1, of which cluster v - 1 is the vertex v; the link at place i joins two clusters into the cluster n + i. So with
+/// weights for heights n - 1 merges are a linkage matrix, and those of a forest are single linkage.
 ///
 /// The links close no cycle, and none weighs less than one before it; their ends may come in either order. It takes the time
-/// and the memory of [`merges_of`], three passes over the links beside, and 16 bytes a link for the list that it works in.
+/// and the memory of [`put_merges`].
 #[unsafe(no_mangle)]
 pub extern "C" fn boruvka_merges_in(
     alloc: Global,
@@ -82,8 +30,5 @@ pub extern "C" fn boruvka_merges_in(
     ensures refused { result <ℤ pos 0 → RefusesMerges n links.now (length merges.old) result }
     ensures untouched { result <ℤ pos 0 → merges.new ≡ merges.old }
 {
-    match find_merges(alloc, n, links, merges) {
-        Ok(()) => links.len() as i64,
-        Err(why) => why.code(),
-    }
+    put_merges(alloc, n, links, merges)
 }

@@ -1,9 +1,10 @@
-//! The forest for callers that give up the memory for it: a static library of calls over [`caller_forests`], each with a
-//! heap within that memory alone. It calls nothing but `memcpy`, `memmove` and `memset`. `include/boruvka.h` is its header,
-//! too.
+//! Forests and merges for callers that give up the memory for them: a static library of calls over [`caller_forests`], each
+//! with a heap within that memory alone. It calls nothing but `memcpy`, `memmove` and `memset`. `include/boruvka.h` is its
+//! header, too.
 //!
 //! ```text
 //!   memory   --region_heap::heap_within-->  a heap  --caller_forests::put_forest-->  the first of the links
+//!   memory   --------------- the same ----------->  --caller_forests::put_merges-->  the caller's merges
 //!   memory   --------------- the same ----------->  --caller_forests::put_forest_text-->  the caller's room
 //! ```
 //!
@@ -14,7 +15,9 @@
 #![tactic(auto)]
 
 mod forests;
+mod merges;
 mod texts;
 
 pub use forests::boruvka_forest_within;
+pub use merges::boruvka_merges_within;
 pub use texts::{boruvka_fault_text_within, boruvka_forest_text_within};

@@ -1,11 +1,12 @@
 -- Links as C gives them, one after the other.
-use Rattle.std.proofs.Common.{◌≡◌, ◌≢◌, true, false, ℕ, ◌+◌, ◌<◌, ◌≤◌, List, [], ◌∷◌, ◌++◌, map, take, drop, length, get_or, set, ap, sym, ◌∙◌, arith, add-one, append_assoc}
+use Rattle.std.proofs.Common.{◌≡◌, ◌≢◌, true, false, ℕ, ◌+◌, ◌<◌, ◌≤◌, List, [], ◌∷◌, ◌++◌, map, take, drop, length, get_or, set, ap, ap₂, refl, sym, ◌∙◌, arith, add-one, append_assoc}
 use Rattle.std.proofs.lemmas.List.{map-append, length-map, length-take-le, take_more}
 use Rattle.std.proofs.Math.Seq.{take-suc, drop-cons, set-append_seam}
 use Rattle.std.proofs.lemmas.Bool.Decides.{nat_tests}
 use Rattle.links.specs.Arc.{Arc}
-use Rattle.links.specs.Link.{key_of, arc_key, is_no_loop, AreLinksOf}
+use Rattle.links.specs.Link.{Key, key_of, arc_key, is_no_loop, AreLinksOf}
 use Rattle.links.specs.declared.links.Link.{Link}
+use Rattle.links.proofs.Keys.{link_eq}
 use Rattle.gr_text.proofs.Steps.{AreLinksOf-loop, AreLinksOf-link}
 use Rattle.caller_forests.specs.declared.given.GivenLink.{GivenLink}
 use Rattle.caller_forests.specs.Links.{arc_of, arcs_of, given_of}
@@ -51,3 +52,16 @@ more_loop arcs i d links lt are loop = rw (take_more arcs i d lt) (AreLinksOf-lo
 pub more_link : (arcs : List Arc) (i : ℕ) (d : Arc) (links : List Link) (l : Link) → i < length arcs → AreLinksOf (take i arcs) links → is_no_loop (get_or arcs i d) ≡ true
     → key_of l ≡ arc_key (get_or arcs i d) → AreLinksOf (take (i + 1) arcs) (links ++ l ∷ [])
 more_link arcs i d links l lt are no_loop key = rw (take_more arcs i d lt) (AreLinksOf-link (take i arcs) links (get_or arcs i d) l are no_loop key)
+
+-- links of one key are one link
+pub one_key : (l m : Link) → key_of l ≡ key_of m → l ≡ m
+one_key l m same = link_eq l m (ap (λ (k : Key). k.0) same) (ap (λ (k : Key). k.1) same) (ap (λ (k : Key). k.2) same)
+
+-- lists of links with the same keys are one list
+pub same_keys : (links others : List Link) → map key_of links ≡ map key_of others → links ≡ others
+same_keys [] [] same = refl
+same_keys [] (m ∷ others) same = absurd (omega (arith, ap length same))
+same_keys (l ∷ links) [] same = absurd (omega (arith, ap length same))
+same_keys (l ∷ links) (m ∷ others) same =
+    ap₂ (λ (k : Link) (ks : List Link). k ∷ ks) (one_key l m (ap (λ (keys : List Key). get_or keys 0 (key_of l)) same))
+    (same_keys links others (ap (λ (keys : List Key). drop 1 keys) same))

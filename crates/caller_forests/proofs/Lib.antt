@@ -1,2 +1,3 @@
 mod FirstFaults
 pub mod Givens
+mod NoLoops

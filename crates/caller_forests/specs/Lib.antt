@@ -1,3 +1,4 @@
 pub mod Links
+pub mod Merges
 pub mod Refusals
 pub mod Texts

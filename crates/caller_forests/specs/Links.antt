@@ -1,5 +1,5 @@
 -- Links in the caller's memory, and what becomes of them.
-use Rattle.std.specs.Prelude.{◌≡◌, ℕ, ℤ, pos, ◌<◌, ◌≤◌, ◌≤ℤ◌, List, ◌++◌, map, drop, length, All}
+use Rattle.std.specs.Prelude.{◌≡◌, ◌≢◌, ℕ, ℤ, pos, ◌<◌, ◌≤◌, ◌≤ℤ◌, List, ◌++◌, map, drop, length, All}
 use Rattle.std.specs.Int.Signed.{◌<ℤ◌}
 use Rattle.limits.specs.declared.TheConstants.{MAX_ARCS, MAX_VERTICES}
 use Rattle.links.specs.Arc.{Arc}
@@ -7,6 +7,7 @@ use Rattle.links.specs.Link.{AreLinksOf}
 use Rattle.links.specs.Forest.{IsForestOf}
 use Rattle.links.specs.Least.{sum_of_weights, IsLightest}
 use Rattle.links.specs.declared.links.Link.{Link}
+use Rattle.link_key.specs.Components.{IsAcyclic}
 use Rattle.gr_text.specs.Graph.{HasEnds}
 use Rattle.caller_forests.specs.declared.given.GivenLink.{GivenLink}
 use Rattle.caller_forests.specs.declared.refusals.Refusal.{Refusal}
@@ -27,6 +28,17 @@ given_of l = record { weight = l.weight; low = l.low; high = l.high }
 -- the ends of all are vertices of a graph with the vertices 1 to n
 abbrev pub HaveEnds : ℕ → List GivenLink → Type 0
 HaveEnds n given = All (λ l. HasEnds n (arc_of l)) given
+
+-- the ends of each link differ
+abbrev pub HaveNoLoop : List GivenLink → Type 0
+HaveNoLoop given = All (λ l. l.low ≢ l.high) given
+
+-- links that close no cycle: none is a loop, and none is given twice
+pub record CloseNoCycle (given : List GivenLink) : Type 0 where
+  pub no_loop : HaveNoLoop given
+  pub links : List Link
+  pub are_links : AreLinksOf (arcs_of given) links
+  pub acyclic : IsAcyclic links
 
 -- the minimum spanning forest of the links that were given, in the order of their keys, stands first, and behind it
 -- what stood there; no spanning forest weighs less

@@ -3,7 +3,7 @@ ghost use Rattle.std.specs.Prelude.{◌≡◌, ◌↔◌, ◌≤◌, ◌++◌, m
 ghost use Rattle.limits.specs.declared.TheConstants.{MAX_VERTICES};
 ghost use Rattle.links.specs.Link.{AreLinksOf, EndsUpTo, arc_key, key_of};
 ghost use Rattle.gr_text.specs.Graph.{HasEnds};
-ghost use Rattle.caller_forests.specs.Links.{arc_of, arcs_of, given_of, HaveEnds};
+ghost use Rattle.caller_forests.specs.Links.{arc_of, arcs_of, given_of, HaveEnds, HaveNoLoop};
 
 use limits::MAX_VERTICES;
 use links::Link;
@@ -55,6 +55,13 @@ pub fn have_ends(n: u32, links: &[GivenLink]) -> bool
     ensures { IsTrue result ↔ HaveEnds n links.now }
 {
     links.iter().all(|link| has_ends(n, link))
+}
+
+/// Whether the ends of each link differ.
+pub fn have_no_loop(links: &[GivenLink]) -> bool
+    ensures { IsTrue result ↔ HaveNoLoop links.now }
+{
+    links.iter().all(|link| link.low != link.high)
 }
 
 /// The links that these stand for, in their order; a loop stands for none. It takes 16 bytes a link.

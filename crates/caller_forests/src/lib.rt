@@ -1,30 +1,33 @@
-//! The forest of links, and the text of the forest of a text, in the caller's memory: the bodies of the calls for C, over
-//! any allocator.
+//! The forest of links, their merges, and the text of the forest of a text, in the caller's memory: the bodies of the calls
+//! for C, over any allocator.
 //!
 //! ```text
 //!   links    --given-->  Vec<Link>  --forest_of-->  Forest  --given-->  the first of the links   put_forest
+//!   links    --given-->  Vec<Link>  --merges_of-->  Vec<Merge>  -->  the caller's merges         put_merges
 //!   text     --plain_run::plain_text-->  the forest's text  --room-->  the caller's room         put_forest_text
 //!   a code   --refusals-->  its text  --room-->  the caller's room                               put_fault_text
 //! ```
 //!
 //! What it promises:
-//! - A call answers exactly the forest, as its definition in `link_key` and `plain_run` says, or a refusal with its
-//!   cause; where it refuses, the caller's links and room stay as they were.
+//! - A call answers exactly the forest or the merges, as their definitions in `link_key`, `plain_run` and `link_merges` say,
+//!   or a refusal with its cause; where it refuses, the caller's links, merges and room stay as they were.
 //! - Nothing is written past what a caller gave.
 //!
-//! Where to start a change: a call's meaning, `specs/Links` and `Texts`; a refusal, its code and its text,
+//! Where to start a change: a call's meaning, `specs/Links`, `Merges` and `Texts`; a refusal, its code and its text,
 //! `specs/Refusals`, then `refusals`, and `include/boruvka.h`.
 #![tactic(auto)]
 
 mod faults;
 mod forests;
 mod given;
+mod merges;
 mod refusals;
 mod room;
 mod texts;
 
 pub use faults::{Fault, put_fault_text};
 pub use forests::put_forest;
-pub use given::{GivenLink, have_ends, links_of};
+pub use given::{GivenLink, have_ends, have_no_loop, links_of};
+pub use merges::put_merges;
 pub use refusals::Refusal;
 pub use texts::put_forest_text;

@@ -2,7 +2,7 @@ use Rattle.std.proofs.Common.{Contains, length, sym, ap, ◌∙◌, subst, arith
 use Rattle.std.specs.Option.{is_some}
 use Rattle.std.proofs.lemmas.Bool.{false≢true}
 use Rattle.link_key.specs.Components.{IsAcyclic, AreLeastVertices}
-use Rattle.boruvka_c.proofs.FirstPlaces.{same_keys}
+use Rattle.caller_forests.proofs.Givens.{same_keys}
 use Rattle.boruvka_c.proofs.labels.find_labels.Goals as goal
 
 pub returns-in_default-found-clause-refused : goal.returns-in_default-found-clause-refused

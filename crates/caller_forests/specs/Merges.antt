@@ -4,12 +4,11 @@ use Rattle.std.specs.Int.Signed.{◌≤ℤ◌}
 use Rattle.limits.specs.declared.TheConstants.{MAX_ARCS, MAX_VERTICES}
 use Rattle.link_merges.specs.Merges.{AreMerges}
 use Rattle.link_merges.specs.declared.merges.Merge.{Merge}
-use Rattle.caller_forests.specs.Links.{AreRight, HaveEnds}
+use Rattle.caller_forests.specs.Links.{AreRight, HaveEnds, HaveNoLoop, CloseNoCycle}
 use Rattle.caller_forests.specs.declared.given.GivenLink.{GivenLink}
 use Rattle.caller_forests.specs.declared.refusals.Refusal.{Refusal}
 use Rattle.caller_forests.specs.declared.refusals.Refusal.TheVariants.{NoMemory, BadEnd, TooManyVertices, TooManyLinks, LengthsDiffer, Cycle, Descending}
 use Rattle.caller_forests.specs.Refusals.{code_of}
-use Rattle.boruvka_c.specs.Labels.{HaveNoLoop, CloseNoCycle}
 
 -- no link weighs less than one before it
 abbrev pub NoneDescends : List GivenLink → Type 0

@@ -5,7 +5,7 @@ use Rattle.std.proofs.lemmas.Int.{ints}
 use Rattle.std.proofs.lemmas.List.Sorted.{answers_always}
 use Rattle.links.proofs.Neighbours.{all_pairs_by_neighbours}
 use Rattle.caller_forests.specs.declared.given.GivenLink.{GivenLink}
-use Rattle.boruvka_c.proofs.merges.none_descends.Goals as goal
+use Rattle.caller_forests.proofs.merges.none_descends.Goals as goal
 
 -- the test for the order of two links
 abbrev weighs_no_more : GivenLink → GivenLink → Bool

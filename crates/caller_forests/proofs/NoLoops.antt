@@ -1,14 +1,12 @@
 -- Links without a loop stand for as many.
-use Rattle.std.proofs.Common.{◌≡◌, ◌≢◌, ℕ, suc, not, cond, List, [], ◌∷◌, length, map, filter, refl, sym, ap, ◌∙◌}
+use Rattle.std.proofs.Common.{◌≡◌, ◌≢◌, suc, not, cond, List, [], ◌∷◌, length, filter, refl, sym, ap, ◌∙◌}
 use Rattle.std.proofs.lemmas.Bool.{ne_eqb}
 use Rattle.std.proofs.lemmas.List.{length-map}
 use Rattle.std.proofs.lemmas.List.Elements.{All-head, All-tail}
-use Rattle.links.specs.Arc.{Arc}
 use Rattle.links.specs.Link.{AreLinksOf, key_of, arc_key, is_no_loop}
 use Rattle.links.specs.declared.links.Link.{Link}
-use Rattle.caller_forests.specs.Links.{arc_of, arcs_of}
+use Rattle.caller_forests.specs.Links.{arc_of, arcs_of, HaveNoLoop}
 use Rattle.caller_forests.specs.declared.given.GivenLink.{GivenLink}
-use Rattle.boruvka_c.specs.Labels.{HaveNoLoop}
 
 all_stay : (given : List GivenLink) → HaveNoLoop given → length (filter is_no_loop (arcs_of given)) ≡ length given
 all_stay [] none = refl

@@ -5,12 +5,12 @@ use Rattle.links.specs.declared.links.Link.{Link}
 use Rattle.link_key.specs.Components.{IsAcyclic}
 use Rattle.link_merges.specs.declared.merges.Merge.{Merge}
 use Rattle.link_merges.specs.Merges.{AreMerges}
-use Rattle.boruvka_c.proofs.FirstPlaces.{same_keys}
-use Rattle.boruvka_c.proofs.NoLoops.{as_many}
-use Rattle.boruvka_c.proofs.merges.find_merges.Goals as goal
+use Rattle.caller_forests.proofs.Givens.{same_keys}
+use Rattle.caller_forests.proofs.NoLoops.{as_many}
+use Rattle.caller_forests.proofs.merges.find_merges.Goals as goal
 
 pub returns-in_default-found-clause-refused : goal.returns-in_default-found-clause-refused
-returns-in_default-found-clause-refused c =
+returns-in_default-found-clause-refused g c =
     let list = c.in-Ok.list.items in (
       record { as_many = omega arith; right = (omega arith, omega arith, c.have_ends.ensures.0 c.if-not-have_ends.false) },
       λ closes.
@@ -20,7 +20,7 @@ returns-in_default-found-clause-refused c =
     )
 
 pub returns-then-not-none_descends-clause-refused : goal.returns-then-not-none_descends-clause-refused
-returns-then-not-none_descends-clause-refused c = (
+returns-then-not-none_descends-clause-refused g c = (
   record { as_many = omega arith; right = (omega arith, omega arith, c.have_ends.ensures.0 c.if-not-have_ends.false) },
   record {
     no_loop = c.have_no_loop.ensures.0 c.if-not-have_no_loop.false;
@@ -32,7 +32,7 @@ returns-then-not-none_descends-clause-refused c = (
 )
 
 pub copy_from_slice-requires : goal.copy_from_slice-requires
-copy_from_slice-requires c =
+copy_from_slice-requires g c =
     let stay = as_many c.args.links.now c.in-Ok.list.items (c.have_no_loop.ensures.0 c.if-not-have_no_loop.false) c.in-Ok.ensures.links in
     let merges = rw c.in-Some.is at c.in-Ok-merges_of.ensures.merges in
     let rows = merges.as_many in
@@ -41,7 +41,7 @@ copy_from_slice-requires c =
     omega (arith, stay, rows, given, found)
 
 pub returns-clause-found : goal.returns-clause-found
-returns-clause-found c =
+returns-clause-found g c =
     let list = c.in-Ok.list.items in
     let found = rw c.in-Some.is at c.in-Ok-merges_of.ensures.merges in
     record {
