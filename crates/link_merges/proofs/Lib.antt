@@ -1,9 +1,10 @@
-pub mod Moving
 pub mod Sizes
-pub mod Uniting
+pub mod Hanging
 pub mod Merging
 pub mod Starting
 pub mod Rows
 pub mod Reading
 pub mod Cutting
 pub mod Unique
+pub mod Unions
+pub mod Existing

@@ -1,5 +1,5 @@
--- One more link: it makes one slot of those of its ends, by a new name.
-use Rattle.std.proofs.Common.{◌≡◌, ◌≢◌, ℕ, ◌+◌, ◌<◌, ◌≤◌, ◌⊎◌, ◌↔◌, min, max, List, [], ◌∷◌, ◌++◌, length, get_or, take, Contains, Some, refl, sym, ap, ◌∙◌, subst, inl, inr, arith}
+-- One more link: it makes one tree of those of its ends, by a new name.
+use Rattle.std.proofs.Common.{◌≡◌, ◌≢◌, ℕ, ◌+◌, ◌<◌, ◌≤◌, ◌⊎◌, ◌↔◌, min, max, List, [], ◌∷◌, ◌++◌, length, get_or, take, Contains, Some, refl, sym, ap, ◌∙◌, subst, inl, inr, ⊎_elim, arith}
 use Rattle.std.specs.Prelude.{slice_get}
 use Rattle.std.proofs.lemmas.Bool.{cases_eq, cases_lt}
 use Rattle.std.proofs.lemmas.List.{take_more, length-take, get_or-take}
@@ -13,11 +13,10 @@ use Rattle.links.specs.LinkSet.{LinkSet, Without}
 use Rattle.links.proofs.Walks.{WithLink, joins_link, joins_link_back, joins_symm, joins_trans, joins_more, joins_alike, joins_equal}
 use Rattle.links.proofs.Cycles.{no_cycle_part, no_cycle_one_more}
 use Rattle.link_key.specs.Components.{IsAcyclic}
-use Rattle.link_merges.specs.declared.slots.Place.{Place}
-use Rattle.link_merges.specs.declared.slots.Slot.{Slot}
+use Rattle.link_merges.specs.declared.trees.Root.{Root}
 use Rattle.link_merges.specs.Merges.{FirstJoin, IsInCluster, IsClusterOf, HasSize, IsMerge}
-use Rattle.link_merges.specs.Slots.{slot_of, at_slot, AreListed, AreUnited, IsNamed, AreSlotsAfter}
-use Rattle.link_merges.proofs.Moving.{in_places}
+use Rattle.link_merges.specs.Trees.{at_root, AreUnited, IsNamed, AreRootsAfter}
+use Rattle.link_merges.proofs.Sizes.{size_both, size_same}
 
 -- the links up to place k are those before it and the link there
 pub first_more : (links : List Link) (k : ℕ) (l : Link) → slice_get links k ≡ Some l → take (k + 1) links ≡ take k links ++ l ∷ []
@@ -62,7 +61,7 @@ acyclic_more links k l link_at (distinct, none) apart = (
     new : (j : ℕ) (d : Link) → j < length (take k links) → get_or (take k links) j d ≢ l
     new j d lt same = apart (joins_link (Contains (take k links)) l (subst (Contains (take k links)) same (Contains-get_or (take k links) j d lt)))
 
--- the ends of a link that is to come are in two slots, where the links close no cycle
+-- the ends of a link that is to come aren't joined, where the links close no cycle
 pub ends_apart : (links : List Link) (k : ℕ) (l : Link) → slice_get links k ≡ Some l → IsAcyclic links → ¬ (FirstJoin links k l.low l.high)
 ends_apart links k l link_at (distinct, none) joined =
     none l (k, in_range, get_or_from_slice_get links k l l link_at)
@@ -81,23 +80,16 @@ ends_apart links k l link_at (distinct, none) joined =
     differs m (j, lt, at) same = let below = before_k j lt in
         distinct j k m below in_range (sym (get_or-take k links j m below) ∙ at ∙ same ∙ sym (get_or_from_slice_get links k l m link_at))
 
--- the link's ends p and q are in the slots `from` and `to`
-pub record AreEnds (places : List Place) (l : Link) (from to : ℕ) : Type 0 where
+-- the link's ends p and q have the roots `from` and `to`
+pub record AreEnds (root : ℕ → ℕ) (l : Link) (from to : ℕ) : Type 0 where
   pub p : ℕ
   pub q : ℕ
   pub are : ((p ≡ l.low) × (q ≡ l.high)) ⊎ ((p ≡ l.high) × (q ≡ l.low))
-  pub p_is : slot_of places p ≡ from
-  pub q_is : slot_of places q ≡ to
+  pub p_is : root p ≡ from
+  pub q_is : root q ≡ to
 
-pub ends_in_order : (places : List Place) (l : Link) (low high from to : ℕ) → slot_of places l.low ≡ low → slot_of places l.high ≡ high
-    → ((from ≡ low) × (to ≡ high)) ⊎ ((from ≡ high) × (to ≡ low)) → AreEnds places l from to
-ends_in_order places l low high from to of_low of_high (inl are) =
-    record { p = l.low; q = l.high; are = inl (refl, refl); p_is = of_low ∙ sym are.0; q_is = of_high ∙ sym are.1 }
-ends_in_order places l low high from to of_low of_high (inr are) =
-    record { p = l.high; q = l.low; are = inr (refl, refl); p_is = of_high ∙ sym are.0; q_is = of_low ∙ sym are.1 }
-
--- The link's ends are in two slots, and the vertices of the one went over to the other.
-module _ (n : ℕ) (links : List Link) (k : ℕ) (l : Link) (link_at : slice_get links k ≡ Some l) (in_n : l.high ≤ n) (places places' : List Place) (slots slots' : List Slot) (before : AreSlotsAfter n links k places slots) (from to : ℕ) (of_ends : AreEnds places l from to) (apart : from ≢ to) (united : AreUnited from to places places') (listed : AreListed places' slots') (named : (at_slot slots' to).name ≡ n + k) (others : (s : ℕ) → s ≢ to → (at_slot slots' s).name ≡ (at_slot slots s).name) where
+-- The link's ends have two roots, and the one went under the other.
+module _ (n : ℕ) (links : List Link) (k : ℕ) (l : Link) (link_at : slice_get links k ≡ Some l) (in_n : l.high ≤ n) (root root' : ℕ → ℕ) (roots roots' : List Root) (before : AreRootsAfter n links k root roots) (from to : ℕ) (of_ends : AreEnds root l from to) (apart : from ≢ to) (united : AreUnited from to root root') (here : at_root roots' to ≡ record { size = (at_root roots from).size + (at_root roots to).size; name = n + k }) (others : (r : ℕ) → r ≢ to → at_root roots' r ≡ at_root roots r) where
   abbrev p : ℕ
   p = of_ends.p
 
@@ -107,10 +99,10 @@ module _ (n : ℕ) (links : List Link) (k : ℕ) (l : Link) (link_at : slice_get
   ends : ((p ≡ l.low) × (q ≡ l.high)) ⊎ ((p ≡ l.high) × (q ≡ l.low))
   ends = of_ends.are
 
-  p_is : slot_of places p ≡ from
+  p_is : root p ≡ from
   p_is = of_ends.p_is
 
-  q_is : slot_of places q ≡ to
+  q_is : root q ≡ to
   q_is = of_ends.q_is
 
   abbrev S : LinkSet
@@ -146,120 +138,158 @@ module _ (n : ℕ) (links : List Link) (k : ℕ) (l : Link) (link_at : slice_get
     | inr are ↦ subst (λ x. (1 ≤ x) × (x ≤ n)) (sym are.1) low_in
   ]
 
-  to_in : (1 ≤ to) × (to < length places')
-  to_in =
-      let len = before.as_many in
-      let same = united.as_many in
-      let range = before.listed.in_range q q_in.0 (let at_most = q_in.1 in omega (arith, len, at_most)) in
-      (let some = range.0 in omega (arith, some, q_is), let lt = range.1 in omega (arith, lt, same, q_is))
+  from_in : (1 ≤ from) × (from ≤ n)
+  from_in = subst (λ r. (1 ≤ r) × (r ≤ n)) p_is (before.in_range p p_in.0 p_in.1)
 
-  p_now : slot_of places' p ≡ to
-  p_now = united.gone p p_is
+  to_in : (1 ≤ to) × (to ≤ n)
+  to_in = subst (λ r. (1 ≤ r) × (r ≤ n)) q_is (before.in_range q q_in.0 q_in.1)
 
-  q_now : slot_of places' q ≡ to
-  q_now = united.stayed q (λ is. apart (sym is ∙ q_is)) ∙ q_is
+  name_here : (at_root roots' to).name ≡ n + k
+  name_here = ap (λ (r : Root). r.name) here
 
-  low_now : slot_of places' l.low ≡ to
-  low_now = elim ends [ inl are ↦ ap (slot_of places') (sym are.0) ∙ p_now | inr are ↦ ap (slot_of places') (sym are.1) ∙ q_now ]
+  none' : root' 0 ≡ 0
+  none' = united.stayed 0 (λ is. let none = before.none in let one = from_in.0 in omega (arith, is, none, one)) ∙ before.none
 
-  high_now : slot_of places' l.high ≡ to
-  high_now = elim ends [ inl are ↦ ap (slot_of places') (sym are.1) ∙ q_now | inr are ↦ ap (slot_of places') (sym are.0) ∙ p_now ]
+  past' : (v : ℕ) → n < v → root' v ≡ v
+  past' v past = united.stayed v (λ is. let own = before.past v past in let most = from_in.1 in omega (arith, is, own, most, past)) ∙ before.past v past
 
-  low_high : slot_of places l.low ≢ slot_of places l.high
-  low_high same = elim ends [
-    | inl are ↦ apart (sym p_is ∙ ap (slot_of places) are.0 ∙ same ∙ ap (slot_of places) (sym are.1) ∙ q_is)
-    | inr are ↦ apart (sym p_is ∙ ap (slot_of places) are.0 ∙ sym same ∙ ap (slot_of places) (sym are.1) ∙ q_is)
+  in_range' : (v : ℕ) → 1 ≤ v → v ≤ n → (1 ≤ root' v) × (root' v ≤ n)
+  in_range' v v_from v_to = elim (cases_eq (root v) from) [
+    | inl is ↦ subst (λ r. (1 ≤ r) × (r ≤ n)) (sym (united.gone v is)) to_in
+    | inr other ↦ subst (λ r. (1 ≤ r) × (r ≤ n)) (sym (united.stayed v other)) (before.in_range v v_from v_to)
   ]
 
-  -- what was in one slot is
-  still : (u v : ℕ) → slot_of places u ≡ slot_of places v → slot_of places' u ≡ slot_of places' v
-  still u v same = elim (cases_eq (slot_of places u) from) [
+  p_now : root' p ≡ to
+  p_now = united.gone p p_is
+
+  q_now : root' q ≡ to
+  q_now = united.stayed q (λ is. apart (sym is ∙ q_is)) ∙ q_is
+
+  low_now : root' l.low ≡ to
+  low_now = elim ends [ inl are ↦ ap root' (sym are.0) ∙ p_now | inr are ↦ ap root' (sym are.1) ∙ q_now ]
+
+  high_now : root' l.high ≡ to
+  high_now = elim ends [ inl are ↦ ap root' (sym are.1) ∙ q_now | inr are ↦ ap root' (sym are.0) ∙ p_now ]
+
+  low_high : root l.low ≢ root l.high
+  low_high same = elim ends [
+    | inl are ↦ apart (sym p_is ∙ ap root are.0 ∙ same ∙ ap root (sym are.1) ∙ q_is)
+    | inr are ↦ apart (sym p_is ∙ ap root are.0 ∙ sym same ∙ ap root (sym are.1) ∙ q_is)
+  ]
+
+  -- what had one root has
+  still : (u v : ℕ) → root u ≡ root v → root' u ≡ root' v
+  still u v same = elim (cases_eq (root u) from) [
     | inl is ↦ united.gone u is ∙ sym (united.gone v (sym same ∙ is))
     | inr other ↦ united.stayed u other ∙ same ∙ sym (united.stayed v (λ is. other (same ∙ is)))
   ]
 
-  -- what isn't in the new slot stayed
-  not_gone : (v : ℕ) → slot_of places' v ≢ to → slot_of places' v ≡ slot_of places v
+  -- what isn't in the new tree stayed
+  not_gone : (v : ℕ) → root' v ≢ to → root' v ≡ root v
   not_gone v other = united.stayed v (λ is. other (united.gone v is))
 
-  alike' : (u v : ℕ) → FirstJoin links (k + 1) u v → slot_of places' u ≡ slot_of places' v
-  alike' u v joined = joins_equal (WithLink S l) (slot_of places') each u v ((more u v).0 joined)
+  alike' : (u v : ℕ) → FirstJoin links (k + 1) u v → root' u ≡ root' v
+  alike' u v joined = joins_equal (WithLink S l) root' each u v ((more u v).0 joined)
     where
-      each : (m : Link) → WithLink S l m → slot_of places' m.low ≡ slot_of places' m.high
+      each : (m : Link) → WithLink S l m → root' m.low ≡ root' m.high
       each m (inl m_in) = still m.low m.high (before.alike m.low m.high (joins_link S m m_in))
-      each m (inr is) = subst (λ (x : Link). slot_of places' x.low ≡ slot_of places' x.high) (sym is) (low_now ∙ sym high_now)
+      each m (inr is) = subst (λ (x : Link). root' x.low ≡ root' x.high) (sym is) (low_now ∙ sym high_now)
 
-  -- a vertex in the new slot is joined to q
-  to_q : (u : ℕ) → 1 ≤ u → u ≤ n → slot_of places' u ≡ to → Joins (WithLink S l) u q
-  to_q u u_from u_to now = elim (cases_eq (slot_of places u) from) [
+  -- a vertex of the new tree is joined to q
+  to_q : (u : ℕ) → 1 ≤ u → u ≤ n → root' u ≡ to → Joins (WithLink S l) u q
+  to_q u u_from u_to now = elim (cases_eq (root u) from) [
     | inl is ↦ joins_trans (WithLink S l) u p q (old u p (before.joined u p u_from u_to (is ∙ sym p_is))) p_to_q
     | inr other ↦ old u q (before.joined u q u_from u_to (sym (united.stayed u other) ∙ now ∙ sym q_is))
   ]
 
-  vertex : (v : ℕ) → slot_of places' v ≡ to → (1 ≤ v) × (v ≤ n)
-  vertex v now =
-      let lt = in_places places' v to now to_in.0 in
-      let len = before.as_many in
-      let same = united.as_many in (
-        elim (cases_lt 0 v) [
-          | inl some ↦ some
-          | inr none ↦ absurd (let zero : v ≡ 0 = omega (arith, none) in let at_0 = ap (slot_of places') zero in let first = listed.none in let some = to_in.0 in omega (arith, at_0, first, some, now))
-        ],
-        omega (arith, lt, len, same),
-      )
+  vertex : (v : ℕ) → root' v ≡ to → (1 ≤ v) × (v ≤ n)
+  vertex v now = (
+    elim (cases_lt 0 v) [
+      | inl some ↦ some
+      | inr none ↦ absurd (let at_0 : root' v ≡ 0 = ap root' (omega (arith, none)) ∙ none' in let one = to_in.0 in omega (arith, at_0, one, now))
+    ],
+    elim (cases_lt n v) [
+      | inl past ↦ absurd (let own = past' v past in let most = to_in.1 in omega (arith, own, past, most, now))
+      | inr most ↦ omega (arith, most)
+    ],
+  )
 
-  joined' : (u v : ℕ) → 1 ≤ u → u ≤ n → slot_of places' u ≡ slot_of places' v → FirstJoin links (k + 1) u v
-  joined' u v u_from u_to same = (more u v).1 (elim (cases_eq (slot_of places' u) to) [
+  joined' : (u v : ℕ) → 1 ≤ u → u ≤ n → root' u ≡ root' v → FirstJoin links (k + 1) u v
+  joined' u v u_from u_to same = (more u v).1 (elim (cases_eq (root' u) to) [
     | inl now ↦ let of_v = vertex v (sym same ∙ now) in joins_trans (WithLink S l) u q v (to_q u u_from u_to now) (joins_symm (WithLink S l) v q (to_q v of_v.0 of_v.1 (sym same ∙ now)))
     | inr other ↦ old u v (before.joined u v u_from u_to (sym (not_gone u other) ∙ same ∙ not_gone v (λ now. other (same ∙ now))))
   ])
 
-  -- the new cluster has what is in the new slot
-  in_new : (w : ℕ) → IsInCluster n links (n + k) w ↔ (slot_of places' w ≡ to)
+  -- the new cluster has what is in the new tree
+  in_new : (w : ℕ) → IsInCluster n links (n + k) w ↔ (root' w ≡ to)
   in_new w = (
     λ w_in. sym (alike' l.low w ((new_cluster n links k l link_at w).0 w_in)) ∙ low_now,
     λ now. (new_cluster n links k l link_at w).1 (joined' l.low w low_in.0 low_in.1 (low_now ∙ sym now)),
   )
 
-  named_new : IsNamed n links (k + 1) places' slots' to
+  -- the new tree has the vertices of both
+  either : (w : ℕ) → (root' w ≡ to) ↔ ((root w ≡ from) ⊎ (root w ≡ to))
+  either w = (
+    λ now. elim (cases_eq (root w) from) [ inl is ↦ inl is | inr other ↦ inr (sym (united.stayed w other) ∙ now) ],
+    ⊎_elim (united.gone w) (λ is. united.stayed w (λ was. apart (sym was ∙ is)) ∙ is),
+  )
+
+  size_new : HasSize (λ w. root' w ≡ to) (at_root roots' to).size
+  size_new =
+      let of_from = subst (λ r. HasSize (λ w. root w ≡ r) (at_root roots r).size) p_is (before.named p p_in.0 p_in.1).size in
+      let of_to = subst (λ r. HasSize (λ w. root w ≡ r) (at_root roots r).size) q_is (before.named q q_in.0 q_in.1).size in
+      subst (HasSize (λ w. root' w ≡ to)) (sym (ap (λ (r : Root). r.size) here))
+      (size_both (λ w. root w ≡ from) (λ w. root w ≡ to) (λ w. root' w ≡ to) (at_root roots from).size (at_root roots to).size of_from of_to
+      (λ w is was. apart (sym is ∙ was)) either)
+
+  named_new : IsNamed n links (k + 1) root' roots' to
   named_new = record {
-    there = omega (arith, named);
-    exact = λ w. subst (λ c. IsInCluster n links c w ↔ (slot_of places' w ≡ to)) (sym named) (in_new w);
+    there = let name = name_here in omega (arith, name);
+    exact = λ w. subst (λ c. IsInCluster n links c w ↔ (root' w ≡ to)) (sym name_here) (in_new w);
+    size = size_new;
   }
 
-  named_old : (v : ℕ) → 1 ≤ v → v ≤ n → slot_of places' v ≢ to → IsNamed n links (k + 1) places' slots' (slot_of places' v)
+  named_old : (v : ℕ) → 1 ≤ v → v ≤ n → root' v ≢ to → IsNamed n links (k + 1) root' roots' (root' v)
   named_old v v_from v_to other =
       let stays = not_gone v other in
       let was = before.named v v_from v_to in
-      let same : (at_slot slots' (slot_of places' v)).name ≡ (at_slot slots (slot_of places v)).name = others (slot_of places' v) other ∙ ap (λ s. (at_slot slots s).name) stays in
+      let known : at_root roots' (root' v) ≡ at_root roots (root v) = others (root' v) other ∙ ap (at_root roots) stays in
+      let same : (at_root roots' (root' v)).name ≡ (at_root roots (root v)).name = ap (λ (r : Root). r.name) known in
+      let in_one : (w : ℕ) → (root w ≡ root v) ↔ (root' w ≡ root' v) = λ w. (
+        λ is. still w v is,
+        λ now. sym (not_gone w (λ is. other (sym now ∙ is))) ∙ now ∙ stays,
+      ) in
       let lt = was.there in record {
         there = omega (arith, same, lt);
         exact = λ w. (
-          λ w_in. still w v ((was.exact w).0 (subst (λ c. IsInCluster n links c w) same w_in)),
-          λ now. subst (λ c. IsInCluster n links c w) (sym same) ((was.exact w).1 (sym (not_gone w (λ is. other (sym now ∙ is))) ∙ now ∙ stays)),
+          λ w_in. (in_one w).0 ((was.exact w).0 (subst (λ c. IsInCluster n links c w) same w_in)),
+          λ now. subst (λ c. IsInCluster n links c w) (sym same) ((was.exact w).1 ((in_one w).1 now)),
         );
+        size = subst (HasSize (λ w. root' w ≡ root' v)) (sym (ap (λ (r : Root). r.size) known))
+            (size_same (λ w. root w ≡ root v) (λ w. root' w ≡ root' v) (at_root roots (root v)).size was.size in_one);
       }
 
-  pub slots_more : AreSlotsAfter n links (k + 1) places' slots'
-  slots_more = record {
-    as_many = united.as_many ∙ before.as_many;
-    listed = listed;
+  pub roots_more : AreRootsAfter n links (k + 1) root' roots'
+  roots_more = record {
+    none = none';
+    past = past';
+    in_range = in_range';
     acyclic = acyclic_more links k l link_at before.acyclic (λ joined. low_high (before.alike l.low l.high joined));
     joined = joined';
     alike = alike';
-    named = λ v v_from v_to. elim (cases_eq (slot_of places' v) to) [
-      | inl now ↦ subst (IsNamed n links (k + 1) places' slots') (sym now) named_new
+    named = λ v v_from v_to. elim (cases_eq (root' v) to) [
+      | inl now ↦ subst (IsNamed n links (k + 1) root' roots') (sym now) named_new
       | inr other ↦ named_old v v_from v_to other
     ];
   }
 
   abbrev a : ℕ
-  a = (at_slot slots (slot_of places l.low)).name
+  a = (at_root roots (root l.low)).name
 
   abbrev b : ℕ
-  b = (at_slot slots (slot_of places l.high)).name
+  b = (at_root roots (root l.high)).name
 
-  cluster_of : (u : ℕ) → 1 ≤ u → u ≤ n → IsClusterOf n links k u (at_slot slots (slot_of places u)).name
+  cluster_of : (u : ℕ) → 1 ≤ u → u ≤ n → IsClusterOf n links k u (at_root roots (root u)).name
   cluster_of u u_from u_to =
       let is = before.named u u_from u_to in record {
         there = is.there;
@@ -275,16 +305,11 @@ module _ (n : ℕ) (links : List Link) (k : ℕ) (l : Link) (link_at : slice_get
       let of_high = before.named l.high high_in.0 high_in.1 in
       low_high ((of_high.exact l.low).0 (subst (λ c. IsInCluster n links c l.low) same ((of_low.exact l.low).1 refl)))
 
-  new_size : HasSize (IsInCluster n links (n + k)) (at_slot slots' to).size
-  new_size =
-      let all = listed.each to to_in.0 to_in.1 in record {
-        numbers = all.0;
-        distinct = all.1.distinct;
-        exact = λ v. (λ v_in. (in_new v).1 ((all.1.exact v).0 v_in), λ v_in. (all.1.exact v).1 ((in_new v).0 v_in));
-        counted = sym all.1.size;
-      }
+  new_size : HasSize (IsInCluster n links (n + k)) ((at_root roots from).size + (at_root roots to).size)
+  new_size = subst (HasSize (IsInCluster n links (n + k))) (ap (λ (r : Root). r.size) here)
+      (size_same (λ w. root' w ≡ to) (IsInCluster n links (n + k)) (at_root roots' to).size size_new (λ w. ((in_new w).1, (in_new w).0)))
 
-  pub merge_more : (first second size : ℕ) → first ≡ min a b → second ≡ max a b → size ≡ (at_slot slots' to).size → IsMerge n links k l (record { first = first; second = second; size = size })
+  pub merge_more : (first second size : ℕ) → first ≡ min a b → second ≡ max a b → size ≡ (at_root roots from).size + (at_root roots to).size → IsMerge n links k l (record { first = first; second = second; size = size })
   merge_more first second size first_is second_is size_is =
       let differ = two in
       let of_low = cluster_of l.low low_in.0 low_in.1 in

@@ -18,7 +18,7 @@ use Rattle.link_key.specs.Components.{IsAcyclic}
 use Rattle.link_merges.specs.declared.merges.Merge.{Merge}
 use Rattle.link_merges.specs.Merges.{FirstJoin, IsInCluster, IsClusterOf, HasSize, IsMerge, OneListOfMerges}
 use Rattle.link_merges.proofs.Merging.{first_links, new_cluster, ends_apart}
-use Rattle.link_merges.proofs.Moving.{Differ}
+use Rattle.link_merges.proofs.Sizes.{Differ}
 
 -- numbers are told apart by `==`
 numbers_apart : IsEquivalence eqb
@@ -34,7 +34,7 @@ no_more xs ys distinct within = length-le_from_is_member numbers_apart xs ys
     (IsDistinct-from_apart eqb xs (λ i j d lt in_list. ne_eqb _ _ (distinct i j d lt in_list)))
     (λ q found. list_any-from_Contains numbers_apart q ys (within q (Contains-from_any (λ x y same. eqb-true x y same) q xs found)))
 
-one_size : (P : ℕ → Type 0) (a b : ℕ) → HasSize P a → HasSize P b → a ≡ b
+pub one_size : (P : ℕ → Type 0) (a b : ℕ) → HasSize P a → HasSize P b → a ≡ b
 one_size P a b of_a of_b =
     let to = no_more of_a.numbers of_b.numbers of_a.distinct (λ v v_in. (of_b.exact v).1 ((of_a.exact v).0 v_in)) in
     let back = no_more of_b.numbers of_a.numbers of_b.distinct (λ v v_in. (of_a.exact v).1 ((of_b.exact v).0 v_in)) in
@@ -45,7 +45,7 @@ one_size P a b of_a of_b =
 abbrev no_merge : Merge
 no_merge = record { first = 0; second = 0; size = 0 }
 
-link_there : (links : List Link) (k : ℕ) → k < length links → (l : Link) × (slice_get links k ≡ Some l)
+pub link_there : (links : List Link) (k : ℕ) → k < length links → (l : Link) × (slice_get links k ≡ Some l)
 link_there links k lt = elim (slice_get_cases links k).1 [
   | inl found ↦ (found.0, found.2)
   | inr past ↦ absurd (let over = past.0 in omega (arith, lt, over))

@@ -1,6 +1,7 @@
 -- Clusters that links join, two at a time, from single points on.
 use Rattle.std.specs.Prelude.{◌≡◌, ◌≢◌, ◌↔◌, ◌⊎◌, ℕ, ◌+◌, ◌<◌, List, length, take, AllPairs, Contains, Some, slice_get}
 use Rattle.links.specs.declared.links.Link.{Link}
+use Rattle.links.specs.Link.{EndsUpTo}
 use Rattle.links.specs.Walk.{Joins}
 use Rattle.link_key.specs.Components.{IsAcyclic}
 use Rattle.link_merges.specs.declared.merges.Merge.{Merge}
@@ -42,10 +43,27 @@ pub record AreMerges (n : ℕ) (links : List Link) (merges : List Merge) : Type 
   pub as_many : length merges ≡ length links
   pub each : (i : ℕ) (l : Link) (merge : Merge) → slice_get links i ≡ Some l → slice_get merges i ≡ Some merge → IsMerge n links i l merge
 
--- ---- the law
+-- the cluster that link i makes has just the vertices of the two clusters of its merge, which have none in common
+pub record IsUnion (n : ℕ) (links : List Link) (i : ℕ) (merge : Merge) : Type 0 where
+  pub apart : (v : ℕ) → IsInCluster n links merge.first v → ¬ (IsInCluster n links merge.second v)
+  pub both : (v : ℕ) → IsInCluster n links (n + i) v ↔ (IsInCluster n links merge.first v ⊎ IsInCluster n links merge.second v)
+  pub sizes :
+      (a b : ℕ) → HasSize (IsInCluster n links merge.first) a → HasSize (IsInCluster n links merge.second) b → merge.size ≡ a + b
+
+-- ---- the laws
+
+-- links between n points that close no cycle have a list of merges
+abbrev pub LinksHaveMerges : Type 0
+LinksHaveMerges = (n : ℕ) (links : List Link) → EndsUpTo n links → IsAcyclic links → (merges : List Merge) × AreMerges n links merges
 
 -- links that close no cycle have no other list of merges
 abbrev pub OneListOfMerges : Type 0
 OneListOfMerges =
     (n : ℕ) (links : List Link) (merges others : List Merge) → IsAcyclic links
     → AreMerges n links merges → AreMerges n links others → merges ≡ others
+
+-- each merge makes one cluster of its two, whose sizes it adds
+abbrev pub MergesUnite : Type 0
+MergesUnite =
+    (n : ℕ) (links : List Link) (merges : List Merge) → IsAcyclic links → AreMerges n links merges
+    → (i : ℕ) (merge : Merge) → slice_get merges i ≡ Some merge → IsUnion n links i merge

@@ -10,11 +10,11 @@
 //! - Cut at a height, the merges of a graph's forest give the components of the graph: the theorem of single linkage.
 //!
 //! Where to start a change: what clusters and merges are stands in `specs/Merges`, the theorem in `specs/Cuts`. `merges` goes
-//! over the links; `slots` keeps the vertices of each cluster in a list, as `specs/Slots` says.
+//! over the links; `trees` keeps the vertices of each cluster in a tree, as `specs/Trees` says.
 #![tactic(auto)]
 
 pub mod laws;
 mod merges;
-mod slots;
+mod trees;
 
 pub use merges::{Merge, merges_of};

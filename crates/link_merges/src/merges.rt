@@ -1,13 +1,13 @@
 //! The merges that links make, one after the other.
-ghost use Rattle.std.specs.Prelude.{◌≡◌, ◌≢◌, ◌⊎◌, ℕ, ◌+◌, ◌<◌, ◌≤◌, ◌↔◌, length, take, Contains, IfOk, IfSome, IsSome, IsNone, OnSome, Some, slice_get};
+ghost use Rattle.std.specs.Prelude.{◌≡◌, ℕ, ◌+◌, ◌<◌, ◌≤◌, ◌↔◌, length, take, Contains, IfOk, IfSome, IsSome, IsNone, OnSome, Some, slice_get};
 ghost use Rattle.limits.specs.declared.TheConstants.{MAX_VERTICES, MAX_ARCS};
 ghost use Rattle.links.specs.Link.{EndsUpTo};
 ghost use Rattle.link_key.specs.Components.{IsAcyclic};
 ghost use Rattle.link_merges.specs.Merges.{IsMerge, AreMerges};
-ghost use Rattle.link_merges.specs.Slots.{AreSlotsAfter};
+ghost use Rattle.link_merges.specs.Trees.{AreTreesAfter};
 ghost use Rattle.links.specs.declared.links.Link.{Link as TheLink};
 
-use crate::slots::Slots;
+use crate::trees::Trees;
 use limits::{MAX_ARCS, MAX_VERTICES};
 use links::Link;
 use std::alloc::{AllocError, Allocator};
@@ -22,35 +22,27 @@ pub struct Merge {
     pub size: u32,
 }
 
-// Both, in this order or the other.
-fn in_order(a: u32, b: u32, in_this: bool) -> (u32, u32)
-    ensures { ((result.0 ≡ a) × (result.1 ≡ b)) ⊎ ((result.0 ≡ b) × (result.1 ≡ a)) }
-{
-    if in_this { (a, b) } else { (b, a) }
-}
-
-// Merges the clusters that link i joins; none if they are one. Afterwards the slots are those after it.
-fn merge_link<A: Allocator>(slots: &mut Slots<A>, n: u32, links: &[Link], i: usize) -> Option<Merge>
+// Merges the clusters that link i joins; none if they are one. Afterwards the trees are those after it.
+fn merge_link<A: Allocator>(trees: &mut Trees<A>, n: u32, links: &[Link], i: usize) -> Option<Merge>
     requires few_vertices { n ≤ MAX_VERTICES }
     requires few_links { length links.now ≤ MAX_ARCS }
     requires ends { EndsUpTo n links.now }
     requires in_range { i < length links.now }
-    requires before { AreSlotsAfter n links.now i slots.old.places.items slots.old.slots.items }
+    requires before { AreTreesAfter n links.now i trees.old.parents.items trees.old.roots.items }
     ensures cycle { IsNone result → ¬ (IsAcyclic links.now) }
     ensures merge { IfSome result (λ merge. (l : TheLink) → slice_get links.now i ≡ Some l → IsMerge n links.now i l merge) }
-    ensures after { OnSome result (AreSlotsAfter n links.now (i + 1) slots.new.places.items slots.new.slots.items) }
+    ensures after { OnSome result (AreTreesAfter n links.now (i + 1) trees.new.parents.items trees.new.roots.items) }
 {
     let link = links[i];
-    let low = slots.places[link.low as usize].slot;
-    let high = slots.places[link.high as usize].slot;
+    let low = trees.root_of(link.low);
+    let high = trees.root_of(link.high);
     if low == high {
         return None;
     }
-    let by_low = slots.slots[low as usize];
-    let by_high = slots.slots[high as usize];
+    let by_low = trees.roots[low as usize];
+    let by_high = trees.roots[high as usize];
     let name = n + i as u32;
-    let (from, to) = in_order(low, high, by_low.size < by_high.size);
-    let size = slots.unite(from, to, name);
+    let size = trees.unite(low, high, name);
     Some(Merge {
         first: by_low.name.min(by_high.name),
         second: by_low.name.max(by_high.name),
@@ -63,8 +55,8 @@ fn merge_link<A: Allocator>(slots: &mut Slots<A>, n: u32, links: &[Link], i: usi
 /// cluster n + i. This is single-linkage clustering if the links are those of a minimum spanning forest in ascending order of
 /// weight; no clause asks for that order.
 ///
-/// The vertices of a link's smaller cluster go over to the larger one: for k links it costs O(n + k log k) time. Memory: 20
-/// bytes a vertex and 12 a link. The only error is want of memory.
+/// The clusters are trees of vertices, the smaller hung under the larger one: for k links it costs O(n + k log k) time.
+/// Memory: 12 bytes a vertex and 12 a link. The only error is want of memory.
 pub fn merges_of<A: Allocator + Copy>(
     alloc: A,
     n: u32,
@@ -76,10 +68,10 @@ pub fn merges_of<A: Allocator + Copy>(
     ensures acyclic { IfOk result (λ found. IsSome found ↔ IsAcyclic links.now) }
     ensures merges { IfOk result (λ found. IfSome found (λ merges. AreMerges n links.now merges.items)) }
 {
-    let mut slots = Slots::apart(alloc, n)?;
+    let mut trees = Trees::apart(alloc, n)?;
     let mut merges = Vec::with_capacity(alloc, links.len().min(n as usize))?;
     for i in 0..links.len() {
-        let Some(merge) = merge_link(&mut slots, n, links, i) else {
+        let Some(merge) = merge_link(&mut trees, n, links, i) else {
             return Ok(None);
         };
         merges.push(merge)?;

@@ -6,15 +6,15 @@ use Rattle.links.specs.declared.links.Link.{Link}
 use Rattle.link_key.specs.Components.{IsAcyclic}
 use Rattle.link_merges.specs.declared.merges.Merge.{Merge}
 use Rattle.link_merges.specs.Merges.{IsMerge}
-use Rattle.link_merges.proofs.Starting.{slots_start}
+use Rattle.link_merges.proofs.Starting.{trees_start}
 use Rattle.link_merges.proofs.Rows.{one_more}
 use Rattle.link_merges.proofs.merges.merges_of.Goals as goal
 
 pub loop-i-init : goal.loop-i-init
 loop-i-init g c =
-    let s = c.in_ok-slots.slots in
+    let s = c.in_ok-trees.trees in
     let none = c.in_ok-merges.ensures.items in record {
-      after = slots_start c.args.n c.args.links.now s.places.items s.slots.items c.in_ok-slots.ensures;
+      after = trees_start c.args.n c.args.links.now s.parents.items s.roots.items c.in_ok-trees.ensures;
       as_many = ap length none;
       each = λ i l merge link_at at. absurd (none-some merge (subst (λ (ms : List Merge). slice_get ms i ≡ Some merge) none at));
     }
@@ -33,5 +33,5 @@ loop-i-preserved g c =
 
 pub returns-clause-acyclic : goal.returns-clause-acyclic
 returns-clause-acyclic g c =
-    let acyclic : IsAcyclic c.args.links.now = subst IsAcyclic (take_all c.loop-i.i c.args.links.now c.loop-i-test.false) c.loop-i.invariant.after.acyclic in
+    let acyclic : IsAcyclic c.args.links.now = subst IsAcyclic (take_all c.loop-i.i c.args.links.now c.loop-i-test.false) c.loop-i.invariant.after.after.acyclic in
     (λ is. acyclic, λ is. refl)
