@@ -625,7 +625,7 @@ static void limits(void) {
     limits_of_merges();
     limits_of_total();
     char text[32];
-    for (int64_t kind = -20; kind <= 3; kind++) {
+    for (int64_t kind = -21; kind <= 3; kind++) {
         const size_t length = boruvka_fault_text(kind, text, sizeof text);
         CHECK(length > 0 && length <= 19 && length == strlen(text));
         for (size_t room = 0; room <= sizeof text; room++) {

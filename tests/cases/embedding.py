@@ -21,6 +21,15 @@ FAULTY = [
     (b"p sp 2 1\na 1 3 1\n", "EndOutOfRange", 2), (b"p sp 2 1\na 1 2 9223372036854775808\n", "WeightOutOfRange", 2),
     (b"p sp 2 0\na 1 2 3\n", "TooManyArcs", 2), (b"", "MissingProblem", 1), (b"p sp 2 1\n", "MissingArcs", 2),
 ]
+# Each refusal, from the code -1 on: its name in include/boruvka.h, and its text. Those of a line are FAULTY's.
+REFUSALS = [
+    ("NO_MEMORY", "no memory"), ("BAD_END", "an end is no vertex"), ("TOO_MANY_VERTICES", "too many vertices"),
+    ("TOO_MANY_LINKS", "too many links"), ("TOO_LONG", "file is too long"),
+    *((re.sub("(?<=[a-z])(?=[A-Z])", "_", kind).upper(), kind) for _, kind, _ in FAULTY),
+    ("LENGTHS_DIFFER", "lengths differ"), ("TOO_FEW_PLACES", "too few places"), ("CYCLE", "a cycle"), ("DESCENDING", "links descend"),
+]
+# A line for each number from -21 to 3, and its text.
+TEXTS = "".join(f"{-code} {REFUSALS[code - 1][1] if 0 < code <= len(REFUSALS) else 'no refusal'}\n" for code in range(21, -4, -1)).encode()
 
 # Two files of one program, which ask boruvka.hpp for the same in both of its ways.
 KINDS = {
@@ -257,12 +266,14 @@ def faulty_texts_are_told_as_the_program_tells_them(room):
 
 @case
 def calls_at_their_limits(room):
-    status, output, errors = run([caller(room), "limits"])
-    expect((status, b"", errors), 0, b"", b"")
-    texts = dict(it.split(" ", 1) for it in output.decode().splitlines())
-    kinds = [str(-it) for it in range(1, 20)]
-    expect((len({texts[it] for it in kinds}), "no refusal" in {texts[it] for it in kinds}, texts["-1"]), 19, False, "no memory")
-    expect((texts["-5"], b"", b""), "file is too long", b"", b"")
+    expect(run([caller(room), "limits"]), 0, TEXTS, b"")
+
+
+@case
+def each_refusal_has_its_code_in_the_header(room):
+    with open(f"{ROOT}/include/boruvka.h", encoding="utf-8") as it:
+        found = re.findall(r"BORUVKA_(\w+) = (-\d+)", it.read())
+    expect((found, b"", b""), [(name, str(-place)) for place, (name, _) in enumerate(REFUSALS, 1)], b"", b"")
 
 
 @case

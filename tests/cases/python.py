@@ -14,7 +14,7 @@ import sys
 import time
 import zipfile
 
-from cases.embedding import LIBRARIES
+from cases.embedding import LIBRARIES, TEXTS
 from cases.release import AT, PLAIN, expect_proved, is_so, major, packed, version
 from cases.running import ROOT, Program, Skipped, case, expect, run, written
 
@@ -188,6 +188,13 @@ def faults_as_the_program_tells_them(room):
     told = run([python(), "-c", code, *paths], env={**WITHOUT, "PYTHONPATH": f"{room}/site"})[1].decode().splitlines()
     wanted = [run([Program.path, "--plain", it])[2].decode() for it in paths]
     is_so([f"{it}\n" for it in told], [f"{path}{it.removeprefix('boruvka')}" for path, it in zip(paths, wanted)])
+
+
+@case
+def refusals_as_the_library_tells_them(room):
+    env = {**WITHOUT, "PYTHONPATH": site(room), "PYTHONDONTWRITEBYTECODE": "1"}
+    code = "from boruvka import _library\nfor code in range(-21, 4):\n    print(code, _library._named(code))"
+    expect(run([python(), "-c", code], env=env), 0, TEXTS, b"")
 
 
 @case

@@ -8,6 +8,7 @@
 //     node --experimental-wasm-memory64 within.mjs MODULE merges       the same input, of links that close no cycle and
 //                                                                      don't descend: a line `first second size` for each,
 //                                                                      or the refusal's code
+//     node --experimental-wasm-memory64 within.mjs MODULE codes        each number from -21 to 3, and its text as a refusal's code
 //
 // One instance makes all calls, the memory is doubled while it is too small, and a wrong byte behind it ends the script.
 import { readFileSync, writeSync } from "node:fs";
@@ -103,7 +104,16 @@ function merges(source) {
   writeSync(1, text);
 }
 
+function codes() {
+  reach(base + 32);
+  for (let code = -21n; code <= 3n; code++) {
+    const told = Number(exports.boruvka_fault_text_within(code, BigInt(base), 32n));
+    writeSync(1, `${code} ${new TextDecoder().decode(new Uint8Array(exports.memory.buffer, base, told))}\n`);
+  }
+}
+
 const source = readFileSync(0);
 if (process.argv[3] === "text") text(source, Number(process.argv[4]));
 else if (process.argv[3] === "merges") merges(source);
+else if (process.argv[3] === "codes") codes();
 else list(source);

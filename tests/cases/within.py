@@ -5,7 +5,7 @@ import re
 import shutil
 import subprocess
 
-from cases.embedding import ENVIRONMENT, FAULTY, INCLUDE, MINUTES, compiler, libraries, listed, worked
+from cases.embedding import ENVIRONMENT, FAULTY, INCLUDE, MINUTES, REFUSALS, TEXTS, compiler, libraries, listed, worked
 from cases.running import ROOT, SMALL_FOREST, SMALL_NET, Skipped, case, drawn_graph, expect, forest_text, ran, run
 
 BUILT = f"{ROOT}/crates/boruvka_within/out"
@@ -146,6 +146,19 @@ def the_most_memory_that_lists_texts_and_merges_need(room):
     # just past, and just at, where a list and a text double; and numbers that part after part leaves apart
     for graph in [("ring", 23_740, 189_917), ("path", 16_386, 16_385), ("star", 16_384, 16_383), ("drawn", 90_000, 65_537), ("pair", 9, 16_384)]:
         least(room, *graph)
+
+
+@case
+def the_modules_texts_of_refusals(room):
+    expect(run([*by_node(), "codes"]), 0, TEXTS, b"")
+
+
+@case
+def the_page_has_a_remedy_for_each_refusal_of_a_line(room):
+    with open(f"{ROOT}/web/solver.js", encoding="utf-8") as it:
+        causes = it.read().partition("const CAUSES = {")[2].partition("\n};")[0]
+    told = {word or name for word, name in re.findall(r"^  (?:'([^']+)'|(\w+)): '", causes, re.M)}
+    expect((({it for _, it in REFUSALS[5:16]} | {"no memory"}) - told, b"", b""), set(), b"", b"")
 
 
 @case

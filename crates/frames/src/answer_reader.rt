@@ -1,11 +1,10 @@
 //! Answers from a stream: the offers come by pieces through one buffer, and are pushed into the list that the answer owns.
 //! So the bytes of an answer are never stored, and those of a piece become offers while the next ones are on their way.
 ghost use Rattle.std.specs.Prelude.{◌≡◌, ◌+◌, ◌*◌, ◌≤◌, length, IfOk, IfErr, OnOk};
-ghost use Rattle.byte_streams.specs.Streams.{Gave};
 ghost use Rattle.frames.specs.FrameValue.{value_of};
 ghost use Rattle.frames.specs.NextFrame.{BodyCame, IsBodyRefused, WantsLate, IsStopped};
 ghost use Rattle.frames.specs.Pieces.{PushesOffers, OffersCame};
-ghost use Rattle.frames.specs.Sources.{KeepsSource};
+ghost use Rattle.frames.specs.Sources.{KeepsSource, FillsPiece};
 
 use crate::bodies::{PIECE, pass_over, read_bytes, read_three};
 use crate::fault::FrameFault;
@@ -86,12 +85,10 @@ fn read_piece<A: Allocator, S: Source>(
 ) -> Result<(), FrameFault>
     requires whole { length piece.old ≡ 8 * count }
     requires can { S.can_read source.old }
-    ensures len { length piece.new ≡ length piece.old }
-    ensures came { OnOk result (Gave 0 0 piece.new (S.state source.old) (S.state source.new)) }
+    ensures filled { FillsPiece S.Source result piece.old piece.new source.old source.new }
     ensures pushed { OnOk result (PushesOffers piece.new pairs.old.items pairs.new.items) }
     ensures stopped { IfErr result
         (λ fault. IsStopped fault (8 * count) (S.state source.old) (S.state source.new)) }
-    ensures kept { KeepsSource S.Source result source.old source.new }
 {
     pairs.reserve(count)?;
     read_bytes(source, piece)?;

@@ -1,13 +1,12 @@
 //! Shards from a stream: the links come by pieces through one buffer, and are pushed into the list that the frame owns.
 //! So the bytes of a shard are never stored, and those of a piece become links while the next ones are on their way.
 ghost use Rattle.std.specs.Prelude.{◌≡◌, ◌≢◌, ℕ, ◌+◌, ◌*◌, ◌%◌, ◌≤◌, List, length, IfOk, IfErr, OnOk};
-ghost use Rattle.byte_streams.specs.Streams.{Gave};
 ghost use Rattle.frames.specs.FrameValue.{value_of, ShardFrame};
 ghost use Rattle.frames.specs.NextFrame.{BodyCame, IsBodyRefused, WantsLate, IsStopped};
 ghost use Rattle.frames.specs.declared.fault.FrameFault.TheVariants.{BadField};
 ghost use Rattle.frames.specs.declared.spelling.Spelling.{Spelling};
 ghost use Rattle.frames.specs.Spellings.{size_in, kind_in, spelling_of, FitIn, AreLinksIn, HearsLinks, LinksCame};
-ghost use Rattle.frames.specs.Sources.{KeepsSource};
+ghost use Rattle.frames.specs.Sources.{KeepsSource, FillsPiece};
 
 use crate::bodies::{PIECE, pass_over, read_bytes, read_two};
 use crate::fault::FrameFault;
@@ -107,12 +106,10 @@ fn read_piece<A: Allocator, S: Source>(
 ) -> Result<(), FrameFault>
     requires whole { length piece.old ≡ size_in spelling * count }
     requires can { S.can_read source.old }
-    ensures len { length piece.new ≡ length piece.old }
-    ensures came { OnOk result (Gave 0 0 piece.new (S.state source.old) (S.state source.new)) }
+    ensures filled { FillsPiece S.Source result piece.old piece.new source.old source.new }
     ensures heard { OnOk result (HearsLinks spelling piece.new links.old links.new) }
     ensures stopped { IfErr result
         (λ fault. IsStopped fault (size_in spelling * count) (S.state source.old) (S.state source.new)) }
-    ensures kept { KeepsSource S.Source result source.old source.new }
 {
     make_room(links, count)?;
     read_bytes(source, piece)?;

@@ -22,7 +22,7 @@ loop-came-preserved g c =
     record {
       within = within;
       room = omega (arith, length-append c.read_piece.new.piece (drop (8 * c.min-more.result) c.loop-came.buffer), length-drop (8 * c.min-more.result) c.loop-came.buffer, count, most, c.loop-came.invariant.room);
-      pairs = offers_more c.loop-came.came c.min-more.result _ _ c.read_piece.new.piece _ _ _ count c.loop-came.invariant.pairs c.in_ok-read_piece.ensures.came c.in_ok-read_piece.ensures.pushed;
-      lasts = λ fact held. c.in_ok-read_piece.ensures.kept.lasts fact (c.loop-came.invariant.lasts fact held);
-      can = c.in_ok-read_piece.ensures.kept.again;
+      pairs = offers_more c.loop-came.came c.min-more.result _ _ c.read_piece.new.piece _ _ _ count c.loop-came.invariant.pairs c.in_ok-read_piece.ensures.filled.came c.in_ok-read_piece.ensures.pushed;
+      lasts = λ fact held. c.in_ok-read_piece.ensures.filled.kept.lasts fact (c.loop-came.invariant.lasts fact held);
+      can = c.in_ok-read_piece.ensures.filled.kept.again;
     }

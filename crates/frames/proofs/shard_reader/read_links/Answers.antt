@@ -21,7 +21,7 @@ loop-came-preserved g c =
     record {
       within = within;
       room = omega (arith, length-append c.read_piece.new.piece (drop c.bytes_of.result c.loop-came.buffer), length-drop c.bytes_of.result c.loop-came.buffer, count, most, c.loop-came.invariant.room);
-      links = came_more c.args.spelling c.loop-came.came c.min-more.result _ _ c.read_piece.new.piece _ _ _ (count ∙ c.bytes_of.ensures) c.loop-came.invariant.links c.in_ok-read_piece.ensures.came c.in_ok-read_piece.ensures.heard;
-      lasts = λ fact held. c.in_ok-read_piece.ensures.kept.lasts fact (c.loop-came.invariant.lasts fact held);
-      can = c.in_ok-read_piece.ensures.kept.again;
+      links = came_more c.args.spelling c.loop-came.came c.min-more.result _ _ c.read_piece.new.piece _ _ _ (count ∙ c.bytes_of.ensures) c.loop-came.invariant.links c.in_ok-read_piece.ensures.filled.came c.in_ok-read_piece.ensures.heard;
+      lasts = λ fact held. c.in_ok-read_piece.ensures.filled.kept.lasts fact (c.loop-came.invariant.lasts fact held);
+      can = c.in_ok-read_piece.ensures.filled.kept.again;
     }
