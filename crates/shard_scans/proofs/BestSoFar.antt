@@ -63,13 +63,10 @@ best_alone links labels c i x within read leaves = record {
 }
 
 module _ (links : List Link) (labels : List ℕ) (c from at to : ℕ) where
-  -- no link at the later places leaves the label
-  pub best_goes_on : (best : Option ℕ) → at ≤ to → NoneLeavesIn links labels at to c → IsBest links labels from at c best → IsBest links labels from to c best
-  best_goes_on None le none is = λ q m from_start before_end in_list read leaves. elim (cases_lt q at) [
-    | inl lt ↦ is q m from_start lt in_list read leaves
-    | inr later ↦ none q m later before_end in_list read leaves
-  ]
-  best_goes_on (Some p) le none is = record {
+  -- it comes first before each link at the later places that leaves the label
+  pub best_longer : (p : ℕ) → at ≤ to → (is : IsBestPlace links labels from at c p)
+      → ((q : ℕ) (m : Link) → at ≤ q → q < to → q < length links → m ≡ get_or links q m → Leaves labels m c → ComesFirst is.link p m q) → IsBestPlace links labels from to c p
+  best_longer p le is first = record {
     link = is.link;
     here = is.here;
     from_start = is.from_start;
@@ -78,9 +75,17 @@ module _ (links : List Link) (labels : List ℕ) (c from at to : ℕ) where
     leaves = is.leaves;
     first = λ q m from_start before_end in_list read leaves. elim (cases_lt q at) [
       | inl lt ↦ is.first q m from_start lt in_list read leaves
-      | inr later ↦ absurd (none q m later before_end in_list read leaves)
+      | inr later ↦ first q m later before_end in_list read leaves
     ];
   }
+
+  -- no link at the later places leaves the label
+  pub best_goes_on : (best : Option ℕ) → at ≤ to → NoneLeavesIn links labels at to c → IsBest links labels from at c best → IsBest links labels from to c best
+  best_goes_on None le none is = λ q m from_start before_end in_list read leaves. elim (cases_lt q at) [
+    | inl lt ↦ is q m from_start lt in_list read leaves
+    | inr later ↦ none q m later before_end in_list read leaves
+  ]
+  best_goes_on (Some p) le none is = best_longer p le is (λ q m later before_end in_list read leaves. absurd (none q m later before_end in_list read leaves))
 
   module _ (i : ℕ) (le : from ≤ at) (next : IsBestPlace links labels at to c i) where
     -- it comes first before each link at the earlier places that leaves the label

@@ -7,7 +7,7 @@ use Rattle.round_theory.proofs.Leaving.{leaves_apart}
 use Rattle.shard_scans.specs.declared.scanning.Best.{Best}
 use Rattle.shard_scans.specs.Scanning.{ComesFirst, IsBest, AreBestUpTo}
 use Rattle.shard_scans.specs.Live.{AreParallel, AreAside}
-use Rattle.shard_scans.proofs.BestSoFar.{first_then_first}
+use Rattle.shard_scans.proofs.BestSoFar.{first_then_first, best_longer}
 
 -- of parallel links one leaves a label where another does
 parallel_leaves : (labels : List ℕ) (l m : Link) (c : ℕ) → AreParallel labels l m → Leaves labels m c → Leaves labels l c
@@ -34,20 +34,9 @@ module _ (links : List Link) (labels : List ℕ) (from at to : ℕ) (seen : from
         let (p, e, low, high, e_read, e_leaves, first) = has_earlier c q m later before_end read leaves in
         is p e low high (omega (arith, high, later, in_list)) e_read e_leaves
   ]
-  best_over c (Some p) is = record {
-    link = is.link;
-    here = is.here;
-    from_start = is.from_start;
-    before_end = omega (arith, is.before_end, le);
-    in_list = is.in_list;
-    leaves = is.leaves;
-    first = λ q m from_start before_end in_list read leaves. elim (cases_lt q at) [
-      | inl lt ↦ is.first q m from_start lt in_list read leaves
-      | inr later ↦
-          let (i, e, low, high, e_read, e_leaves, first) = has_earlier c q m later before_end read leaves in
-          first_then_first is.link e m p i q (is.first i e low high (omega (arith, high, later, in_list)) e_read e_leaves) first
-    ];
-  }
+  best_over c (Some p) is = best_longer links labels c from at to p le is (λ q m later before_end in_list read leaves.
+      let (i, e, low, high, e_read, e_leaves, first) = has_earlier c q m later before_end read leaves in
+      first_then_first is.link e m p i q (is.first i e low high (omega (arith, high, later, in_list)) e_read e_leaves) first)
 
   -- so a table that has seen the earlier one stays as it is
   pub bests_over : (count : ℕ) (table : List Best) → AreBestUpTo count links labels from at table → AreBestUpTo count links labels from to table
