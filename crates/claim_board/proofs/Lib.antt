@@ -6,3 +6,4 @@ pub mod Places
 pub mod Rows
 pub mod Closing
 pub mod Apart
+pub mod Bits

@@ -17,7 +17,7 @@ use Rattle.claim_board.specs.declared.rule.Size.{Size}
 use Rattle.claim_board.specs.declared.rule.View.{View}
 use Rattle.claim_board.specs.Machine.{seat_of, owner_after, owner, IsAllowed, IsRun, of_seat, held_after, held}
 use Rattle.claim_board.specs.Rule.{word_of, Knows, IsSeatedAt, AgreesWithRun, lone, first_events, with_event, Claimed, GivenBack}
-use Rattle.shard_set.specs.Shards.{has_shard}
+use Rattle.claim_board.specs.Shards.{has_shard}
 use Rattle.claim_board.specs.Kept.{among, IsSeat}
 use Rattle.claim_board.proofs.Lists.{at_within, among_decides}
 use Rattle.claim_board.proofs.Runs.{owner-push, held-push, of_seat-mine, of_seat-other, IsRun-push, owns, Some-owns, owner_has}

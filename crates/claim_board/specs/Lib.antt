@@ -3,3 +3,4 @@ pub mod State
 pub mod Rule
 pub mod Kept
 pub mod Laws
+pub mod Shards

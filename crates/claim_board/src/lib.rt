@@ -16,10 +16,12 @@
 //!   seat gained, `close` which owners that run leaves; `laws` has the rest.
 //! - Not that a claim is ever won, which of two seats wins, or whose step came first. Shards of a dropped seat stay
 //!   taken.
+//! - A [`ShardSet`] holds shards below `MAX_SHARDS`; `insert` and `remove` change what is said of their one shard and of no
+//!   other.
 //!
 //! Where to start a change: what an event is and which is allowed when, `event` and `specs/Machine`, then `specs/Rule`;
 //! a new kind of step, its `Play` in `rule`, and `proofs/Steps`; what contracts see of boards and seats, `specs/State`;
-//! more seats or shards, the crate `limits`.
+//! more seats or shards, the crate `limits`; what the words of a set of shards mean, `specs/Shards`.
 #![tactic(auto)]
 
 mod board;
@@ -31,6 +33,7 @@ mod owners;
 mod rule;
 mod seat;
 mod seating;
+mod shard_set;
 
 pub use board::Board;
 pub use claim::Claim;
@@ -38,3 +41,4 @@ pub use event::Event;
 pub use fault::BoardFault;
 pub use owners::Owners;
 pub use seat::Seat;
+pub use shard_set::ShardSet;

@@ -3,7 +3,7 @@ ghost use Rattle.std.specs.Prelude.{◌≡◌, ◌<◌, ◌↔◌, [], IsTrue, C
 ghost use Rattle.claim_board.specs.Machine.{held};
 
 use crate::rule::Token;
-use shard_set::ShardSet;
+use crate::shard_set::ShardSet;
 use std::marker::Model;
 
 /// One of the seats of a board, which claims shards for whoever holds it. It is `Send`, so it may go to another thread

@@ -8,11 +8,11 @@ use Rattle.links.specs.declared.links.Link.{Link}
 use Rattle.links.specs.AnswerValue.{AnswerValue}
 use Rattle.worker_replies.specs.Serving.{asks_in}
 use Rattle.wires.specs.declared.line.Line as Line
-use Rattle.port_trait.specs.Exchanges.{Exchange, answers_of}
+use Rattle.round_theory.specs.Exchanges.{Exchange, answers_of}
 use Rattle.wires.specs.Clients.{seen_client}
 use Rattle.wires.specs.Wires.{WireState, port_of, IsSoundWire}
-use Rattle.port_trait.specs.declared.fault.PortFault.{PortFault}
-use Rattle.port_trait.specs.declared.fault.PortFault.TheVariants.{Closed}
+use Rattle.round_theory.specs.declared.fault.PortFault.{PortFault}
+use Rattle.round_theory.specs.declared.fault.PortFault.TheVariants.{Closed}
 use Rattle.wires.proofs.Asking.{asks_made}
 use Rattle.wires.proofs.Wiring.{faultless_open}
 use Rattle.plain_run.specs.declared.report.Report.{Report}

@@ -8,7 +8,7 @@ use Rattle.round_core.specs.BookValue.{hearing_of}
 use Rattle.round_core.specs.declared.solver.SolveFault.{SolveFault}
 use Rattle.wires.specs.declared.line.Line as Line
 use Rattle.wires.specs.Lines.{LineState, IsFresh, HasKnownBytes}
-use Rattle.port_trait.specs.Exchanges.{Exchange}
+use Rattle.round_theory.specs.Exchanges.{Exchange}
 use Rattle.wires.specs.Clients.{Client, MatchesLine}
 use Rattle.wires.specs.Wires.{WireState, IsNewWire, wire_port, IsHonestWire, IsSoundWire}
 use Rattle.plain_run.specs.declared.report.Report.{Report}

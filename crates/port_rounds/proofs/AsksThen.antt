@@ -4,8 +4,8 @@ use Rattle.std.specs.Prelude.{All, Option, Some, None, option_to_list}
 use Rattle.std.proofs.lemmas.List.{append-nil, map-append}
 use Rattle.std.proofs.lemmas.List.Elements.{All-nil, All-append, All-head, All-tail}
 use Rattle.links.specs.AnswerValue.{AnswerValue}
-use Rattle.port_trait.specs.declared.port.Port as Port
-use Rattle.port_trait.specs.Exchanges.{Exchange, answers_of}
+use Rattle.round_theory.specs.declared.port.Port as Port
+use Rattle.round_theory.specs.Exchanges.{Exchange, answers_of}
 use Rattle.port_rounds.specs.Lanes.{count_if}
 use Rattle.round_core.specs.BookValue.{BookValue}
 use Rattle.port_rounds.specs.Asks.{AnswersAsks, AsksFor, TakesExchange, ClosesPort, AreInRounds, SameFaults, answered}

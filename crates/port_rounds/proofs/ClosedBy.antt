@@ -4,9 +4,9 @@ use Rattle.std.specs.Prelude.{All, Option, Some, None}
 use Rattle.std.proofs.lemmas.List.Elements.{All-contains}
 use Rattle.links.specs.AnswerValue.{AnswerValue}
 use Rattle.round_core.specs.BookValue.{BookValue}
-use Rattle.port_trait.specs.declared.port.Port as Port
-use Rattle.port_trait.specs.Ports.{PortState}
-use Rattle.port_trait.specs.Exchanges.{Exchange}
+use Rattle.round_theory.specs.declared.port.Port as Port
+use Rattle.round_theory.specs.Ports.{PortState}
+use Rattle.round_theory.specs.Exchanges.{Exchange}
 use Rattle.port_rounds.specs.Lanes.{LaneState, count_if, open_count}
 use Rattle.port_rounds.specs.Asks.{AnswersAsks, TakesExchange, ClosesPort}
 use Rattle.port_rounds.proofs.AsksThen.{either}

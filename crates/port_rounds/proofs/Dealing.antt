@@ -4,7 +4,7 @@ use Rattle.std.specs.Prelude.{Option, Some, None, MatchOption, option_to_list, A
 use Rattle.claim_board.specs.State.{SeatState}
 use Rattle.std.proofs.lemmas.List.Sums.{sum_by-cons}
 use Rattle.std.proofs.lemmas.List.Elements.{All-head, All-tail}
-use Rattle.port_trait.specs.Ports.{PortState}
+use Rattle.round_theory.specs.Ports.{PortState}
 use Rattle.port_rounds.specs.Lanes.{LaneState, count_if, seats_of, open_count}
 
 -- where a split gave no first element there was none

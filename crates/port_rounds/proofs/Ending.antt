@@ -24,7 +24,7 @@ use Rattle.round_core.specs.declared.solver.SolveFault.{SolveFault}
 use Rattle.round_core.specs.declared.solver.SolveFault.TheVariants.{Rounds, Missed, Memory}
 use Rattle.round_core.proofs.Missing.{joined_ends}
 use Rattle.round_core.proofs.WholeRounds.{at_first, one_round, no_round, only_memory, finish_only_memory, is_forest}
-use Rattle.port_trait.specs.declared.port.Port as Port
+use Rattle.round_theory.specs.declared.port.Port as Port
 use Rattle.plain_run.specs.declared.report.Report.{Report}
 use Rattle.port_rounds.specs.Lanes.{LaneState, open_count}
 use Rattle.port_rounds.specs.Asks.{TakesExchange, ClosesPort, IsLight}

@@ -3,8 +3,8 @@ use Rattle.std.specs.List.{AllZip}
 use Rattle.std.proofs.Common.{◌≡◌, ◌≤◌, Bool, true, false, List, get_or, sym, subst, ◌∙◌, arith}
 use Rattle.std.specs.Prelude.{All}
 use Rattle.round_core.specs.BookValue.{BookValue}
-use Rattle.port_trait.specs.declared.port.Port as Port
-use Rattle.port_trait.specs.Ports.{PortState}
+use Rattle.round_theory.specs.declared.port.Port as Port
+use Rattle.round_theory.specs.Ports.{PortState}
 use Rattle.port_rounds.specs.Lanes.{LaneState, IsIdle, count_if}
 use Rattle.port_rounds.specs.Bounds.{IsAskable, HasRoomForPass, HasRoomForRound}
 use Rattle.port_rounds.specs.Seating.{GainsRoom}

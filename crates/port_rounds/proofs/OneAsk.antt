@@ -11,11 +11,11 @@ use Rattle.claim_board.specs.declared.claim.Claim.TheVariants.{Won, Held}
 use Rattle.links.specs.AnswerValue.{AnswerValue}
 use Rattle.round_core.specs.BookValue.{BookValue, refusal, is_taken, LightOffersAreTaken}
 use Rattle.round_core.specs.declared.refusals.Refusal.{Refusal}
-use Rattle.port_trait.specs.declared.port.Port as Port
-use Rattle.port_trait.specs.declared.fault.PortFault.{PortFault}
-use Rattle.port_trait.specs.declared.fault.PortFault.TheVariants.{Down, Garbled, WrongHello, Gave, Memory, TooOld, Closed}
-use Rattle.port_trait.specs.Ports.{CountsAsks, AnswersAsk, IsHonestAnswer}
-use Rattle.port_trait.specs.Exchanges.{Exchange, exchange_of}
+use Rattle.round_theory.specs.declared.port.Port as Port
+use Rattle.round_theory.specs.declared.fault.PortFault.{PortFault}
+use Rattle.round_theory.specs.declared.fault.PortFault.TheVariants.{Down, Garbled, WrongHello, Gave, Memory, TooOld, Closed}
+use Rattle.round_theory.specs.Ports.{CountsAsks, AnswersAsk, IsHonestAnswer}
+use Rattle.round_theory.specs.Exchanges.{Exchange, exchange_of}
 use Rattle.port_rounds.specs.Lanes.{count_if}
 use Rattle.port_rounds.proofs.Eaches.{one}
 use Rattle.port_rounds.specs.Asks.{IsAskOf, IsExchangeOf, TakesExchange, ClosesPort, Takes, IsLight, AnswersAsks}

@@ -8,9 +8,9 @@ use Rattle.std.proofs.lemmas.List.Elements.{All-append, Contains-append_left, Co
 use Rattle.links.specs.AnswerValue.{AnswerValue}
 use Rattle.links.specs.declared.links.Link.{Link}
 use Rattle.round_core.specs.BookValue.{BookValue, is_taken, with_answer, refusal}
-use Rattle.port_trait.specs.declared.port.Port as Port
-use Rattle.port_trait.specs.Ports.{PortState}
-use Rattle.port_trait.specs.Exchanges.{Exchange}
+use Rattle.round_theory.specs.declared.port.Port as Port
+use Rattle.round_theory.specs.Ports.{PortState}
+use Rattle.round_theory.specs.Exchanges.{Exchange}
 use Rattle.port_rounds.specs.Lanes.{LaneState, count_if, kept_answers, ask_count, open_count}
 use Rattle.port_rounds.specs.Asks.{AnswersAsks, IsAskOf, IsExchangeOf, TakesExchange, ClosesPort, IsLight, shards_of}
 use Rattle.port_rounds.specs.Bounds.{IsAskable}

@@ -9,8 +9,8 @@ use Rattle.links.specs.declared.links.Link.{Link}
 use Rattle.links.specs.Link.{EndsUpTo}
 use Rattle.links.specs.AnswerValue.{AnswerValue}
 use Rattle.round_core.specs.BookValue.{BookValue, IsRight, IsBookValue, opened, with_answer, missing}
-use Rattle.port_trait.specs.declared.port.Port as Port
-use Rattle.port_trait.specs.Exchanges.{Exchange}
+use Rattle.round_theory.specs.declared.port.Port as Port
+use Rattle.round_theory.specs.Exchanges.{Exchange}
 use Rattle.port_rounds.specs.Lanes.{LaneState}
 use Rattle.port_rounds.specs.Asks.{TakesExchange, ClosesPort, IsLight}
 use Rattle.port_rounds.specs.Bounds.{IsAskable}

@@ -11,7 +11,7 @@ use Rattle.port_rounds.specs.Scanned.{ScansShards}
 use Rattle.port_rounds.specs.Rounds.{RunsRound}
 use Rattle.port_rounds.specs.Passes.{RunsPasses}
 use Rattle.port_rounds.specs.Lanes.{LaneState, open_count}
-use Rattle.port_trait.specs.declared.port.Port as Port
+use Rattle.round_theory.specs.declared.port.Port as Port
 use Rattle.port_rounds.proofs.Takes.{taken_one, heard_append, taken_before, set_takes}
 use Rattle.port_rounds.proofs.Passing.{light_before, heard_same, askable_still}
 use Rattle.port_rounds.proofs.AsksThen.{either}

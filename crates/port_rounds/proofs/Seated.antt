@@ -9,8 +9,8 @@ use Rattle.std.proofs.lemmas.List.Elements.{All-append, All-tail}
 use Rattle.claim_board.specs.State.{BoardState, SeatState, AreSeats, IsUnusedSeat, all_held}
 use Rattle.claim_board.specs.Machine.{held}
 use Rattle.round_core.specs.BookValue.{BookValue}
-use Rattle.port_trait.specs.declared.port.Port as Port
-use Rattle.port_trait.specs.Ports.{PortState}
+use Rattle.round_theory.specs.declared.port.Port as Port
+use Rattle.round_theory.specs.Ports.{PortState}
 use Rattle.port_rounds.specs.Lanes.{LaneState, count_if, seats_of, kept_answers, ask_count, open_count, IsIdle}
 use Rattle.port_rounds.specs.Asks.{Takes, shards_of}
 use Rattle.port_rounds.specs.Bounds.{HasRoomForPass}

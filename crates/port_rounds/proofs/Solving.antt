@@ -13,7 +13,7 @@ use Rattle.round_theory.specs.Offers.{Hearing, Names, IsNamed}
 use Rattle.round_core.specs.BookValue.{BookValue, opened, hearing_of, hearings}
 use Rattle.round_core.proofs.Full.{full_book_has_all_links}
 use Rattle.round_core.specs.Picks.{pick_of, Picked, IsPickOf, ArePicks}
-use Rattle.port_trait.specs.declared.port.Port as Port
+use Rattle.round_theory.specs.declared.port.Port as Port
 use Rattle.port_rounds.specs.Lanes.{LaneState}
 use Rattle.port_rounds.specs.Bounds.{HasRoomForRound}
 use Rattle.port_rounds.specs.Runs.{IsFullBook, IsGivenBy, IsNamedIn, RunsRounds}

@@ -2,9 +2,9 @@
 use Rattle.std.specs.Prelude.{◌≡◌, ℕ, ◌+◌, ◌<◌, ◌≤◌, ◌⊎◌, true, false, List, [], ◌++◌, length, map, All, AllPairs, IsSome, IfSome, Option, Some, None, option_to_list}
 use Rattle.links.specs.AnswerValue.{AnswerValue}
 use Rattle.round_core.specs.BookValue.{BookValue, refusal, is_taken}
-use Rattle.port_trait.specs.declared.port.Port as Port
-use Rattle.port_trait.specs.Ports.{PortState, IsHonestAnswer}
-use Rattle.port_trait.specs.Exchanges.{Exchange, answers_of}
+use Rattle.round_theory.specs.declared.port.Port as Port
+use Rattle.round_theory.specs.Ports.{PortState, IsHonestAnswer}
+use Rattle.round_theory.specs.Exchanges.{Exchange, answers_of}
 use Rattle.port_rounds.specs.Lanes.{count_if}
 
 -- the ask is of the book's round, for a shard that it misses

@@ -6,7 +6,7 @@ use Rattle.links.specs.declared.links.Link.{Link}
 use Rattle.links.specs.Link.{EndsUpTo}
 use Rattle.round_core.specs.BookValue.{BookValue, opened, missing}
 use Rattle.round_core.specs.Solver.{Progress, vertices}
-use Rattle.port_trait.specs.Ports.{PortState}
+use Rattle.round_theory.specs.Ports.{PortState}
 use Rattle.port_rounds.specs.Lanes.{LaneState}
 
 -- a book whose shards may be asked for: there is one, its labels are those of all ends, and its round has a number

@@ -4,8 +4,8 @@ use Rattle.claim_board.specs.State.{BoardState, SeatState, IsUnusedSeat}
 use Rattle.claim_board.specs.Machine.{held}
 use Rattle.links.specs.AnswerValue.{AnswerValue}
 use Rattle.round_core.specs.BookValue.{BookValue}
-use Rattle.port_trait.specs.declared.port.Port as Port
-use Rattle.port_trait.specs.Ports.{PortState}
+use Rattle.round_theory.specs.declared.port.Port as Port
+use Rattle.round_theory.specs.Ports.{PortState}
 use Rattle.port_rounds.specs.Lanes.{LaneState}
 use Rattle.port_rounds.specs.Bounds.{HasRoomForPass}
 use Rattle.port_rounds.specs.Asks.{AnswersAsks, TakesExchange, ClosesPort, Takes, IsLight, shards_of}

@@ -2,7 +2,7 @@
 use Rattle.std.specs.Prelude.{◌≡◌, ℕ, Bool, true, false, List, [], Option, None, flat_map, option_to_list, sum_by}
 use Rattle.claim_board.specs.State.{SeatState}
 use Rattle.links.specs.AnswerValue.{AnswerValue}
-use Rattle.port_trait.specs.Ports.{PortState}
+use Rattle.round_theory.specs.Ports.{PortState}
 
 -- a lane: its port, its seat and its kept answers while it has any, and the room for kept answers
 pub record LaneState (P : Type 0) : Type 0 where

@@ -2,7 +2,7 @@
 use Rattle.std.specs.Prelude.{◌≡◌, ℕ, ◌+◌, ◌<◌, ◌≤◌, List, length, slice_index_or, All, Contains}
 use Rattle.links.specs.AnswerValue.{AnswerValue}
 use Rattle.round_core.specs.BookValue.{BookValue, missing}
-use Rattle.port_trait.specs.declared.port.Port as Port
+use Rattle.round_theory.specs.declared.port.Port as Port
 use Rattle.port_rounds.specs.Lanes.{LaneState, ask_count, open_count}
 use Rattle.port_rounds.specs.Asks.{AnswersAsks, TakesExchange, ClosesPort, IsLight, SameShard}
 use Rattle.port_rounds.specs.Taking.{with_answers, TakesAll}

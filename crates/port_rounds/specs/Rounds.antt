@@ -4,7 +4,7 @@ use Rattle.links.specs.declared.links.Link.{Link}
 use Rattle.round_theory.specs.Offers.{IsNamed}
 use Rattle.round_core.specs.BookValue.{BookValue, IsBookValue, opened, missing, hearings}
 use Rattle.round_core.specs.Picks.{ArePicks}
-use Rattle.port_trait.specs.declared.port.Port as Port
+use Rattle.round_theory.specs.declared.port.Port as Port
 use Rattle.port_rounds.specs.Lanes.{LaneState, open_count}
 use Rattle.port_rounds.specs.Passes.{RunsPasses}
 use Rattle.port_rounds.specs.Scanned.{ScansShards}

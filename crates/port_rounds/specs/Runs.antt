@@ -4,9 +4,9 @@ use Rattle.links.specs.declared.links.Link.{Link}
 use Rattle.links.specs.AnswerValue.{AnswerValue}
 use Rattle.round_theory.specs.Offers.{IsNamed}
 use Rattle.round_core.specs.BookValue.{BookValue, IsBookValue, opened, missing, hearings}
-use Rattle.port_trait.specs.declared.port.Port as Port
-use Rattle.port_trait.specs.Ports.{PortState}
-use Rattle.port_trait.specs.Exchanges.{Exchange}
+use Rattle.round_theory.specs.declared.port.Port as Port
+use Rattle.round_theory.specs.Ports.{PortState}
+use Rattle.round_theory.specs.Exchanges.{Exchange}
 use Rattle.port_rounds.specs.Lanes.{LaneState, ask_count, open_count}
 use Rattle.port_rounds.specs.Asks.{AnswersAsks, TakesExchange, ClosesPort, IsLight}
 use Rattle.port_rounds.specs.Passes.{AnswersOnce, KeepsHonestly}

@@ -1,6 +1,6 @@
 -- What the steps of a pass that ask no port leave of the lanes.
 use Rattle.std.specs.Prelude.{◌≡◌, [], None, is_some}
-use Rattle.port_trait.specs.Ports.{PortState}
+use Rattle.round_theory.specs.Ports.{PortState}
 use Rattle.port_rounds.specs.Lanes.{LaneState}
 
 -- a lane that may have got room

@@ -13,7 +13,7 @@ use Rattle.round_core.specs.Solver.{Progress, IsProgress, vertices, IsTurn, IsSt
 use Rattle.round_core.specs.declared.solver.Turn.{Turn}
 use Rattle.round_core.specs.declared.solver.SolveFault.{SolveFault}
 use Rattle.round_core.specs.declared.solver.SolveFault.TheVariants.{Memory}
-use Rattle.port_trait.specs.declared.port.Port as Port
+use Rattle.round_theory.specs.declared.port.Port as Port
 use Rattle.plain_run.specs.declared.report.Report.{Report}
 use Rattle.port_rounds.specs.Lanes.{LaneState, ask_count, open_count}
 use Rattle.port_rounds.specs.Rounds.{PicksInRound}

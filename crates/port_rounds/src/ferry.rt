@@ -12,7 +12,7 @@ use crate::lane::Lane;
 use claim_board::{Board, Claim, Seat};
 use limits::MAX_WORKERS;
 use links::Answer;
-use port_trait::Port;
+use round_theory::Port;
 use round_core::{RoundBook, laws};
 use std::alloc::Allocator;
 use std::thread;

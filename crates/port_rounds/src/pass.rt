@@ -10,7 +10,7 @@ use crate::lane::{Lane, Lanes};
 use crate::seats::{count_open, reserve_answers, seat_lanes, unseat_lanes};
 use crate::taking::take_answers;
 use claim_board::{Board, Seat};
-use port_trait::Port;
+use round_theory::Port;
 use round_core::RoundBook;
 use std::alloc::{AllocError, Allocator};
 use std::thread::Threads;

@@ -13,7 +13,7 @@ use crate::lane::Lanes;
 use crate::scans::scan_missing;
 use crate::seats::count_open;
 use links::Cut;
-use port_trait::Port;
+use round_theory::Port;
 use round_core::{Picks, RoundBook, Solver};
 use std::alloc::{AllocError, Allocator};
 use std::sync::Wait;

@@ -15,7 +15,7 @@ use crate::round::Reused;
 use crate::seats::count_open;
 use links::{Cut, Forest};
 use plain_run::Report;
-use port_trait::Port;
+use round_theory::Port;
 use round_core::{Picks, SolveFault, Solver, Turn};
 use std::alloc::{AllocError, Allocator};
 use std::sync::Wait;

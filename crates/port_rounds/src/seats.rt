@@ -7,7 +7,7 @@ ghost use Rattle.port_rounds.specs.Seating.{GainsRoom, GainsSeat, LosesSeat};
 
 use crate::lane::Lane;
 use claim_board::Seat;
-use port_trait::Port;
+use round_theory::Port;
 use std::alloc::{AllocError, Allocator};
 
 // Gives the lane a seat, if its port is open.

@@ -1,4 +1,4 @@
-//! All that asks workers, under one name: ports and their faults (`port_trait`), lines and wires over them (`wires`), and
+//! All that asks workers, under one name: ports and their faults (`round_theory`), lines and wires over them (`wires`), and
 //! a line to an engine in memory, which stands above both the wires' crate and the engine's.
 //!
 //! ```text
@@ -15,4 +15,5 @@ mod engine_line;
 mod session;
 
 pub use engine_line::EngineLine;
-pub use wires::{Fuse, FusedLine, Line, LineFault, Port, PortFault, ScriptLine, Wire};
+pub use round_theory::{Port, PortFault};
+pub use wires::{Fuse, FusedLine, Line, LineFault, ScriptLine, Wire};

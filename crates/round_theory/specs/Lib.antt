@@ -4,3 +4,5 @@ pub mod Offers
 pub mod Rounds
 pub mod Laws
 pub mod Examples
+pub mod Ports
+pub mod Exchanges

@@ -18,13 +18,13 @@ use Rattle.frames.specs.FrameStream.{texts_of, AreLawful}
 use Rattle.worker_replies.specs.Serving.{Shelf, empty_shelf, shelf_with, shelf_after, MayReply, AreReplies, heard_by, asks_in}
 use Rattle.frames.proofs.FrameStreams.{texts-append, lawful-append, lawful_back, prefix_of_frames, only_frames_of_texts}
 use Rattle.worker_replies.proofs.Replying.{asks-append, shelf_after-append, last_reply, served_lawful}
-use Rattle.port_trait.specs.declared.fault.PortFault.{PortFault}
-use Rattle.port_trait.specs.declared.fault.PortFault.TheVariants.{Down, Garbled, WrongHello, Gave, Memory, TooOld, Closed}
-use Rattle.shard_set.specs.Shards.{has_shard}
+use Rattle.round_theory.specs.declared.fault.PortFault.{PortFault}
+use Rattle.round_theory.specs.declared.fault.PortFault.TheVariants.{Down, Garbled, WrongHello, Gave, Memory, TooOld, Closed}
+use Rattle.claim_board.specs.Shards.{has_shard}
 use Rattle.wires.specs.Lines.{LineState, Transfers, ServesSoFar}
 use Rattle.wires.specs.Causes.{IsNoReply, Receives, Cause, IsBlameless}
-use Rattle.port_trait.specs.Ports.{IsHonestAnswer}
-use Rattle.port_trait.specs.Exchanges.{Exchange, exchange_of, IsAskedIn, answers_of}
+use Rattle.round_theory.specs.Ports.{IsHonestAnswer}
+use Rattle.round_theory.specs.Exchanges.{Exchange, exchange_of, IsAskedIn, answers_of}
 use Rattle.wires.specs.Clients.{Client, ClientState, HelloCame, HasFrames, seen_client, hello_due, shard_due, frames_put, Brings, AnswersOverLine, frames_got, HasGiven, IsOfCut, times_sent, asks_among, FollowTheirShards, MatchesLine}
 use Rattle.std.proofs.lemmas.List.Sums.{take_while-cons}
 use Rattle.wires.proofs.Going.{then_came}

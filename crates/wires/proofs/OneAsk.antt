@@ -9,9 +9,9 @@ use Rattle.frames.specs.FrameText.{version_of, text_of}
 use Rattle.frames.specs.Lawful.{IsVersion, IsAnswer}
 use Rattle.frames.specs.FrameStream.{texts_of}
 use Rattle.frames.proofs.FrameStreams.{texts-append}
-use Rattle.port_trait.specs.declared.fault.PortFault.{PortFault}
-use Rattle.port_trait.specs.declared.fault.PortFault.TheVariants.{Down, Garbled, WrongHello, Gave, Memory, TooOld, Closed}
-use Rattle.shard_set.specs.Shards.{has_shard}
+use Rattle.round_theory.specs.declared.fault.PortFault.{PortFault}
+use Rattle.round_theory.specs.declared.fault.PortFault.TheVariants.{Down, Garbled, WrongHello, Gave, Memory, TooOld, Closed}
+use Rattle.claim_board.specs.Shards.{has_shard}
 use Rattle.wires.specs.Lines.{LineState, Transfers}
 use Rattle.wires.specs.Clients.{ClientState, HelloCame, HasFrames, hello_due, shard_due, SendsAsk, BringsUpTo, AnswersOverLine}
 use Rattle.wires.specs.Causes.{Receives, SendingFault, AnswerFault, Cause, InAsk, InReply}

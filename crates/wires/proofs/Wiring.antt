@@ -11,13 +11,13 @@ use Rattle.links.specs.AnswerValue.{AnswerValue}
 use Rattle.frames.specs.FrameValue.{FrameValue, HelloFrame, ShardFrame, AskFrame, AnswerFrame, FaultFrame}
 use Rattle.frames.specs.FrameText.{text_of}
 use Rattle.frames.specs.Lawful.{IsShard, IsAsk}
-use Rattle.port_trait.specs.declared.fault.PortFault.{PortFault}
-use Rattle.port_trait.specs.declared.fault.PortFault.TheVariants.{Down, Garbled, WrongHello, Gave, Memory, TooOld, Closed}
-use Rattle.shard_set.specs.Shards.{has_shard}
+use Rattle.round_theory.specs.declared.fault.PortFault.{PortFault}
+use Rattle.round_theory.specs.declared.fault.PortFault.TheVariants.{Down, Garbled, WrongHello, Gave, Memory, TooOld, Closed}
+use Rattle.claim_board.specs.Shards.{has_shard}
 use Rattle.wires.specs.Lines.{LineState, IsFresh, HasKnownBytes, Counted, ServesSoFar}
-use Rattle.port_trait.specs.Ports.{IsHonestAnswer, failure_of, want_of}
+use Rattle.round_theory.specs.Ports.{IsHonestAnswer, failure_of, want_of}
 use Rattle.wires.specs.Causes.{GoesDown, IsWanting, Cause, CountedFault, IsBlameless}
-use Rattle.port_trait.specs.Exchanges.{Exchange, exchange_of}
+use Rattle.round_theory.specs.Exchanges.{Exchange, exchange_of}
 use Rattle.wires.specs.Clients.{Client, ClientState, seen_client, shard_due, frames_put, Brings, EndsAfterAsk, AnswersOverLine, IsOfCut, MatchesLine}
 use Rattle.wires.specs.Wires.{WireState, last_ask, IsQuiet, IsCountedWire, IsFaultless, IsTrueSoFar, WireCause}
 use Rattle.wires.proofs.Asking.{all_brought, step_more, honest_answer, blameless}

@@ -5,15 +5,15 @@ use Rattle.frames.specs.FrameText.{are_narrow, text_of}
 use Rattle.frames.specs.FrameStream.{texts_of}
 use Rattle.links.specs.declared.links.Link.{Link}
 use Rattle.links.specs.Cut.{links_at}
-use Rattle.shard_set.specs.Shards.{has_shard}
+use Rattle.claim_board.specs.Shards.{has_shard}
 use Rattle.frames.specs.Lawful.{IsLawful}
 use Rattle.frames.specs.Refusals.{StreamRefused}
 use Rattle.frames.specs.ReadFault.{failures_of, ends_of}
 use Rattle.frames.specs.declared.fault.FrameFault.{FrameFault}
 use Rattle.frames.specs.declared.fault.FrameFault.TheVariants.{BadKind, BadLength, BadField, BadVersion, Ended, Torn, Device}
 use Rattle.frames.specs.declared.fault.FrameFault.TheVariants.{Memory as NoMemory}
-use Rattle.port_trait.specs.declared.fault.PortFault.{PortFault}
-use Rattle.port_trait.specs.declared.fault.PortFault.TheVariants.{Down, Garbled, WrongHello, Gave, Memory, TooOld, Closed}
+use Rattle.round_theory.specs.declared.fault.PortFault.{PortFault}
+use Rattle.round_theory.specs.declared.fault.PortFault.TheVariants.{Down, Garbled, WrongHello, Gave, Memory, TooOld, Closed}
 use Rattle.wires.specs.Lines.{LineState, Transfers, Counted}
 use Rattle.wires.specs.Clients.{Client, ClientState, HelloCame, HasFrames, seen_client, hello_due, shard_put, Brings, EndsAfterAsk}
 

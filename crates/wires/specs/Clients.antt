@@ -9,9 +9,9 @@ use Rattle.frames.specs.FrameText.{version_of, text_of}
 use Rattle.frames.specs.Lawful.{IsVersion, IsAnswer}
 use Rattle.frames.specs.FrameStream.{texts_of, AreLawful}
 use Rattle.worker_replies.specs.Serving.{Shelf, empty_shelf, shelf_with, shelf_after}
-use Rattle.shard_set.specs.Shards.{has_shard}
+use Rattle.claim_board.specs.Shards.{has_shard}
 use Rattle.wires.specs.Lines.{LineState, Transfers}
-use Rattle.port_trait.specs.Exchanges.{Exchange, IsAskedIn, answers_of}
+use Rattle.round_theory.specs.Exchanges.{Exchange, IsAskedIn, answers_of}
 
 -- a client: the line, the cut whose shards are asked, the number of the worker, the version of its hello, once it
 -- came, and the shards that were sent

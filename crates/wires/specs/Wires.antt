@@ -2,16 +2,16 @@
 use Rattle.std.specs.Prelude.{◌≡◌, ◌≢◌, ℕ, ◌+◌, ◌<◌, ◌≤◌, ◌⊎◌, Bool, true, false, List, [], ◌∷◌, length, None}
 use Rattle.limits.specs.declared.TheConstants.{MAX_WORKERS}
 use Rattle.links.specs.declared.links.Link.{Link}
-use Rattle.shard_set.specs.Shards.{has_shard}
+use Rattle.claim_board.specs.Shards.{has_shard}
 use Rattle.frames.specs.FrameValue.{FrameValue, AskFrame}
 use Rattle.wires.specs.declared.line.Line as Line
-use Rattle.port_trait.specs.declared.port.Port as Port
+use Rattle.round_theory.specs.declared.port.Port as Port
 use Rattle.wires.specs.Lines.{LineState, HasRoom, Counted, ServesSoFar}
-use Rattle.port_trait.specs.Exchanges.{Exchange, answers_of}
-use Rattle.port_trait.specs.Ports.{PortState, failure_of, want_of}
+use Rattle.round_theory.specs.Exchanges.{Exchange, answers_of}
+use Rattle.round_theory.specs.Ports.{PortState, failure_of, want_of}
 use Rattle.wires.specs.Clients.{ClientState, seen_client, HasGiven, MatchesLine}
-use Rattle.port_trait.specs.declared.fault.PortFault.{PortFault}
-use Rattle.port_trait.specs.declared.fault.PortFault.TheVariants.{Closed}
+use Rattle.round_theory.specs.declared.fault.PortFault.{PortFault}
+use Rattle.round_theory.specs.declared.fault.PortFault.TheVariants.{Closed}
 use Rattle.wires.specs.Causes.{Cause, CountedFault, IsBlameless}
 
 -- a wire: its client, whether it is open, its counts, and the round and the shard of its last ask

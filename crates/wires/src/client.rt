@@ -10,8 +10,8 @@ use crate::line::Line;
 use crate::line_source::LineSource;
 use crate::steps::{check_version, greet, hear_answer, send_ask, send_shard};
 use links::{Answer, Cut, Labels};
-use port_trait::PortFault;
-use shard_set::ShardSet;
+use round_theory::PortFault;
+use claim_board::ShardSet;
 use std::alloc::Allocator;
 use std::marker::Model;
 

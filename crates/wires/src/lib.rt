@@ -2,7 +2,7 @@
 //! the light offers of a shard by frames, and is closed for good by its first fault.
 //!
 //! ```text
-//!     Port::ask, shut, is_open, asks        what rounds ask (port_trait)
+//!     Port::ask, shut, is_open, asks        what rounds ask (round_theory)
 //!              |
 //!            Wire                           is it open? counts
 //!            Client::ask                      one ask: hello, shard, ask, answer
@@ -22,7 +22,7 @@
 //!   asks, and got the hello and the answers, and nothing else.
 //!
 //! Where to start a change: `line` and `specs/Lines` for what is known of a line; `steps` and `specs/Causes` for a new
-//! fault or step; `specs/Clients` for what a wire said and heard. What a port does stands in `port_trait`, a line to an
+//! fault or step; `specs/Clients` for what a wire said and heard. What a port does stands in `round_theory`, a line to an
 //! engine in memory in `ports`.
 #![tactic(auto)]
 
@@ -40,6 +40,5 @@ pub use fault::LineFault;
 pub use fused::{Fuse, FusedLine};
 pub use line::Line;
 pub use memory::give;
-pub use port_trait::{Port, PortFault};
 pub use script::ScriptLine;
 pub use wire::Wire;

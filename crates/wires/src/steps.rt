@@ -6,7 +6,7 @@ ghost use Rattle.frames.specs.FrameText.{text_of};
 ghost use Rattle.frames.specs.Lawful.{IsVersion, IsAnswer, IsLawful};
 ghost use Rattle.frames.specs.FrameStream.{texts_of};
 ghost use Rattle.frames.specs.Spellings.{spelled_in, spelling_of};
-ghost use Rattle.shard_set.specs.Shards.{has_shard};
+ghost use Rattle.claim_board.specs.Shards.{has_shard};
 ghost use Rattle.wires.specs.Lines.{HasRoom};
 ghost use Rattle.wires.specs.Causes.{Transmits, Receives, GreetingFault, SendingFault, LacksFrame, AnswerFault, FailsToRead, port_fault};
 ghost use Rattle.wires.specs.Clients.{HasFrames, hello_due, shard_put};
@@ -20,8 +20,8 @@ use frames::{
 };
 use limits::{MAX_SHARD_LINKS, MAX_SHARDS};
 use links::{Labels, Link, Shard};
-use port_trait::PortFault;
-use shard_set::ShardSet;
+use round_theory::PortFault;
+use claim_board::ShardSet;
 use std::alloc::{AllocError, Allocator};
 
 // The version of the worker's hello; hears the hello, unless it came before, of the version `heard`.

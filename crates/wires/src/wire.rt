@@ -3,8 +3,8 @@ ghost use Rattle.std.specs.Prelude.{◌≡◌, ◌+◌, ◌-◌, ◌<◌, ◌≤
 ghost use Rattle.links.specs.Link.{EndsUpTo};
 ghost use Rattle.links.specs.Cut.{links_at};
 ghost use Rattle.wires.specs.Lines.{LineState, HasRoom, IsFresh, HasKnownBytes};
-ghost use Rattle.port_trait.specs.Exchanges.{exchange_of, KeepsExchanges, AddsExchange, StaysSound, StaysSoundWith};
-ghost use Rattle.port_trait.specs.Ports.{CountsAsks, AnswersAsk, IsHonestAnswer, failure_of, want_of};
+ghost use Rattle.round_theory.specs.Exchanges.{exchange_of, KeepsExchanges, AddsExchange, StaysSound, StaysSoundWith};
+ghost use Rattle.round_theory.specs.Ports.{CountsAsks, AnswersAsk, IsHonestAnswer, failure_of, want_of};
 ghost use Rattle.wires.specs.Causes.{IsBlameless};
 ghost use Rattle.wires.specs.Clients.{AnswersOverLine};
 ghost use Rattle.wires.specs.Wires.{port_of, IsNewWire, IsCountedWire, IsSoundWire, ServesWire, IsHonestWire, WireExchanged, WireCause};
@@ -14,8 +14,8 @@ use crate::line::Line;
 use crate::line_source::LineSource;
 use limits::MAX_WORKERS;
 use links::{Answer, Cut, Labels};
-use port_trait::{Port, PortFault};
-use shard_set::ShardSet;
+use round_theory::{Port, PortFault};
+use claim_board::ShardSet;
 use std::alloc::Allocator;
 use std::marker::Model;
 

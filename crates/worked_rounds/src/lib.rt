@@ -19,7 +19,7 @@
 //!   same                         what is found beside what is expected
 //! ```
 //!
-//! Where to start a change: a new public call of `shard_scans`, `worker_engine`, `claim_board` or `shard_set`, or of labels
+//! Where to start a change: a new public call of `shard_scans`, `worker_engine`, `claim_board`, or of labels
 //! and cuts, gets its example in the file of its subject. What an example is for, and which crate has those of other
 //! subjects, stands at the head of `worked_examples`.
 #![tactic(auto)]

@@ -11,7 +11,7 @@
 //! - [`Engine::hear`], by threads [`Engine::hear_par`], keeps a shard in place of an earlier one of its number, replies to
 //!   an ask by what it keeps ([`Engine::hear_or_fault`] always), and changes nothing at another frame or without memory.
 //! - [`serve`] writes what a session of [`frames::VERSION`] owes for the frames of a stream, or a prefix of that where
-//!   it ends early; a longer stream owes no other beginning, in whichever version ([`laws`]).
+//!   it ends early; a longer stream owes no other beginning, in whichever version ([`worker_replies::laws`]).
 //!
 //! Where to start a change: what may be written for a stream stands in `worker_replies`, over whole streams, what is kept, and
 //! what of it is live, in `specs/Shelves`, and how a session ends in `specs/Served`. `engine` keeps and replies, `session`
@@ -24,4 +24,3 @@ mod session;
 pub use engine::{Engine, NO_LABEL, NO_MEMORY, NOT_KEPT};
 pub use session::{ServeFault, Served, serve, serve_upto};
 pub use shard_scans::{Scanner, scan, scan_par};
-pub use worker_replies::{examples, laws};

@@ -1,6 +1,6 @@
 //! A set of shards, to its last one.
 use super::same::expect_same;
-use shard_set::ShardSet;
+use claim_board::ShardSet;
 
 #[test]
 fn shards_are_put_in_and_taken_out(rt: HostRuntime) {

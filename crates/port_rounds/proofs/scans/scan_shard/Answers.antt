@@ -2,7 +2,7 @@ use Rattle.std.proofs.Common.{◌≡◌, [], refl, sym}
 use Rattle.std.specs.Prelude.{None}
 use Rattle.links.specs.AnswerValue.{AnswerValue}
 use Rattle.round_core.specs.BookValue.{refusal}
-use Rattle.port_trait.specs.Ports.{IsHonestAnswer}
+use Rattle.round_theory.specs.Ports.{IsHonestAnswer}
 use Rattle.port_rounds.proofs.OneAsk.{honest_of, light_of, is_taken_of}
 use Rattle.port_rounds.proofs.Scanning.{scanned_one, now_taken}
 use Rattle.port_rounds.proofs.scans.scan_shard.Goals as goal

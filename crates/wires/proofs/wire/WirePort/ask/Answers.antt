@@ -1,6 +1,6 @@
 use Rattle.std.proofs.Common.{◌≡◌, ◌<◌, ◌+◌, [], ◌∷◌, ◌++◌, refl, sym, ap, subst, rules}
 use Rattle.std.specs.Prelude.{true, length}
-use Rattle.port_trait.specs.Exchanges.{exchange_of}
+use Rattle.round_theory.specs.Exchanges.{exchange_of}
 use Rattle.wires.proofs.Asking.{exchanged_more}
 use Rattle.wires.proofs.Wiring.{answer_counted, cause_counted, quiet_more, faulted_more, answered, served_answer, light_answer, not_closed, failed, blameless_fault}
 use Rattle.wires.proofs.wire.WirePort.ask.Goals as goal

@@ -1,7 +1,7 @@
 use Rattle.std.proofs.Common.{ℕ, ◌==◌, ◌&&◌, not, List, ap, ◌∙◌}
-use Rattle.shard_set.specs.Shards.{has_shard}
-use Rattle.shard_set.proofs.Bits.{has-remove}
-use Rattle.shard_set.proofs.ShardSet.remove.Goals as goal
+use Rattle.claim_board.specs.Shards.{has_shard}
+use Rattle.claim_board.proofs.Bits.{has-remove}
+use Rattle.claim_board.proofs.shard_set.ShardSet.remove.Goals as goal
 
 pub returns : goal.returns
 returns c s = has-remove c.self.inside.bits c.args.shard s c.self.told c.requires ∙ ap (λ (bits : List ℕ). not (s == c.args.shard) && has_shard bits s) c.self.view_is

@@ -5,18 +5,8 @@
 //!
 //!   [ word 0 | word 1 | word 2 | .. | word 63 ]
 //! ```
-//!
-//! What it promises:
-//! - A [`ShardSet`] holds shards below `MAX_SHARDS`; contracts see its words, of which `has_shard` says whether a shard
-//!   is in it.
-//! - `insert` and `remove` change what is said of their one shard and of no other.
-//!
-//! Where to start a change: `specs/Shards` says what the words mean, and `proofs/Bits` what a write of one bit does to all
-//! of them. The number of words follows from `MAX_SHARDS`.
-#![tactic(auto)]
-
 ghost use Rattle.std.specs.Prelude.{◌≡◌, ℕ, ◌<◌, ◌==◌, ◌&&◌, ◌||◌, not, false};
-ghost use Rattle.shard_set.specs.Shards.{has_shard};
+ghost use Rattle.claim_board.specs.Shards.{has_shard};
 
 use limits::MAX_SHARDS;
 use std::marker::Model;

@@ -4,8 +4,8 @@ use Rattle.links.specs.declared.links.Link.{Link}
 use Rattle.links.specs.Cut.{links_at}
 use Rattle.links.specs.AnswerValue.{AnswerValue}
 use Rattle.round_theory.specs.Offers.{AreLightOffers}
-use Rattle.port_trait.specs.declared.fault.PortFault.{PortFault}
-use Rattle.port_trait.specs.declared.fault.PortFault.TheVariants.{Memory, Closed}
+use Rattle.round_theory.specs.declared.fault.PortFault.{PortFault}
+use Rattle.round_theory.specs.declared.fault.PortFault.TheVariants.{Memory, Closed}
 
 -- what is known of a port: its cut, the number of the worker that it asks (any, where it asks none by a number),
 -- whether it is open, how often it was asked while it was, how many of these asks failed, and found no memory, and the

@@ -1,6 +1,6 @@
 //! Why a port gave no answer.
 ghost use Rattle.std.specs.Prelude.{◌≡◌};
-ghost use Rattle.port_trait.specs.declared.fault.PortFault.TheVariants.{Memory};
+ghost use Rattle.round_theory.specs.declared.fault.PortFault.TheVariants.{Memory};
 
 use std::alloc::AllocError;
 use thiserror::Error;

@@ -4,7 +4,7 @@ use Rattle.std.specs.Int.{bit_at}
 use Rattle.std.proofs.lemmas.Bool.{cases_eq, cases_lt}
 use Rattle.std.proofs.lemmas.List.{get_or-replicate, get_or_past, length-replicate}
 use Rattle.std.proofs.lemmas.Nat.Bits.{bit_at-zero, bit_at_set_same, bit_at_set_other, bit_at_clear_same, bit_at_clear_other}
-use Rattle.shard_set.specs.Shards.{has_shard}
+use Rattle.claim_board.specs.Shards.{has_shard}
 
 zeros : (n k : ℕ) → get_or {A = ℕ} (replicate n 0) k 0 ≡ 0
 zeros n k = ⊎_elim (λ (h : k < n). get_or-replicate {A = ℕ} n k 0 0 h) (λ (h : n ≤ k). get_or_past {X = ℕ} (replicate n 0) k 0 (rw (length-replicate {A = ℕ}) h)) (cases_lt k n)

@@ -2,8 +2,8 @@
 ghost use Rattle.std.specs.Prelude.{◌≡◌, ℕ, ◌+◌, ◌-◌, ◌<◌, ◌≤◌, ◌^◌, List, length, false, IfOk, OnErr};
 ghost use Rattle.links.specs.Link.{EndsUpTo};
 ghost use Rattle.links.specs.Cut.{links_at};
-ghost use Rattle.port_trait.specs.Exchanges.{Exchange, exchange_of, KeepsExchanges, AddsExchange, StaysSound, StaysSoundWith};
-ghost use Rattle.port_trait.specs.Ports.{PortState, CountsAsks, AnswersAsk, IsHonestAnswer};
+ghost use Rattle.round_theory.specs.Exchanges.{Exchange, exchange_of, KeepsExchanges, AddsExchange, StaysSound, StaysSoundWith};
+ghost use Rattle.round_theory.specs.Ports.{PortState, CountsAsks, AnswersAsk, IsHonestAnswer};
 
 use crate::fault::PortFault;
 use links::{Answer, Labels};
