@@ -10,6 +10,7 @@
 //!   drawn_lists     the solver beside a simple program, over drawn lists
 //!   drawn_texts     `.gr` texts in pieces and byte by byte, over drawn texts
 //!   reading         `.gr` texts, their faults, pieces and limits
+//!   keeping         files whose links a keeper replaces while they are read
 //!   reading_by_threads  files read by threads, over drawn texts, with each fault, and memory that is refused
 //!   runs_by_threads     forests' texts and whole runs by threads
 //!   writing         forest texts, how a sink is called, and how much of a text went out
