@@ -5,6 +5,7 @@
 //! ```text
 //!   lists           links of arcs, labels, offers, forests; the forests of the worked graphs
 //!   components      the components of a forest's links, and cycles, which have none
+//!   merges          the merges that links make, and what the laws of `link_merges` say of them
 //!   forests_by_threads  the solver by threads, beside a simple program, and its memory
 //!   laws            what the laws of `links` say of forests, on a textbook's graph
 //!   drawn_lists     the solver beside a simple program, over drawn lists

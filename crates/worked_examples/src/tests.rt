@@ -7,6 +7,7 @@ mod keeping;
 mod laws;
 mod lists;
 mod memory_of_graphs;
+mod merges;
 mod plain_runs;
 mod reading;
 mod reading_by_threads;
