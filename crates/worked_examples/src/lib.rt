@@ -14,6 +14,7 @@
 //!   keeping         files whose links a keeper replaces while they are read
 //!   reading_by_threads  files read by threads, over drawn texts, with each fault, and memory that is refused
 //!   runs_by_threads     forests' texts and whole runs by threads
+//!   kept_runs       runs over files with so many arcs that links are dropped while they are read
 //!   writing         forest texts, how a sink is called, and how much of a text went out
 //!   plain_runs      a file, and a forest's own text, to its forest text
 //!   again           a forest's text, run again: the premise of that promise is met

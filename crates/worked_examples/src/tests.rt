@@ -4,6 +4,7 @@ mod drawn_texts;
 mod fault_texts;
 mod forests_by_threads;
 mod keeping;
+mod kept_runs;
 mod laws;
 mod lists;
 mod memory_of_graphs;

@@ -3,14 +3,14 @@ ghost use Rattle.std.specs.Prelude.{◌≤◌, ◌<◌, ◌^◌};
 
 use super::lists::links_between;
 use super::same::expect_same;
-use link_key::{Link, forest_of, plain_forest};
+use link_key::{Link, forest_of, keep_forest, plain_forest};
 use std::alloc::Global;
 use std::process::Abort;
 use worked_graphs::Row;
 
 // The links whose ends aren't joined by smaller ones, by the simple program: where two labels become one, each vertex
 // is looked at.
-fn slow_forest(rt: &impl Abort, alloc: Global, n: u32, links: &[Link]) -> Vec<Link> {
+pub(crate) fn slow_forest(rt: &impl Abort, alloc: Global, n: u32, links: &[Link]) -> Vec<Link> {
     let mut sorted = Vec::from_slice(alloc, links).expect(rt, "memory");
     sorted.as_mut_slice().sort_unstable();
     let mut labels: Vec<u32> = (0..=n).collect(alloc).expect(rt, "memory");
@@ -70,7 +70,8 @@ fn drawn_arcs(
     arcs
 }
 
-// The solver, on a copy and in the list itself, gives just these links as the forest of the arcs.
+// The solver, on a copy, in the list itself and for who goes on with the list, gives just these links as the forest of the
+// arcs.
 pub(crate) fn expect_forest(rt: &impl Abort, alloc: Global, n: u32, arcs: &[Row], wanted: &[Link]) {
     assert!(rt; n <= 1 << 26);
     let links = links_between(rt, alloc, n, arcs);
@@ -78,6 +79,9 @@ pub(crate) fn expect_forest(rt: &impl Abort, alloc: Global, n: u32, arcs: &[Row]
     expect_same(rt, forest.links(), wanted);
     let forest = forest_of(alloc, n, links).expect(rt, "memory");
     expect_same(rt, forest.links(), wanted);
+    let links = links_between(rt, alloc, n, arcs);
+    let kept = keep_forest(alloc, n, links).expect(rt, "memory");
+    expect_same(rt, kept.as_slice(), wanted);
 }
 
 // The solver and the simple program give one forest of a drawn list, which is returned.

@@ -2,7 +2,7 @@
 use super::drawn_lists::draw;
 use super::lists::links_between;
 use super::same::expect_same;
-use link_key::{Link, forest_of_par};
+use link_key::{Link, forest_of_par, keep_forest_par};
 use std::alloc::{AllocError, Global};
 use std::process::Abort;
 use std::thread::Threads;
@@ -80,6 +80,9 @@ fn expect_by_threads(
         let list = links.to_vec(alloc).expect(rt, "memory");
         let forest = forest_of_par(rt, threads, alloc, n, list).expect(rt, "memory");
         expect_same(rt, (threads, forest.links()), (threads, wanted));
+        let list = links.to_vec(alloc).expect(rt, "memory");
+        let kept = keep_forest_par(rt, threads, alloc, n, list).expect(rt, "memory");
+        expect_same(rt, (threads, kept.as_slice()), (threads, wanted));
     }
 }
 
