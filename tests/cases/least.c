@@ -19,7 +19,7 @@
  * large forest are longer. `late` takes all of it for a list: the first part has nearly all links, between two vertices, and
  * the second needs two rounds. `pair` takes it for a text: two short lines in turn, just more of them than a power of two.
  *
- * Merges take blocks that stay until the end: 16 bytes a link for the list, 8 and 12 a vertex for places and slots, and 12
+ * Merges take blocks that stay until the end: 16 bytes a link for the list, 4 and 8 a vertex for parents and roots, and 12
  * for each link or each vertex, the fewer of the two.
  *
  * A_LINK, A_VERTEX, A_BYTE, MERGED_LINK, MERGED_VERTEX and MORE are the figures of include/boruvka.h. It is linked with

@@ -12,17 +12,17 @@ use std::alloc::{AllocError, Allocator};
 use std::mem;
 use std::thread::Threads;
 
-// A file that states no more arcs than these, or no more than so many a vertex, has its links kept whole: it would gain
+// A file that states no more arcs than these, or no more than so many a vertex, has all of its links kept: it would gain
 // little memory, and lose the time of a second forest.
 const FEW_ARCS: usize = 1 << 16;
 
-const FEW_A_VERTEX: usize = 16;
+const FEW_A_VERTEX: usize = 15;
 
 // A list of so many links, and of so many a vertex, becomes its forest. A smaller bound takes less memory, but the forest's
 // links are gone over more often.
 const LONG: usize = 1 << 15;
 
-const LONG_A_VERTEX: usize = 8;
+const LONG_A_VERTEX: usize = 10;
 
 /// Who finds the forest of a list.
 pub(crate) trait Crew {

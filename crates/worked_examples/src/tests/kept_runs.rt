@@ -15,16 +15,16 @@ use std::process::Abort;
 use std::thread::Threads;
 use worked_graphs::Row;
 
-// So many vertices and arcs. All links are kept of up to 65,536 arcs, and of up to 16 a vertex. Of more arcs 32,768 links
-// or 8 a vertex are a long list, whichever is more.
+// So many vertices and arcs. All links are kept of up to 65,536 arcs, and of up to 15 a vertex. Of more arcs 32,768 links
+// or 10 a vertex are a long list, whichever is more.
 const SIZES: [(u32, u32); 8] = [
     (2, 65_537),
     (300, 32_768),
     (300, 65_536),
     (300, 65_537),
     (300, 200_000),
-    (5_000, 80_000),
-    (5_000, 80_001),
+    (5_000, 75_000),
+    (5_000, 75_001),
     (5_000, 170_000),
 ];
 

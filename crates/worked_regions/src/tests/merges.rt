@@ -208,7 +208,7 @@ fn the_merges_of_a_long_path(rt: HostRuntime) {
             .push((before.min(next), before.max(next), next.wrapping_add(1)))
             .expect(&rt, "memory");
     }
-    let heap = heap_of(&rt, rt.alloc(), 9_616_548);
+    let heap = heap_of(&rt, rt.alloc(), 8_016_516);
     expect_merges(
         &rt,
         rt.alloc(),
