@@ -10,8 +10,8 @@ use crate::lane::{Lane, Lanes};
 use crate::seats::{count_open, reserve_answers, seat_lanes, unseat_lanes};
 use crate::taking::take_answers;
 use claim_board::{Board, Seat};
-use round_theory::Port;
 use round_core::RoundBook;
+use round_theory::Port;
 use std::alloc::{AllocError, Allocator};
 use std::thread::Threads;
 

@@ -9,9 +9,9 @@ ghost use Rattle.wires.specs.Clients.{AnswersOverLine};
 use crate::line::Line;
 use crate::line_source::LineSource;
 use crate::steps::{check_version, greet, hear_answer, send_ask, send_shard};
+use claim_board::ShardSet;
 use links::{Answer, Cut, Labels};
 use round_theory::PortFault;
-use claim_board::ShardSet;
 use std::alloc::Allocator;
 use std::marker::Model;
 

@@ -14,6 +14,7 @@ ghost use Rattle.wires.specs.Sending.{AwaitsLinks, PutsSome};
 
 use crate::line::Line;
 use crate::line_source::LineSource;
+use claim_board::ShardSet;
 use frames::{
     Answer, Frame, FrameFault, SHARD_HEAD, Spelling, VERSION, ask_parts, encode_ask, fit_32_bits,
     put_links, read_frame, shard_head,
@@ -21,7 +22,6 @@ use frames::{
 use limits::{MAX_SHARD_LINKS, MAX_SHARDS};
 use links::{Labels, Link, Shard};
 use round_theory::PortFault;
-use claim_board::ShardSet;
 use std::alloc::{AllocError, Allocator};
 
 // The version of the worker's hello; hears the hello, unless it came before, of the version `heard`.

@@ -12,10 +12,10 @@ ghost use Rattle.wires.specs.Wires.{port_of, IsNewWire, IsCountedWire, IsSoundWi
 use crate::client::Client;
 use crate::line::Line;
 use crate::line_source::LineSource;
+use claim_board::ShardSet;
 use limits::MAX_WORKERS;
 use links::{Answer, Cut, Labels};
 use round_theory::{Port, PortFault};
-use claim_board::ShardSet;
 use std::alloc::Allocator;
 use std::marker::Model;
 
