@@ -15,7 +15,8 @@ use links::Link;
 use std::alloc::{AllocError, Allocator};
 use std::thread::Threads;
 
-// The number of bytes that one thread reads at once, into an array on the stack.
+// The number of bytes that one thread reads at once, into an array on the stack. Who has it is never inlined: within a caller
+// it would lie beside another's, and the stack that Linux maps at first has 132 KiB.
 const READ_ROOM: usize = 65_536;
 
 // The number of bytes that are read at once where threads share them.
@@ -68,7 +69,6 @@ pub fn read_graph_kept<K: Keep<A>, S: Source, A: Allocator>(
     read_kept_upto(keeper, alloc, source, MAX_BYTES)
 }
 
-// (within a caller its array would lie beside another's, and the stack that Linux maps at first has 132 KiB)
 #[inline(never)]
 fn read_kept_upto<K: Keep<A>, S: Source, A: Allocator>(
     keeper: &mut K,
@@ -111,6 +111,7 @@ pub fn read_graph_par<R: Threads + Sync, S: Source, A: Allocator + Copy>(
 }
 
 /// As [`read_graph_par`], with a keeper that is asked after each read, as [`read_graph_kept`] does.
+#[inline(never)]
 pub fn read_graph_kept_par<R: Threads + Sync, K: Keep<A>, S: Source, A: Allocator + Copy>(
     rt: &R,
     threads: usize,
