@@ -1,8 +1,13 @@
 """What docs/HEADLINE.md quotes: it stands in the files that it names, word for word, and the lines that it counts are so many.
 What it quotes and what its table names are all definitions that the clause rests on, and no others."""
+import hashlib
 import re
 
 from cases.running import ROOT, case
+
+# The sum of all that the page's clause rests on, comments left out, as it was when the page was last read beside it. Whoever
+# changes a definition reads the page again, and then puts the new sum here.
+READ = "9766d126e04119d2dd6bc4e48de440c9a95a31defa586795236c8c3b3b38c848"
 
 
 def text_of(name):
@@ -142,3 +147,8 @@ def the_headline_reads_all_that_it_rests_on(_room):
             raise AssertionError(f"neither the clause nor what a line's contract says: {quoted}")
     if wanted != found or len(found) < 150:
         raise AssertionError(f"the page lacks {sorted(wanted - found)}, and has {sorted(found - wanted)} besides: {len(found)} in all")
+    texts = [clause, serves, *(owners(name)[own][1] for name, own in sorted(wanted))]
+    texts += re.findall(r"^pub const .*", text_of("crates/limits/src/lib.rt"), re.M) + re.findall(r"^    ghost .*", text_of("crates/links/src/links.rt"), re.M)
+    texts = [" ".join(it.split()) for it in texts]
+    if (now := hashlib.sha256("\n".join(texts).encode()).hexdigest()) != READ:
+        raise AssertionError(f"what the page rests on has changed: read it again beside the definitions, and then have READ be {now}")

@@ -180,14 +180,17 @@ def little_address_space(_room):
 def no_more_memory_than_is_documented(room):
     # of the table in docs/PERFORMANCE.md what `--plain` takes, and a run over workers, of which there is none: bytes a
     # link, bytes a vertex, and what is taken beside. Threads take room for their stacks too: of 2^20 vertices alone there
-    # are some, whose stacks are small.
+    # are some, whose stacks are small. Of many arcs a vertex `--plain` keeps some links.
     rows = [(["--plain"], 45, 12), (over(0, 1), 32 + 12, 75)]
     beside = least_space_for_help() + 1_300_000
     one = b"p sp 1048576 1\na 1 1048576 7\n"
-    graphs = [(2**20, 1, (one, one)), *((n, m, drawn_graph(21, n, m)) for n, m in [(900, 132_000), (10_000, 67_000)])]
+    graphs = [(2**20, 1, (one, one)), *((n, m, drawn_graph(21, n, m)) for n, m in [(900, 132_000), (10_000, 67_000), (10_000, 200_000)])]
     for words, each_link, each_vertex in rows:
         for vertices, arcs, (file, text) in graphs:
-            space = beside + each_link * arcs + each_vertex * vertices
+            links = arcs
+            if words == ["--plain"] and arcs > max(65_536, 15 * vertices):
+                links = min(arcs, max(10 * vertices, 32_768) + 8_192)
+            space = beside + each_link * links + each_vertex * vertices
 
             def limit(space=space):
                 resource.setrlimit(resource.RLIMIT_AS, (space, space))

@@ -133,7 +133,8 @@ def the_least_memory_beside_that_of_malloc(room):
 def the_most_memory_that_lists_texts_and_merges_need(room):
     """What the header calls enough is enough for these, and little more than they need."""
     link, vertex, _, byte, merged_link, merged_vertex = (int(it.split("=")[1]) for it in enough())
-    for arcs in (1_025, 16_385, 65_537):
+    # (of more than 65,536 links a text keeps but some)
+    for arcs in (1_025, 16_385, 32_769):
         _, (of_text, _), _ = least(room, "pair", 9, arcs)
         length = len(f"p sp 9 {arcs}\n") + 8 * arcs
         expect((arcs, 10 * of_text >= 9 * byte * length, b""), arcs, True, b"")
