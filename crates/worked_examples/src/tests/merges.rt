@@ -54,6 +54,7 @@ fn points_on_a_line(rt: HostRuntime) {
 #[test]
 fn clusters_of_points_on_a_line(rt: HostRuntime) {
     let links = links_between(&rt, rt.alloc(), 8, &ON_A_LINE);
+    assert!(&rt; links.len() <= MAX_ARCS as usize);
     let found = merges_of(rt.alloc(), 8, links.as_slice())
         .expect(&rt, "memory")
         .expect(&rt, "no cycle");
