@@ -16,6 +16,7 @@ import numpy as np
 from numpy.typing import ArrayLike, NDArray
 
 from boruvka import _library
+from boruvka._entries import expect_no_filling
 from boruvka._forest import Forest, Real, held, is_masked, minimum_spanning_forest, of_each, vertices, whole
 from boruvka._metrics import Metric, metric_of
 from boruvka._points import tree_of_points
@@ -103,8 +104,8 @@ def spanning_tree(y: ArrayLike | SparseMatrix, *, metric: str = "euclidean", p: 
     ------
     ValueError
         As `single_linkage` does; or if the metric isn't one of these, p is less than 1, past all doubles, or given with
-        another metric, min_samples isn't from 1 to n, a row has no place in the metric, or a sparse matrix has two
-        entries in one place.
+        another metric, min_samples isn't from 1 to n, a row has no place in the metric, a sparse matrix has two entries
+        in one place, or a bsr_matrix or dia_matrix stores a 0 that may fill it.
     TypeError
         As `single_linkage` does; or if p is no number, min_samples no whole number, or min_samples or a metric is given
         with distances.
@@ -367,6 +368,7 @@ def _expect_points(metric: str, min_samples: int | None, given: str) -> None:
 def _of_entries(matrix: Any) -> Forest:
     if len(matrix.shape) != 2 or matrix.shape[0] != matrix.shape[1]:
         raise ValueError(f"y has the shape {matrix.shape}, and a sparse matrix of distances is square: points are y.toarray()")
+    expect_no_filling(matrix, "y")
     entries = matrix.tocoo()
     distances = _numbers(entries.data)
     once = matrix.tocsr(copy=True)
