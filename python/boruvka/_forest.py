@@ -282,7 +282,8 @@ def minimum_spanning_forest(n: Any = None, u: Any = None, v: Any = None, w: Any 
     maximum : bool, optional
         Whether the total weight shall be the greatest instead. Then the heaviest edge comes first.
     threads : int, optional
-        How many threads may find it: the same forest. From 16 edges a vertex on it may gain time.
+        How many threads may find it, at most: the same forest. From 16 edges a vertex on it may gain time. There are no
+        more than this process has processors, or than the edges are worth.
 
     Returns
     -------
