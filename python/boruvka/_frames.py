@@ -53,7 +53,7 @@ def from_edges(frame: Any, u: Hashable = "u", v: Hashable = "v", *, weight: Hash
     Warns
     -----
     UserWarning
-        If vertices are called by a number and by its text, as 1 and "1": they are two.
+        If vertices are called by a text and by its number or bytes, as "1" and 1: they are two.
 
     Examples
     --------
@@ -67,7 +67,7 @@ def from_edges(frame: Any, u: Hashable = "u", v: Hashable = "v", *, weight: Hash
     one, other, weights = (_column(frame, it) for it in (u, v, weight))
     tails, heads = _numbered(one, u, number), _numbered(other, v, number)
     _expect_one_kind_of_times(number)
-    _warn_of_texts_of_numbers(number)
+    _warn_of_texts(number)
     if len(tails) != len(heads):
         raise ValueError(f"the columns {u!r} and {v!r} differ in length: {len(tails)} and {len(heads)}")
     forest = minimum_spanning_forest(len(number), tails, heads, weights, maximum=maximum)
@@ -126,14 +126,20 @@ def _expect_one_kind_of_times(names: Iterable[Any]) -> None:
                 raise TypeError(f"the ends are times of numpy ({units[0]}), and of the type {others[0]}: numpy.asarray(column, {str(units[0])!r}) of each makes one of them")
 
 
-def _warn_of_texts_of_numbers(number: Mapping[Any, int]) -> None:
-    """Warns if a name is the text of another, which is a number."""
+def _warn_of_texts(number: Mapping[Any, int]) -> None:
+    """Warns if a name is the text of another, which is a number or bytes."""
     types = {*map(type, number)}
-    if str in types and len(types) > 1:
-        text = next((it for it in number if type(it) is str and _number_of(it) in number), None)
-        if text is not None:
-            words = f"the text {text!r} and the number {_number_of(text)} name two vertices: .astype(str) of both columns makes them one"
-            warnings.warn(words, UserWarning, stacklevel=3)
+    if str not in types or len(types) == 1:
+        return
+    for text in (it for it in number if type(it) is str):
+        if _number_of(text) in number:
+            words = f"the number {_number_of(text)} name two vertices: .astype(str) of both columns makes them one"
+        elif text.encode(errors="replace") in number:
+            words = f"the bytes {text.encode(errors='replace')!r} name two vertices: numpy.char.decode(column) makes texts of bytes"
+        else:
+            continue
+        warnings.warn(f"the text {text!r} and {words}", UserWarning, stacklevel=3)
+        return
 
 
 def _number_of(text: str) -> int | float | None:

@@ -132,16 +132,21 @@ class Frames(unittest.TestCase):
 
         self.assertEqual(boruvka.from_edges(Tensor(), 0, 1, weight=2).names, [10, 20, 7, 30])
 
-    def test_numbers_and_their_texts(self):
+    def test_texts_of_numbers_and_of_bytes(self):
         """They are two vertices, as Python has it, and that is said."""
         for one, other in [(1, "1"), (2.0, "2"), (2, "2.0"), (7, " 7")]:
             with self.assertWarnsRegex(UserWarning, f"^the text '{other}' and the number .* name two vertices: ") as told:
                 forest = boruvka.from_edges({"u": [one, 5], "v": ["a", other], "w": [1, 2]})
             self.assertEqual((forest.names, told.filename), ([one, 5, "a", other], __file__))
+        encoded = np.array([b"a", b"b"])
+        with self.assertWarnsRegex(UserWarning, r"^the text 'b' and the bytes b'b' name two vertices: numpy\.char\.decode\(column\)"):
+            self.assertEqual(boruvka.from_edges({"u": encoded, "v": ["b", "c"], "w": [1, 2]}).n, 4)
+        self.assertEqual(boruvka.from_edges({"u": np.char.decode(encoded), "v": ["b", "c"], "w": [1, 2]}).n, 3)
         with warnings.catch_warnings():
             warnings.simplefilter("error")
             self.assertEqual(boruvka.from_edges({"u": [1, 2], "v": ["a1", "nan"], "w": [1, 2]}).n, 4)
             self.assertEqual(boruvka.from_edges({"u": ["1"], "v": ["1.0"], "w": [1]}).n, 2)
+            self.assertEqual(boruvka.from_edges({"u": [b"a", 7], "v": ["b", "\ud800"], "w": [1, 2]}).n, 4)
 
     @unittest.skipUnless(pandas, "there is no pandas")
     def test_what_pandas_has_in_place_of_columns(self):
