@@ -221,6 +221,10 @@ class Knowing(unittest.TestCase):
         self.assertEqual(len(np.unique(grey, axis=0)), 5)
         with self.assertRaisesRegex(ValueError, "shape"):
             self.forest.plot(points[:3])
+        with self.assertRaisesRegex(ValueError, "^points has masked entries: leave them out first$"):
+            self.forest.plot(np.ma.masked_less(points, 0.5))
+        with self.assertRaisesRegex(ValueError, r"^labels has the shape \(2,\), and 7 points have one each$"):
+            self.forest.plot(points, labels=[0, 1])
 
 
 class Called(unittest.TestCase):
