@@ -14,7 +14,7 @@ from typing import Any, SupportsIndex
 import numpy as np
 from numpy.typing import ArrayLike, NDArray
 
-from boruvka._forest import Forest, columns, number_of_vertices, pairs_of_vertices, places
+from boruvka._forest import Forest, columns, number_of_vertices, pairs_of_vertices, places, truth
 from boruvka._weights import ordered
 
 # how many edges are kept at most: so many a vertex, or of a small graph so many
@@ -77,7 +77,7 @@ def forest_of_chunks(n: SupportsIndex, chunks: Iterable[Sequence[ArrayLike]], *,
     >>> forest.index.tolist()
     [[0, 1], [1, 1], [0, 2]]
     """
-    kept = _Kept(number_of_vertices(n), maximum)
+    kept = _Kept(number_of_vertices(n), truth(maximum, "maximum"))
     if not isinstance(chunks, Iterable):
         raise TypeError(f"chunks are {chunks!r}, and have to be an iterable of (u, v, w)")
     number = 0

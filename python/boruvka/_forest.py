@@ -64,16 +64,23 @@ class Forest:
 
     def __post_init__(self) -> None:
         arrays = [np.asarray(it) for it in self]
-        for name, it in zip(("u", "v", "w", "index"), arrays):
+        for name, given, it in zip(("u", "v", "w", "index"), self, arrays):
+            expect_no_masks(given, name)
             object.__setattr__(self, name, it)
         *shapes, place = (it.shape for it in arrays)
         if self.w.ndim != 1 or len({*shapes, place[:1]}) > 1 or place[1:] not in ((), (2,)):
             raise ValueError(f"the arrays of the forest have the shapes {', '.join(str(it.shape) for it in arrays)}")
         if self.w.dtype.kind not in "biuf":
             raise TypeError(f"{why_none(self.w, 'w', 'biuf')}, and weights are real numbers")
-        if self.n < 0:
-            object.__setattr__(self, "n", int(max(self.u.max(), self.v.max())) + 1 if len(self) else 0)
+        for name, it in (("u", self.u), ("v", self.v)):
+            if len(it) and it.dtype.kind not in "iu":
+                raise TypeError(f"{why_none(it, name, 'iu')}, and vertices are whole numbers")
+        count = whole(self.n, "n")
+        object.__setattr__(self, "n", count if count >= 0 else int(max(self.u.max(), self.v.max())) + 1 if len(self) else 0)
+        object.__setattr__(self, "maximum", truth(self.maximum, "maximum"))
         if self.names is not None:
+            if isinstance(self.names, (Set, Mapping)) or not hasattr(self.names, "__iter__"):
+                raise TypeError(f"names are a {type(self.names).__name__}, and have to be a list")
             object.__setattr__(self, "names", list(self.names))
             if len(self.names) != self.n:
                 raise ValueError(f"there are {len(self.names)} names, and {self.n} vertices")
@@ -87,7 +94,7 @@ class Forest:
     def __eq__(self, other: object) -> bool:
         if not isinstance(other, Forest):
             return NotImplemented
-        is_like = (self.n, self.maximum, self.names) == (other.n, other.maximum, other.names)
+        is_like = (self.n, self.maximum) == (other.n, other.maximum) and _are_same(self.names, other.names)
         return is_like and all(np.array_equal(one, another) for one, another in zip(self, other))
 
     __hash__ = None  # type: ignore[assignment]
@@ -150,15 +157,15 @@ class Forest:
 
     def path(self, a: SupportsIndex, b: SupportsIndex) -> list[int]:
         """The vertices on the way from a to b, both with it; a ValueError if there is none."""
-        ways = self._ways(operator.index(a), operator.index(b))
-        return [operator.index(a), *(int(self.u[it] if is_back else self.v[it]) for it, is_back in ways)]
+        ways = self._ways(whole(a, "a"), whole(b, "b"))
+        return [whole(a, "a"), *(int(self.u[it] if is_back else self.v[it]) for it, is_back in ways)]
 
     def bottleneck(self, a: SupportsIndex, b: SupportsIndex) -> int:
         """The place, in this forest, of the heaviest edge on the way from a to b; of the lightest in a maximum forest.
 
         No way in the graph has a better one. A ValueError if there is no way, or no edge on it.
         """
-        ways = [it for it, _ in self._ways(operator.index(a), operator.index(b))]
+        ways = [it for it, _ in self._ways(whole(a, "a"), whole(b, "b"))]
         if not ways:
             raise ValueError(f"from {a} to itself there is no edge")
         best: Callable[..., int] = min if self.maximum else max
@@ -210,11 +217,16 @@ class Forest:
         return csr_matrix((self.w, (self.u, self.v)), shape=(self.n, self.n))
 
     def to_networkx(self, names: Sequence[Any] | None = None) -> networkx.Graph:
-        """A graph of networkx, whose vertices are called so; else by the forest's names, or by their numbers."""
+        """A graph of networkx, whose vertices are called so; else by the forest's names, or by their numbers.
+
+        A ValueError if two have one name: networkx would make one vertex of them. A TypeError if a name can't be a key of
+        a dict.
+        """
         import networkx
 
         if names is not None:
             return replace(self, names=names).to_networkx()
+        _expect_keys(self.names or ())
         graph = networkx.Graph()
         graph.add_nodes_from(self._named(np.arange(self.n)))
         graph.add_weighted_edges_from(zip(self._named(self.u), self._named(self.v), self.w.tolist()))
@@ -229,12 +241,15 @@ class Forest:
         from matplotlib import pyplot
         from matplotlib.collections import LineCollection
 
+        expect_no_masks(points, "points")
         places = np.asarray(points)
         if places.shape != (self.n, 2):
             raise ValueError(f"points has the shape {places.shape}, and {self.n} points of a plane are drawn")
         axes = pyplot.gca() if ax is None else ax
         axes.add_collection(LineCollection(np.stack([places[self.u], places[self.v]], axis=1), colors="silver", zorder=1))
         clusters = np.zeros(self.n, int) if labels is None else np.asarray(labels)
+        if clusters.shape != (self.n,):
+            raise ValueError(f"labels has the shape {clusters.shape}, and {self.n} points have one each")
         axes.scatter(*places.T, c=["grey" if it < 0 else f"C{it % 10}" for it in clusters.tolist()], s=12, zorder=2)
         axes.set_aspect("equal")
         return axes
@@ -267,7 +282,8 @@ def minimum_spanning_forest(n: Any = None, u: Any = None, v: Any = None, w: Any 
     maximum : bool, optional
         Whether the total weight shall be the greatest instead. Then the heaviest edge comes first.
     threads : int, optional
-        How many threads may find it: the same forest. From 16 edges a vertex on it may gain time.
+        How many threads may find it, at most: the same forest. From 16 edges a vertex on it may gain time. There are no
+        more than this process has processors, or than the edges are worth.
 
     Returns
     -------
@@ -282,7 +298,8 @@ def minimum_spanning_forest(n: Any = None, u: Any = None, v: Any = None, w: Any 
         an array hasn't one dimension or has masked entries, the arrays differ in length, or numpy would round a weight
         of a list or of objects beside the others. If threads is below 1.
     TypeError
-        If n, threads or an end is no whole number, or a weight is neither a whole number nor a float of up to 64 bits.
+        If n, threads or an end is no whole number, `maximum` is neither True nor False, or a weight is neither a whole
+        number nor a float of up to 64 bits.
     MemoryError
         If there is no memory for the forest.
 
@@ -297,8 +314,7 @@ def minimum_spanning_forest(n: Any = None, u: Any = None, v: Any = None, w: Any 
     the arrays given and the answer, up to 36 if most edges are in the forest. Ends that are neither int32 nor uint32 are
     copied, 8 bytes an edge, and so are weights other than int64. The arrays given are never written. No other thread may
     write them meanwhile. Any number of threads may call at once, and run side by side. A child that was forked from a
-    process with threads
-    must not call.
+    process with threads must not call.
 
     Threads: with `threads` above 1 each has a part of the edges, and one merges the forests of the parts. Each has at
     least 6 edges a vertex, and below 16 edges a vertex there is one. At 16 the gain is small; from 24 on four take
@@ -323,6 +339,29 @@ def minimum_spanning_forest(n: Any = None, u: Any = None, v: Any = None, w: Any 
     return Forest(np.minimum(one, other), np.maximum(one, other), weights.take(index), index, count, maximum)
 
 
+def _expect_keys(names: Sequence[Any]) -> None:
+    """An error if names can't be keys of one dict, as vertices of networkx are."""
+    first: dict[Any, int] = {}
+    for place, it in enumerate(names):
+        try:
+            before = first.setdefault(it, place)
+        except TypeError:
+            raise TypeError(f"names[{place}] is a {type(it).__name__}, which can't be a key of a dict, as vertices of networkx are") from None
+        if before != place:
+            raise ValueError(f"names[{place}] is {it!r:.80}, as names[{before}] is: networkx would make one vertex of both")
+
+
+def _are_same(one: Any, other: Any) -> bool:
+    """Whether Python calls names equal, or numpy those that are arrays; so do lists and tuples of them."""
+    if one is other:
+        return True
+    if isinstance(one, (list, tuple)) and isinstance(other, (list, tuple)):
+        return isinstance(one, list) is isinstance(other, list) and len(one) == len(other) and all(map(_are_same, one, other))
+    if getattr(one, "ndim", 0) or getattr(other, "ndim", 0):
+        return type(one) is type(other) and np.array_equal(one, other)
+    return bool(one == other)
+
+
 def edges_of(n: Any, u: Any, v: Any, w: Any) -> tuple[int, NDArray[Any], NDArray[Any], NDArray[Any]]:
     """The number of vertices, and the columns of the edges, that a call was given."""
     n, u, v, w = _arguments([u, v, w] if n is None else [it for it in (n, u, v, w) if it is not None])
@@ -336,13 +375,16 @@ def _arguments(given: list[Any]) -> list[Any]:
         raise TypeError('a graph of networkx is for networkx.minimum_spanning_tree(G, backend="boruvka")')
     if given and hasattr(given[0], "tocsr"):
         raise TypeError("a sparse matrix is for boruvka.sparse.minimum_spanning_tree")
+    if len(given) == 1 and hasattr(given[0], "columns"):
+        raise TypeError("a frame is for boruvka.from_edges")
     n = given.pop(0) if len(given) == 4 or given and isinstance(given[0], numbers.Number) else None
     if len(given) == 2:
         edges = held(given[0], "edges")
         if is_masked(given[0]):
             raise ValueError("edges have masked entries: leave these edges out first")
         if edges.ndim != 2 or edges.shape[1] != 2:
-            raise TypeError(f"edges have the shape {edges.shape}, and need two columns; or give n, u, v and w")
+            how = "edges.T has them" if edges.ndim == 2 and edges.shape[0] == 2 else "or give n, u, v and w"
+            raise TypeError(f"edges have the shape {edges.shape}, and need two columns; {how}")
         given = [edges[:, 0], edges[:, 1], given[1]]
     if len(given) != 3 or any(it is None for it in given):
         raise TypeError("a forest needs n, u, v and w; n may be left out, and u and v be the two columns of one array")
@@ -362,26 +404,42 @@ def _as_many_as_needed(tails: NDArray[Any], heads: NDArray[Any]) -> int:
 
 def number_of_vertices(n: Any) -> int:
     """n, if there may be so many vertices."""
-    if not hasattr(n, "__index__"):
-        raise TypeError(f"n is {n!r}, and has to be a whole number: the number of vertices")
-    if not 0 <= operator.index(n) <= _library.MAX_VERTICES:
-        raise ValueError(f"n is {n}, and has to be from 0 to 2^26")
-    return operator.index(n)
+    count = whole(n, "n", ": the number of vertices")
+    if not 0 <= count <= _library.MAX_VERTICES:
+        raise ValueError(f"n is {count}, and has to be from 0 to 2^26")
+    return count
 
 
 def number_of_threads(threads: Any) -> int:
     """How many threads there may be."""
-    if not hasattr(threads, "__index__"):
-        raise TypeError(f"threads is {threads!r}, and has to be a whole number")
-    if operator.index(threads) < 1:
-        raise ValueError(f"threads is {threads}, and has to be at least 1")
-    return operator.index(threads)
+    count = whole(threads, "threads")
+    if count < 1:
+        raise ValueError(f"threads is {count}, and has to be at least 1")
+    return count
+
+
+def whole(given: Any, name: str, what: str = "") -> int:
+    """A whole number that was given by this name."""
+    # (True is one to Python)
+    if not isinstance(given, bool):
+        try:
+            return operator.index(given)
+        except TypeError:
+            pass
+    raise TypeError(f"{name} is {given!r:.80}, and has to be a whole number{what}")
+
+
+def truth(given: Any, name: str) -> bool:
+    """Whether what was given by this name is true. (So would be any text, "False" too.)"""
+    if not isinstance(given, (bool, np.bool_)):
+        raise TypeError(f"{name} is {given!r:.80}, and has to be True or False")
+    return bool(given)
 
 
 def places(n: int, tails: NDArray[Any], heads: NDArray[Any], weights: NDArray[Any], maximum: bool = False, threads: int = 1) -> NDArray[np.intp]:
     """The places of the forest's edges among these, in ascending order of their keys."""
     u, v = pairs_of_vertices(number_of_vertices(n), tails, heads)
-    return places_by_threads(n, u, v, ordered(weights, maximum), threads).astype(np.intp)
+    return places_by_threads(n, u, v, ordered(weights, truth(maximum, "maximum")), threads).astype(np.intp)
 
 
 def pairs_of_vertices(n: int, tails: NDArray[Any], heads: NDArray[Any]) -> tuple[NDArray[np.uint32], NDArray[np.uint32]]:
@@ -420,6 +478,12 @@ def _column(given: Any, name: str) -> NDArray[Any]:
         return column
     each = column.tolist() if column.dtype == object else list(given)
     return of_each(each, column if column.dtype != object else np.asarray(each), name)
+
+
+def expect_no_masks(given: Any, name: str) -> None:
+    """A ValueError if something is masked, which numpy would uncover."""
+    if is_masked(given):
+        raise ValueError(f"{name} has masked entries: leave them out first")
 
 
 def is_masked(given: Any) -> bool:

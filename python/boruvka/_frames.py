@@ -2,7 +2,9 @@
 
 from __future__ import annotations
 
+import datetime
 import operator
+import warnings
 from collections.abc import Hashable, Iterable, Mapping, Set
 from itertools import islice
 from typing import Any, SupportsIndex
@@ -15,6 +17,8 @@ from boruvka._interchange import column_of, names_of
 
 # how many names of columns a refusal lists
 _SHOWN = 10
+# the types of what pandas and numpy have in place of an entry
+_MISSING = ("NAType", "NaTType", "MaskedConstant")
 
 
 def from_edges(frame: Any, u: Hashable = "u", v: Hashable = "v", *, weight: Hashable = "w", maximum: bool = False) -> Forest:
@@ -43,7 +47,13 @@ def from_edges(frame: Any, u: Hashable = "u", v: Hashable = "v", *, weight: Hash
     ValueError
         If a name is missing, a weight is NaN, the columns differ in length, or two have the same name.
     TypeError
-        If a name can't be a key of a dict, weights are no numbers, times have two units, or the frame has no columns.
+        If a name can't be a key of a dict, weights are no numbers, a column is a single value, or the frame has no columns.
+        If times have two units, some have a zone and some none, or some are numpy's and some aren't.
+
+    Warns
+    -----
+    UserWarning
+        If vertices are called by a text and by its number or bytes, as "1" and 1: they are two.
 
     Examples
     --------
@@ -55,8 +65,9 @@ def from_edges(frame: Any, u: Hashable = "u", v: Hashable = "v", *, weight: Hash
     """
     number: dict[Any, int] = {}
     one, other, weights = (_column(frame, it) for it in (u, v, weight))
-    _expect_one_unit(one, other)
     tails, heads = _numbered(one, u, number), _numbered(other, v, number)
+    _expect_one_kind_of_times(number)
+    _warn_of_texts(number)
     if len(tails) != len(heads):
         raise ValueError(f"the columns {u!r} and {v!r} differ in length: {len(tails)} and {len(heads)}")
     forest = minimum_spanning_forest(len(number), tails, heads, weights, maximum=maximum)
@@ -68,14 +79,17 @@ def _column(frame: Any, name: Hashable) -> Any:
     # (what else has `__array__` may be indexed by rows, as tensors are)
     has_columns = any(hasattr(frame, it) for it in ("__dataframe__", "columns", "keys"))
     if isinstance(frame, np.ndarray) or hasattr(frame, "__array__") and not has_columns:
-        return _of_array(frame if isinstance(frame, np.ndarray) else np.asarray(frame), name)
+        # (a column of an np.matrix would have two dimensions)
+        return _of_array(np.asarray(frame) if isinstance(frame, np.matrix) or not isinstance(frame, np.ndarray) else frame, name)
     if isinstance(frame, (list, tuple, str, bytes)):
         raise TypeError(f"a {type(frame).__name__} is no frame: pandas.DataFrame(rows, columns=...), a dict of columns, or an array is")
     if hasattr(frame, "__getitem__"):
         try:
             column = frame[name]
         except KeyError:
-            raise _no_column(name, frame.keys() if hasattr(frame, "keys") else ()) from None
+            labels = getattr(getattr(frame, "index", None), "names", ())
+            how = "; frame.reset_index() makes columns of its index" if name is not None and name in labels else ""
+            raise _no_column(name, frame.keys() if hasattr(frame, "keys") else (), how) from None
     elif hasattr(frame, "__dataframe__"):
         table = frame.__dataframe__()
         if name not in names_of(table):
@@ -84,23 +98,65 @@ def _column(frame: Any, name: Hashable) -> Any:
     else:
         raise TypeError(f"a {type(frame).__name__} is no frame: it has no columns, no __dataframe__ and no __array__")
     if getattr(column, "ndim", 1) != 1:
-        raise ValueError(f"the column {name!r} has {column.ndim} dimensions: do two have this name?")
+        raise ValueError(f"the column {name!r} has {column.ndim} dimensions{': do two have this name?' if hasattr(column, 'columns') else ', and needs one'}")
+    if isinstance(column, (str, bytes)) or not (hasattr(column, "__iter__") or hasattr(column, "__array__") or hasattr(column, "__getitem__")):
+        raise TypeError(f"the column {name!r} is {column!r:.80}, and has to be an array or a list")
     if isinstance(column, (Mapping, Set)):
         raise TypeError(f"the column {name!r} is a {type(column).__name__}, which has no order")
     return column
 
 
-def _expect_one_unit(one: Any, other: Any) -> None:
-    """A TypeError if two columns have times of different units: numpy's hashes tell equal ones apart."""
-    dtypes = [it.dtype for it in (one, other) if isinstance(it, np.ndarray) and it.dtype.kind in "mM"]
-    if len({it.kind for it in dtypes}) < len({*dtypes}):
-        raise TypeError(f"the ends have the dtypes {dtypes[0]} and {dtypes[1]}: .astype makes one unit of them")
+def _expect_one_kind_of_times(names: Iterable[Any]) -> None:
+    """A TypeError if names are times of different units, with and without a zone, or numpy's beside others.
+
+    Their hashes tell apart what is equal, or they are never equal.
+    """
+    types = {*map(type, names)}
+    if any(issubclass(it, datetime.datetime) for it in types):
+        if len({it.tzinfo is None for it in names if isinstance(it, datetime.datetime)}) > 1:
+            raise TypeError("the ends are times with a zone, and times without: .dt.tz_localize gives these one")
+    kinds: list[tuple[Any, Any]] = [(np.datetime64, datetime.date), (np.timedelta64, datetime.timedelta)]
+    for of_numpy, of_python in kinds:
+        if of_numpy in types:
+            units = [*{it.dtype: None for it in names if type(it) is of_numpy}]
+            if len(units) > 1:
+                raise TypeError(f"the ends have the dtypes {units[0]} and {units[1]}: .astype makes one unit of them")
+            others = [it.__name__ for it in types if issubclass(it, of_python)]
+            if others:
+                raise TypeError(f"the ends are times of numpy ({units[0]}), and of the type {others[0]}: numpy.asarray(column, {str(units[0])!r}) of each makes one of them")
 
 
-def _no_column(name: Hashable, there: Iterable[Any]) -> KeyError:
+def _warn_of_texts(number: Mapping[Any, int]) -> None:
+    """Warns if a name is the text of another, which is a number or bytes."""
+    types = {*map(type, number)}
+    if str not in types or len(types) == 1:
+        return
+    for text in (it for it in number if type(it) is str):
+        if _number_of(text) in number:
+            words = f"the number {_number_of(text)} name two vertices: .astype(str) of both columns makes them one"
+        elif text.encode(errors="replace") in number:
+            words = f"the bytes {text.encode(errors='replace')!r} name two vertices: numpy.char.decode(column) makes texts of bytes"
+        else:
+            continue
+        warnings.warn(f"the text {text!r} and {words}", UserWarning, stacklevel=3)
+        return
+
+
+def _number_of(text: str) -> int | float | None:
+    """The number that a text is, if it is one."""
+    for kind in (int, float):
+        try:
+            number: int | float = kind(text)
+            return number
+        except ValueError:
+            pass
+    return None
+
+
+def _no_column(name: Hashable, there: Iterable[Any], how: str = "") -> KeyError:
     names = [*map(repr, islice(there, _SHOWN + 1))]
     shown = ", ".join(names[:_SHOWN]) + (", .." if len(names) > _SHOWN else "")
-    return KeyError(f"the frame has no column {name!r}" + (f", but {shown}" if shown else ""))
+    return KeyError(f"the frame has no column {name!r}" + (f", but {shown}" if shown else "") + how)
 
 
 def _of_array(table: NDArray[Any], name: Hashable) -> NDArray[Any]:
@@ -120,9 +176,14 @@ def _numbered(column: Any, name: Hashable, number: dict[Any, int]) -> NDArray[np
     each = _listed(column)
     found = np.empty(len(each), np.int32)
     for row, it in enumerate(each):
-        if it is None or type(it).__name__ in ("NAType", "NaTType") or it != it:
+        try:
+            is_missing = it is None or type(it).__name__ in _MISSING or bool(it != it)
+            if not is_missing:
+                found[row] = number.setdefault(it, len(number))
+        except (TypeError, ValueError):
+            raise TypeError(f"the column {name!r} has a {type(it).__name__} in row {row}, which can't be a key of a dict: a tuple of texts or numbers can") from None
+        if is_missing:
             raise ValueError(f"row {row} has no name in the column {name!r}: leave such edges out first")
-        found[row] = number.setdefault(it, len(number))
     return found
 
 

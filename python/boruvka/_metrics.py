@@ -2,6 +2,7 @@
 
 from __future__ import annotations
 
+import sys
 from collections.abc import Callable
 from numbers import Real
 from typing import NamedTuple
@@ -24,12 +25,15 @@ def metric_of(name: str, p: float) -> Metric:
     """The metric of this name; p is the exponent of "minkowski"."""
     if not isinstance(name, str) or name not in [*_METRICS, "minkowski"]:
         raise ValueError(f"there is no metric {name!r}: it is one of {', '.join([*_METRICS, 'minkowski'])}")
-    if not isinstance(p, Real):
+    if not isinstance(p, Real) or isinstance(p, bool):
         raise TypeError(f"p is {p!r}, and has to be a number")
     if name == "minkowski":
         if not p >= 1:
             raise ValueError(f"p is {p}, and a distance needs at least 1")
-        return Metric(float(p))
+        try:
+            return Metric(float(p))
+        except OverflowError:
+            raise ValueError(f"p is past all doubles, of which the greatest is {sys.float_info.max}: numpy.inf is the metric 'chebyshev'") from None
     if p != 2:
         raise ValueError(f"p is {p}, and only the metric 'minkowski' has an exponent")
     return _METRICS[name]

@@ -12,12 +12,12 @@ import os
 import sys
 import tempfile
 import webbrowser
-from collections.abc import Sequence
+from collections.abc import Mapping, Sequence, Set
 
 import numpy as np
 from numpy.typing import ArrayLike
 
-from boruvka._forest import is_masked
+from boruvka._forest import expect_no_masks, truth
 from boruvka._weights import why_none
 
 _MOST_POINTS = 1_000_000
@@ -56,7 +56,7 @@ def show(
         If there is no point, or there are too many; a coordinate isn't finite, or none of the globe; names aren't one for
         each point; or the file isn't such a page.
     TypeError
-        If a coordinate is no real number.
+        If a coordinate is no real number, `globe` is neither True nor False, or names are a set or a dict.
     FileNotFoundError
         If no page is found.
 
@@ -66,7 +66,7 @@ def show(
     >>> show([[0, 0], [3, 4], [9, 9]], ["a", "b", "c"])  # doctest: +SKIP
     '/tmp/boruvka-n1fe9a8w.html'
     """
-    table = _table(points, names, globe)
+    table = _table(points, names, truth(globe, "globe"))
     text = _filled(_page(page), table)
     if into is None:
         handle, path = tempfile.mkstemp(prefix="boruvka-", suffix=".html")
@@ -100,8 +100,7 @@ def _filled(page: str, table: str) -> str:
 
 def _table(points: ArrayLike, names: Sequence[str] | None, globe: bool) -> str:
     """The points as the text of a table."""
-    if is_masked(points):
-        raise ValueError("points has masked entries: leave these points out first")
+    expect_no_masks(points, "points")
     if np.asarray(points).dtype.kind not in "biuf":
         raise TypeError(f"{why_none(np.asarray(points), 'points', 'biuf')}: coordinates are real numbers")
     given = np.asarray(points, dtype=np.float64)
@@ -113,6 +112,8 @@ def _table(points: ArrayLike, names: Sequence[str] | None, globe: bool) -> str:
     if are_wrong.any():
         row, column = np.argwhere(are_wrong)[0].tolist()
         raise ValueError(f"points[{row}, {column}] is {given[row, column]}: it must be {'degrees east, or north' if globe else 'finite'}")
+    if isinstance(names, (Set, Mapping)):
+        raise TypeError(f"names are a {type(names).__name__}, and have to be a list")
     if names is not None and len(names) != len(given):
         raise ValueError(f"there are {len(names)} names for {len(given)} points")
     head = ["longitude", "latitude"] if globe else ["x", "y"]

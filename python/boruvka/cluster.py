@@ -2,14 +2,13 @@
 
 from __future__ import annotations
 
-import operator
 from typing import TYPE_CHECKING, Any, TypeVar
 
 import numpy as np
 from numpy.typing import ArrayLike, NDArray
 
 from boruvka._density import Condensed
-from boruvka._forest import Forest
+from boruvka._forest import Forest, whole
 from boruvka.linkage import cut, spanning_tree
 
 if TYPE_CHECKING:
@@ -99,6 +98,8 @@ class SingleLinkage(_OverTree):
         """Find the clusters of points, a row each."""
         if (self.n_clusters is None) == (self.distance_threshold is None):
             raise ValueError("give either n_clusters or distance_threshold, and None for the other")
+        if self.n_clusters is not None:
+            whole(self.n_clusters, "n_clusters")
         tree = self._tree_of(X, self.min_samples)
         self.labels_ = cut(tree.n, tree, self.n_clusters, self.distance_threshold, self.min_size)
         return self
@@ -152,7 +153,7 @@ class HDBSCAN(_OverTree):
 
     def fit(self, X: ArrayLike, y: Any = None) -> HDBSCAN:
         """Find the clusters of points, a row each."""
-        least = operator.index(self.min_cluster_size)
+        least = whole(self.min_cluster_size, "min_cluster_size")
         if least < 2:
             raise ValueError(f"min_cluster_size is {least}, and has to be at least 2")
         if self.cluster_selection_method not in ("eom", "leaf"):

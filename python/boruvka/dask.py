@@ -5,7 +5,7 @@ from __future__ import annotations
 from collections.abc import Hashable
 from typing import Any, SupportsIndex
 
-from boruvka._forest import columns, number_of_vertices, places
+from boruvka._forest import columns, number_of_vertices, places, truth, whole
 
 __all__ = ["minimum_spanning_forest"]
 
@@ -73,9 +73,9 @@ def minimum_spanning_forest(
     for it in (u, v, w):
         if it not in frame.columns:
             raise KeyError(f"the frame has no column {it!r}")
-    if split_every < 2:
+    if whole(split_every, "split_every") < 2:
         raise ValueError(f"split_every is {split_every}, and has to be at least 2")
-    words = {"n": count, "names": [u, v, w], "maximum": maximum}
+    words = {"n": count, "names": [u, v, w], "maximum": truth(maximum, "maximum")}
     kinds = [str(frame[it].dtype) for it in (u, v, w)]
     forests = frame.map_partitions(_forest_of_partition, kinds=kinds, **words, meta=frame._meta)
     return forests.reduction(

@@ -8,7 +8,6 @@ points in up to eleven dimensions faster.
 from __future__ import annotations
 
 import numbers
-import operator
 import sys
 import warnings
 from typing import Any, Protocol, SupportsIndex, overload
@@ -17,7 +16,8 @@ import numpy as np
 from numpy.typing import ArrayLike, NDArray
 
 from boruvka import _library
-from boruvka._forest import Forest, Real, held, is_masked, minimum_spanning_forest, of_each, vertices
+from boruvka._entries import expect_no_filling
+from boruvka._forest import Forest, Real, held, is_masked, minimum_spanning_forest, of_each, vertices, whole
 from boruvka._metrics import Metric, metric_of
 from boruvka._points import tree_of_points
 from boruvka._weights import why_none
@@ -82,8 +82,9 @@ def spanning_tree(y: ArrayLike | SparseMatrix, *, metric: str = "euclidean", p: 
     Parameters
     ----------
     y : array_like, shape (n, d) or (n (n - 1) / 2,), or sparse matrix, shape (n, n)
-        Points or distances, as `single_linkage` takes them. The entries of a sparse matrix are distances; pairs without
-        an entry have no edge, so that there may be several components. Of (i, j) and (j, i) the lesser counts.
+        Points or distances, as `single_linkage` takes them. The entries of a sparse matrix are distances, a stored 0 too;
+        pairs without an entry have no edge, so that there may be several components. Of (i, j) and (j, i) the lesser
+        counts.
     metric : str, optional
         How far points are apart: "euclidean" ("l2"), "manhattan" ("cityblock", "l1"), "chebyshev", "minkowski",
         "haversine" (rows are latitude and longitude in radians, lengths are radians) or "cosine".
@@ -102,19 +103,23 @@ def spanning_tree(y: ArrayLike | SparseMatrix, *, metric: str = "euclidean", p: 
     Raises
     ------
     ValueError
-        As `single_linkage` does; or if the metric isn't one of these, p is less than 1 or given with another metric,
-        min_samples isn't from 1 to n, a row has no place in the metric, or a sparse matrix has two entries in one place.
+        As `single_linkage` does; or if the metric isn't one of these, p is less than 1, past all doubles, or given with
+        another metric, min_samples isn't from 1 to n, a row has no place in the metric, a sparse matrix has two entries
+        in one place, or a bsr_matrix or dia_matrix stores a 0 that may fill it.
     TypeError
-        As `single_linkage` does; or if min_samples or a metric is given with distances.
+        As `single_linkage` does; or if p is no number, min_samples no whole number, or min_samples or a metric is given
+        with distances.
 
     Notes
     -----
     Heights are those of all pairs but for rounding, whatever the points are. Those of haversine are rounded by up to
     1e-15, and near the antipode by 1e-7.
 
-    Cost: points in few dimensions take time about n log n if scipy is there, and 200 bytes a point. Others take n^2 d
-    steps, of which a processor does a thousand million a second, and memory of 5 times their own. So do all points if p
-    is 18 or more, but infinite, or if sizes of coordinates other than 0 differ 1e127 times: set tiny ones to 0 first.
+    Cost: points in up to eleven dimensions take time about n log n if scipy is there, and 200 bytes a point. Others take
+    n^2 d steps, of which a processor does a thousand million a second, and memory of 5 times their own. So do all points
+    but those of one dimension if p (53 + b) is 950 or more, where sizes of coordinates other than 0 differ up to 2^b
+    times, and an infinite p counts as 1. For p = 2 they are 1e127 times, for p = 10 4e12 times, and from p = 18 on any:
+    set tiny coordinates to 0 first.
     Distances take about 40 bytes and 100 nanoseconds a pair: scipy's own linkage is several times as fast.
 
     Examples
@@ -140,7 +145,11 @@ def spanning_tree(y: ArrayLike | SparseMatrix, *, metric: str = "euclidean", p: 
         raise ValueError(f"a coordinate of the point {row} isn't finite: y[{row}, {column}] is {given[row, column]}")
     if _are_distances(given):
         _warn("y is square, symmetric and 0 on its diagonal: its rows are taken as points, not as distances")
-    return _of_points(given, metric_of(metric, p), min_samples)
+    tree = _of_points(given, metric_of(metric, p), min_samples)
+    if metric == "haversine" and (np.abs(given[:, 1]) > 2 * np.pi).any():
+        row = np.abs(given[:, 1]).argmax()
+        _warn(f"the longitude of the point {row} is {given[row, 1]}, past a full turn: it is taken as radians, and numpy.radians makes them of degrees")
+    return tree
 
 
 def merges(n: SupportsIndex, forest: Forest) -> NDArray[np.float64]:
@@ -176,7 +185,7 @@ def merges(n: SupportsIndex, forest: Forest) -> NDArray[np.float64]:
     forest = _best_first(forest)
     if forest.maximum:
         raise ValueError("the edges of a maximum forest are no merges: their heights would fall")
-    count = operator.index(n)
+    count = whole(n, "n")
     if len(forest.w) != count - 1:
         raise ValueError(f"{len(forest.w)} edges don't make one tree of {count} vertices: a forest of several components has no linkage")
     u, v = vertices(count, forest.u, "forest.u", forest.v), vertices(count, forest.v, "forest.v", forest.u)
@@ -226,8 +235,8 @@ def labels(
         If there can't be so many clusters, the height is NaN, the forest has n edges or more or another vertex, or edges
         that count close a cycle.
     TypeError
-        If not just one of `clusters` and `height` is given, n or `clusters` is no whole number, `height` is no real number,
-        or `forest` is no Forest.
+        If not just one of `clusters` and `height` is given, n, `clusters` or `min_size` is no whole number, `height` is no
+        real number, or `forest` is no Forest.
 
     Notes
     -----
@@ -253,14 +262,14 @@ def labels(
 def cut(n: SupportsIndex, forest: Forest, clusters: SupportsIndex | None, height: Real | None, min_size: SupportsIndex) -> NDArray[np.intp]:
     """As `labels`, of which just one of `clusters` and `height` is wanted."""
     forest = _best_first(forest)
-    count = operator.index(n)
+    count, least_size = whole(n, "n"), whole(min_size, "min_size")
     if not forest.n <= count <= _library.MAX_VERTICES:
         raise ValueError(f"n is {count}, and has to be from {forest.n}, the number of the forest's vertices, to 2^26")
     low, high = vertices(count, forest.u, "forest.u", forest.v), vertices(count, forest.v, "forest.v", forest.u)
     if len(forest.w) >= max(count, 1):
         raise ValueError(f"{len(forest.w)} edges between {count} vertices close a cycle")
     if clusters is not None and height is None:
-        kept = count - operator.index(clusters)
+        kept = count - whole(clusters, "clusters")
     elif height is not None and clusters is None:
         kept = _up_to(forest, height)
     else:
@@ -271,7 +280,7 @@ def cut(n: SupportsIndex, forest: Forest, clusters: SupportsIndex | None, height
     links["low"], links["high"] = low[:kept] + 1, high[:kept] + 1
     least = _library.labels(count, links) - 1
     is_first = least == np.arange(count)
-    is_kept = is_first & (np.bincount(least, minlength=count) >= operator.index(min_size))
+    is_kept = is_first & (np.bincount(least, minlength=count) >= least_size)
     numbered: NDArray[np.intp] = np.where(is_kept, np.cumsum(is_kept) - 1, -1)[least]
     return numbered
 
@@ -292,7 +301,7 @@ def _best_first(given: object) -> Forest:
 
 def _up_to(forest: Forest, height: Real) -> int:
     """How many edges weigh at most so much, or of a maximum forest at least, as numpy compares them."""
-    if not isinstance(height, numbers.Real):
+    if not isinstance(height, numbers.Real) or isinstance(height, bool):
         raise TypeError(f"the height is a {type(height).__name__}, and has to be a real number")
     if height != height:
         raise ValueError("the height is NaN")
@@ -357,9 +366,10 @@ def _expect_points(metric: str, min_samples: int | None, given: str) -> None:
 
 
 def _of_entries(matrix: Any) -> Forest:
+    if len(matrix.shape) != 2 or matrix.shape[0] != matrix.shape[1]:
+        raise ValueError(f"y has the shape {matrix.shape}, and a sparse matrix of distances is square: points are y.toarray()")
+    expect_no_filling(matrix, "y")
     entries = matrix.tocoo()
-    if entries.shape[0] != entries.shape[1]:
-        raise ValueError(f"y has the shape {entries.shape}, and a sparse matrix of distances is square: points are y.toarray()")
     distances = _numbers(entries.data)
     once = matrix.tocsr(copy=True)
     once.sum_duplicates()
@@ -374,7 +384,7 @@ def _of_entries(matrix: Any) -> Forest:
 
 def _of_points(points: NDArray[np.float64], metric: Metric, min_samples: int | None) -> Forest:
     n = len(points)
-    if min_samples is not None and not 1 <= operator.index(min_samples) <= n:
+    if min_samples is not None and not 1 <= whole(min_samples, "min_samples") <= n:
         raise ValueError(f"min_samples is {min_samples}, and has to be from 1 to {n}, the number of points")
     one, other, lengths = tree_of_points(metric.placed(points), metric.p, min_samples)
     lengths = metric.told(lengths)

@@ -9,6 +9,7 @@ from numpy.typing import ArrayLike
 from scipy.sparse import csr_matrix, issparse, spmatrix
 from scipy.sparse.csgraph import csgraph_from_dense, csgraph_from_masked
 
+from boruvka._entries import expect_no_filling
 from boruvka._forest import places
 
 __all__ = ["minimum_spanning_tree"]
@@ -22,7 +23,7 @@ def minimum_spanning_tree(csgraph: spmatrix | ArrayLike, overwrite: bool = False
     csgraph : array_like or sparse matrix, shape (n, n)
         Entry (i, j) is the weight of an edge between the vertices i and j, and so is (j, i): the better counts. No edges
         are: what a sparse matrix doesn't store; zeros, infinities and NaNs of a dense array; and just what a masked
-        array masks. Weights are taken as doubles.
+        array masks. A 0 that a sparse matrix stores is an edge of weight 0, in each format. Weights are taken as doubles.
     overwrite : bool, optional
         Without effect: csgraph is never written.
     maximum : bool, optional
@@ -38,9 +39,10 @@ def minimum_spanning_tree(csgraph: spmatrix | ArrayLike, overwrite: bool = False
     ------
     ValueError
         If csgraph isn't square, a sparse matrix stores a NaN or a masked array has one that isn't masked, or scipy finds
-        that a sparse matrix isn't well formed.
+        that a sparse matrix isn't well formed. If a bsr_matrix or dia_matrix stores a 0 off the main diagonal, which may
+        only fill it. If columns of a frame have labels of its rows, but at other places.
     TypeError
-        If weights are no real numbers.
+        If weights are no real numbers, or `maximum` is neither True nor False.
 
     Notes
     -----
@@ -82,7 +84,12 @@ def _as_csr(csgraph: Any) -> csr_matrix:
     if dtype.kind not in "biuf":
         raise TypeError(f"csgraph has the dtype {dtype}, and weights are real numbers")
     if issparse(csgraph):
+        expect_no_filling(csgraph, "csgraph")
         return csr_matrix(csgraph, dtype=np.float64)
+    if hasattr(csgraph, "columns") and hasattr(csgraph, "index"):
+        rows, others = list(csgraph.index), list(csgraph.columns)
+        if rows != others and not {*rows}.isdisjoint(others):
+            raise ValueError("csgraph is a frame whose columns have labels of its rows at other places: csgraph.reindex(columns=csgraph.index) mends it, .to_numpy() has no labels")
     if isinstance(csgraph, np.ma.MaskedArray):
         return csgraph_from_masked(csgraph)
     return csgraph_from_dense(csgraph)

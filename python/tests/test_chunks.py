@@ -5,6 +5,7 @@ import doctest
 import io
 import math
 import random
+import os
 import threading
 import tracemalloc
 import unittest
@@ -37,7 +38,7 @@ def bounded(most):
 
 
 def each_part_is_worth_a_thread():
-    return mock.patch.multiple(_threads, _WORTH=0, _A_PART=0)
+    return mock.patch.multiple(_threads, _WORTH=0, _A_PART=0, _processors=lambda: 64)
 
 
 class Documented(unittest.TestCase):
@@ -414,16 +415,35 @@ class Threads(unittest.TestCase):
             return whole(count, u, v, w)
 
         whole = _library.places
-        for edges, threads, parts in [(1, 4, 1), (15, 4, 1), (15, 2, 1), (16, 4, 2), (16, 2, 2), (18, 9, 3), (24, 4, 4), (24, 9, 4), (64, 1, 1), (64, 3, 3)]:
+        few = [(1, 4, 9, 1), (15, 4, 9, 1), (15, 2, 9, 1), (16, 4, 9, 2), (16, 2, 9, 2), (18, 9, 9, 3), (24, 4, 9, 4), (24, 9, 9, 4)]
+        many = [(64, 1, 9, 1), (64, 3, 9, 3), (64, 10**6, 9, 9), (64, 10**6, 5, 5), (64, 10**30, 1, 1), (64, 4, 2, 2), (24, 10**6, 9, 4)]
+        for edges, threads, processors, parts in few + many:
             m = n * edges // parts * parts
             ends = np.arange(m) % n
             together = threading.Barrier(parts)
             calls.clear()
-            with mock.patch.object(_library, "places", places):
+            with mock.patch.object(_library, "places", places), mock.patch.object(_threads, "_processors", lambda: processors):
                 forest = minimum_spanning_forest(n, ends, (ends + 1) % n, np.arange(m), threads=threads)
             self.assertEqual(forest.index.tolist(), list(range(n - 1)))
             self.assertEqual([it[0] for it in calls], [m // parts] * parts + [parts * (n - 1)] * (parts > 1))
             self.assertEqual(len({it[1] for it in calls[:parts]}), parts)
+
+    def test_no_more_than_processors(self):
+        self.assertEqual(_threads._processors(), len(os.sched_getaffinity(0)))
+        # (of two vertices ten thousand parts would be worth a thread)
+        m = 120_000
+        before, most = threading.active_count(), []
+        whole = _library.places
+
+        def places(count, u, v, w):
+            most.append(threading.active_count() - before)
+            return whole(count, u, v, w)
+
+        with mock.patch.object(_library, "places", places):
+            weights = np.arange(m, 0, -1, np.int64)
+            forest = minimum_spanning_forest(2, np.zeros(m, np.int32), np.ones(m, np.int32), weights, threads=10**6)
+        self.assertEqual(forest.index.tolist(), [m - 1])
+        self.assertLessEqual(max(most), _threads._processors())
 
     def test_errors_name_the_rows_of_the_whole(self):
         with each_part_is_worth_a_thread():
@@ -437,7 +457,7 @@ class Threads(unittest.TestCase):
         for threads in (0, -1):
             with self.assertRaisesRegex(ValueError, f"^threads is {threads}, and has to be at least 1$"):
                 minimum_spanning_forest(2, [0], [1], [1], threads=threads)
-        for threads in (1.0, None, "2"):
+        for threads in (1.0, None, "2", True):
             with self.assertRaisesRegex(TypeError, "^threads is .*, and has to be a whole number$"):
                 minimum_spanning_forest(2, [0], [1], [1], threads=threads)
 

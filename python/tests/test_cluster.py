@@ -154,6 +154,20 @@ class Estimators(unittest.TestCase):
                 theirs = AgglomerativeClustering(clusters, linkage="single", **{word: metric}).fit_predict(points)
                 self.assertEqual((len({*zip(ours, theirs)}), len(set(ours))), (clusters, clusters))
 
+    def test_numbers_that_are_none(self):
+        points = np.random.default_rng(0).random((10, 2))
+        for words, made in [
+            ("min_cluster_size is '5'", HDBSCAN("5")),
+            ("min_cluster_size is 5.0", HDBSCAN(5.0)),
+            ("min_samples is '2'", HDBSCAN(min_samples="2")),
+            ("n_clusters is '2'", SingleLinkage(n_clusters="2")),
+            ("n_clusters is True", SingleLinkage(n_clusters=True)),
+            ("min_samples is 2.5", SingleLinkage(min_samples=2.5)),
+            ("min_size is '2'", SingleLinkage(min_size="2")),
+        ]:
+            with self.assertRaisesRegex(TypeError, f"^{words}, and has to be a whole number$"):
+                made.fit(points)
+
     def test_refused(self):
         points = np.random.default_rng(5).random((9, 2))
         for wrong in (SingleLinkage(None), SingleLinkage(2, distance_threshold=1.0), SingleLinkage(10), HDBSCAN(1), HDBSCAN(5, min_samples=10), HDBSCAN(cluster_selection_method="best"), HDBSCAN(metric="none")):

@@ -90,6 +90,10 @@ class OneProcess(unittest.TestCase):
         for wrong in (1, 0, -1):
             with self.assertRaisesRegex(ValueError, f"^split_every is {wrong}, and has to be at least 2$"):
                 minimum_spanning_forest(frame, 4, split_every=wrong)
+        with self.assertRaisesRegex(TypeError, "^split_every is '4', and has to be a whole number$"):
+            minimum_spanning_forest(frame, 4, split_every="4")
+        with self.assertRaisesRegex(TypeError, "^maximum is 'no', and has to be True or False$"):
+            minimum_spanning_forest(frame, 4, maximum="no")
 
     def test_wrong_rows_are_told_with_their_partition(self):
         for error, words, column, wrong in [

@@ -91,6 +91,26 @@ class Knowing(unittest.TestCase):
         self.assertNotEqual(self.forest, minimum_spanning_forest(7, *SMALL, maximum=True))
         self.assertNotEqual(self.forest, self.forest._replace(w=self.forest.w + 1))
         self.assertFalse(self.forest == 5)
+
+        def named(*first):
+            return self.forest._replace(names=[*first, *range(7 - len(first))])
+
+        self.assertEqual(named("a", 1), named("a", 1.0))
+        self.assertNotEqual(named("a"), named("b"))
+        self.assertNotEqual(named("a"), self.forest)
+        self.assertNotEqual(self.forest, named("a"))
+        for one, equal, other in [
+            (np.array([1, 2]), np.array([1.0, 2.0]), np.array([1, 3])),
+            (np.array([1, 2]), np.array([1, 2]), np.array([[1, 2]])),
+            (np.array([1, 1]), np.array([1, 1]), 1),
+            (np.array([]), np.array([]), np.array([0])),
+            (("a", np.array([1, 2])), ("a", np.array([1, 2])), ("a", np.array([2, 2]))),
+            ((1, 2), (1, 2), [1, 2]),
+            ((1, 2), (1, 2), (1, 2, 3)),
+        ]:
+            self.assertEqual(named(one), named(equal))
+            self.assertIs(named(one) == named(other), False)
+            self.assertIs(named(other) == named(one), False)
         with self.assertRaises(TypeError):
             hash(self.forest)
         with self.assertRaises(AttributeError):
@@ -182,6 +202,10 @@ class Knowing(unittest.TestCase):
         self.assertEqual(nx.number_connected_components(self.forest.to_networkx()), 2)
         with self.assertRaisesRegex(ValueError, "^there are 2 names, and 7 vertices"):
             self.forest.to_networkx("ab")
+        with self.assertRaisesRegex(ValueError, r"^names\[3\] is 'b', as names\[1\] is: networkx would make one vertex of both$"):
+            self.forest.to_networkx("abcbefg")
+        with self.assertRaisesRegex(TypeError, r"^names\[2\] is a list, which can't be a key of a dict, as vertices of networkx are$"):
+            self.forest.to_networkx([0, 1, [2], 3, 4, 5, 6])
 
     def test_as_a_picture(self):
         try:
@@ -197,6 +221,10 @@ class Knowing(unittest.TestCase):
         self.assertEqual(len(np.unique(grey, axis=0)), 5)
         with self.assertRaisesRegex(ValueError, "shape"):
             self.forest.plot(points[:3])
+        with self.assertRaisesRegex(ValueError, "^points has masked entries: leave them out first$"):
+            self.forest.plot(np.ma.masked_less(points, 0.5))
+        with self.assertRaisesRegex(ValueError, r"^labels has the shape \(2,\), and 7 points have one each$"):
+            self.forest.plot(points, labels=[0, 1])
 
 
 class Called(unittest.TestCase):

@@ -1,8 +1,11 @@
 """`from_edges`, over dicts, arrays, frames of pandas, and frames that speak the interchange protocol alone."""
 
 import ctypes
+import datetime
 import math
+import re
 import unittest
+import warnings
 
 import numpy as np
 
@@ -107,7 +110,7 @@ class Frames(unittest.TestCase):
         rows = np.array([[10, 20, 5], [20, 30, 4], [10, 30, 9], [7, 7, 1]])
         wanted = boruvka.from_edges({"u": rows[:, 0], "v": rows[:, 1], "w": rows[:, 2]})
         self.assertEqual((wanted.names, wanted.total), ([10, 20, 7, 30], 9))
-        for frame in (rows, np.asfortranarray(rows), rows.astype(np.int16)):
+        for frame in (rows, np.asfortranarray(rows), rows.astype(np.int16), np.asmatrix(rows)):
             self.assertEqual(boruvka.from_edges(frame, 0, 1, weight=2).index.tolist(), wanted.index.tolist())
         fields = np.array([(10, 20, 5.0), (20, 30, 4.0), (10, 30, 9.0), (7, 7, 1.0)], [("u", "i4"), ("v", "i8"), ("w", "f4")])
         self.assertEqual(boruvka.from_edges(fields).index.tolist(), wanted.index.tolist())
@@ -128,6 +131,48 @@ class Frames(unittest.TestCase):
                 return rows[it]
 
         self.assertEqual(boruvka.from_edges(Tensor(), 0, 1, weight=2).names, [10, 20, 7, 30])
+
+    def test_texts_of_numbers_and_of_bytes(self):
+        """They are two vertices, as Python has it, and that is said."""
+        for one, other in [(1, "1"), (2.0, "2"), (2, "2.0"), (7, " 7")]:
+            with self.assertWarnsRegex(UserWarning, f"^the text '{other}' and the number .* name two vertices: ") as told:
+                forest = boruvka.from_edges({"u": [one, 5], "v": ["a", other], "w": [1, 2]})
+            self.assertEqual((forest.names, told.filename), ([one, 5, "a", other], __file__))
+        encoded = np.array([b"a", b"b"])
+        with self.assertWarnsRegex(UserWarning, r"^the text 'b' and the bytes b'b' name two vertices: numpy\.char\.decode\(column\)"):
+            self.assertEqual(boruvka.from_edges({"u": encoded, "v": ["b", "c"], "w": [1, 2]}).n, 4)
+        self.assertEqual(boruvka.from_edges({"u": np.char.decode(encoded), "v": ["b", "c"], "w": [1, 2]}).n, 3)
+        with warnings.catch_warnings():
+            warnings.simplefilter("error")
+            self.assertEqual(boruvka.from_edges({"u": [1, 2], "v": ["a1", "nan"], "w": [1, 2]}).n, 4)
+            self.assertEqual(boruvka.from_edges({"u": ["1"], "v": ["1.0"], "w": [1]}).n, 2)
+            self.assertEqual(boruvka.from_edges({"u": [b"a", 7], "v": ["b", "\ud800"], "w": [1, 2]}).n, 4)
+
+    @unittest.skipUnless(pandas, "there is no pandas")
+    def test_what_pandas_has_in_place_of_columns(self):
+        rows = pandas.DataFrame({"u": ["a", "b"], "v": ["b", "c"], "w": [2, 1]})
+        for indexed in (rows.set_index(["u", "v"]), rows.set_index(["u", "v"])["w"]):
+            with self.assertRaisesRegex(KeyError, r"no column 'u', but .*; frame\.reset_index\(\) makes columns of its index"):
+                boruvka.from_edges(indexed)
+            self.assertEqual(boruvka.from_edges(indexed.reset_index()).names, ["a", "b", "c"])
+        with self.assertRaisesRegex(KeyError, "no column 'u', but 0, 1"):
+            boruvka.from_edges(rows.T)
+        with self.assertRaisesRegex(TypeError, "^the column 'u' has a tuple in row 0"):
+            boruvka.from_edges(rows.groupby("v"))
+        named = boruvka.from_edges(rows.astype({"u": "category", "v": "category"}))
+        self.assertEqual((named.names, named.w.tolist()), (["a", "b", "c"], [1, 2]))
+        with self.assertRaisesRegex(ValueError, "^row 1 has no name in the column 'u'"):
+            boruvka.from_edges(rows.assign(u=pandas.Categorical(["a", None])))
+        with self.assertRaisesRegex(TypeError, r"^w has the dtype <U2, as w\[0\] is '10': weights are"):
+            boruvka.from_edges(rows.assign(w=pandas.Categorical(["10", "9"])))
+        self.assertEqual(boruvka.from_edges(rows.assign(w=pandas.Categorical([10, 9]))).w.tolist(), [9, 10])
+        for empty in (rows.iloc[:0], pandas.DataFrame(columns=["u", "v", "w"])):
+            self.assertEqual((boruvka.from_edges(empty).n, boruvka.from_edges(empty).names), (0, []))
+        days = pandas.Series(np.array(["2020-01-01", "2020-01-02"], "M8[ns]"))
+        self.assertEqual(boruvka.from_edges({"u": days, "v": days[::-1], "w": [1, 2]}).n, 2)
+        with self.assertRaisesRegex(TypeError, r"^the ends are times of numpy \(datetime64\[ns\]\), and of the type Timestamp: "):
+            boruvka.from_edges({"u": days.to_numpy(), "v": days[::-1], "w": [1, 2]})
+        self.assertEqual(boruvka.from_edges({"u": days.to_numpy(), "v": np.asarray(days[::-1], "datetime64[ns]"), "w": [1, 2]}).n, 2)
 
     @unittest.skipUnless(pandas, "there is no pandas")
     def test_frames_of_pandas(self):
@@ -256,7 +301,7 @@ class Refused(unittest.TestCase):
             self.expect(KeyError, f"no column {name!r}, but 0, 1, 2", np.zeros((4, 3), int), name, 1, weight=2)
 
     def test_entries_that_are_missing(self):
-        for wrong in (None, math.nan, np.datetime64("NaT")):
+        for wrong in (None, math.nan, np.datetime64("NaT"), np.ma.masked):
             self.expect(ValueError, "^row 1 has no name in the column 'v'", {"u": [1, 2], "v": [3, wrong], "w": [1, 1]})
         self.expect(ValueError, "^row 0 has no name in the column 'u'", {"u": np.ma.masked_equal([1, 2], 1), "v": [3, 1], "w": [1, 1]})
         self.expect(ValueError, r"^w\[1\] is NaN", {"u": [1, 2], "v": [3, 1], "w": [1, math.nan]})
@@ -265,12 +310,25 @@ class Refused(unittest.TestCase):
     def test_columns_that_do_not_fit(self):
         self.expect(ValueError, "^the columns 'u' and 'v' differ in length: 1 and 2$", {"u": [1], "v": [3, 1], "w": [1, 1]})
         self.expect(ValueError, "differ in length: 1, 1 and 2$", {"u": [1], "v": [3], "w": [1, 1]})
-        self.expect(TypeError, "unhashable", {"u": [[1]], "v": [3], "w": [1]})
+        for wrong, kind in [([1], "list"), ({}, "dict"), (np.array([1, 2]), "ndarray"), (np.array(1), "ndarray"), (([1], 2), "tuple")]:
+            words = f"^the column 'v' has a {kind} in row 1, which can't be a key of a dict: a tuple of texts or numbers can$"
+            self.expect(TypeError, words, {"u": [1, 2], "v": [3, wrong], "w": [1, 1]})
+        for wrong in (5, None, True, "abc", b"ab", datetime.date(2020, 1, 1)):
+            words = f"^the column 'u' is {re.escape(repr(wrong))}, and has to be an array or a list$"
+            self.expect(TypeError, words, {"u": wrong, "v": [1, 2, 3], "w": [1, 1, 1]})
+        self.expect(TypeError, "^the column 'w' is 7, and has to be an array or a list$", {"u": [1], "v": [2], "w": 7})
+        self.expect(ValueError, "^the column 'u' has 0 dimensions, and needs one$", {"u": np.array(5), "v": [1], "w": [1]})
         self.expect(TypeError, "^the column 'u' is a set, which has no order$", {"u": {1, 2}, "v": [1, 2], "w": [1, 1]})
         self.expect(TypeError, "^the column 'v' is a dict, ", {"u": [1], "v": {1: 2}, "w": [1]})
-        self.expect(ValueError, "^the column 'u' has 2 dimensions", {"u": np.zeros((2, 2)), "v": [1, 2], "w": [1, 1]})
+        self.expect(ValueError, "^the column 'u' has 2 dimensions, and needs one$", {"u": np.zeros((2, 2)), "v": [1, 2], "w": [1, 1]})
+        self.expect(ValueError, "^the column 'u' has 2 dimensions, and needs one$", {"u": np.matrix([1, 2]), "v": [1, 2], "w": [1, 1]})
         days = np.array(["2020-01-01"], "M8[D]")
         self.expect(TypeError, r"the dtypes datetime64\[D\] and datetime64\[s\]: \.astype makes one", {"u": days, "v": days.astype("M8[s]"), "w": [1]})
+        self.expect(TypeError, r"the dtypes timedelta64\[D\] and timedelta64\[s\]", {"u": [np.timedelta64(1, "D")], "v": [np.timedelta64(86400, "s")], "w": [1]})
+        words = r"^the ends are times of numpy \(datetime64\[D\]\), and of the type datetime: numpy\.asarray\(column, 'datetime64\[D\]'\) of each makes one of them$"
+        self.expect(TypeError, words, {"u": days, "v": [datetime.datetime(2020, 1, 1)], "w": [1]})
+        zoned = datetime.datetime(2020, 1, 1, tzinfo=datetime.timezone.utc)
+        self.expect(TypeError, "^the ends are times with a zone, and times without", {"u": [zoned], "v": [zoned.replace(tzinfo=None)], "w": [1]})
 
     def test_what_is_no_frame(self):
         for rows in ([("a", "b", 1)], (("a", "b", 1),), "abc", b"abc"):

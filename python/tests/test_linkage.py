@@ -278,6 +278,20 @@ class Exact(unittest.TestCase):
         # each step can be held, though the whole way can't
         self.assertEqual(spanning_tree([[-1.5e308], [0], [1.5e308]]).w.tolist(), [1.5e308] * 2)
 
+    def test_when_all_pairs_are_looked_at(self):
+        """As the notes of spanning_tree tell it, by p and by how many times sizes of coordinates differ; zeros don't count."""
+        if not hierarchy:
+            self.skipTest("there is no scipy")
+        for p, bits, is_fast in [
+            (2, 421, True), (2, 422, False), (1, 896, True), (1, 897, False), (10, 41, True), (10, 42, False), (17, 2, True), (17, 3, False),
+            (17.9, 0, True), (18, 0, False), (1e9, 0, False), (math.inf, 896, True), (math.inf, 897, False),
+        ]:  # fmt: skip
+            points = np.array([[1.0, 2.0**-bits], [0.0, 1.0]])
+            with self.subTest(p=p, bits=bits):
+                self.assertEqual(_points._trees_for(_points.Space(points, p)) is not None, is_fast)
+        for dimensions, is_fast in [(1, True), (11, True), (12, False), (50, False)]:
+            self.assertEqual(_points._trees_for(_points.Space(np.ones((3, dimensions)), 2)) is not None, is_fast)
+
     def test_many_copies(self):
         draw = np.random.default_rng(16)
         for dimensions in (2, 3, 10):

@@ -1,6 +1,7 @@
 """Mistakes that people make, each with what it gets: a refusal that names place, value, rule or remedy, or a right answer."""
 
 import decimal
+import fractions
 import math
 import unittest
 import warnings
@@ -53,6 +54,11 @@ EDGES = {
     "nothing at all": (lambda: forest_of(), TypeError, "n may be left out"),
     "a generator": (lambda: forest_of(3, (it for it in U), V, W), TypeError, "^u is a generator, and has to be an array or a list$"),
     "a set": (lambda: forest_of(3, {0, 1}, V, W), TypeError, "^u is a set, "),
+    "edges as rows": (lambda: forest_of([[0, 1, 2], [1, 2, 0]], [1, 2, 3]), TypeError, r"^edges have the shape \(2, 3\), and need two columns; edges\.T has them$"),
+    "n as a truth": (lambda: forest_of(True, U, V, W), TypeError, "^n is True, and has to be a whole number: the number of vertices$"),
+    "maximum as a text": (lambda: forest_of(3, U, V, W, maximum="no"), TypeError, "^maximum is 'no', and has to be True or False$"),
+    "maximum as a text, of chunks": (lambda: boruvka.forest_of_chunks(3, [], maximum="False"), TypeError, "^maximum is 'False', and has to be True or False$"),
+    "maximum as a column": (lambda: forest_of(3, U, V, W, maximum=np.array([True, False])), TypeError, "^maximum is array"),
     "rows of different lengths": (lambda: forest_of(3, [[0, 1], [1]], W), ValueError, "^edges is no array: "),
 }
 WEIGHTS = {
@@ -87,6 +93,22 @@ CUTS = {
     "a forest without places": (lambda: Forest([0], [1], [2]), TypeError, "'index'"),
     "weights as texts": (lambda: Forest([0], [1], ["2"], [0]), TypeError, r"^w has the dtype <U1, as w\[0\] is '2', and weights are real numbers$"),
     "a weight that is NaN": (lambda: labels(3, Forest([0, 1], [1, 2], [math.nan, 2], [0, 1]), clusters=1), ValueError, r"^forest.w\[0\] is NaN$"),
+    "a number of clusters as a text": (lambda: labels(4, PATH, clusters="2"), TypeError, "^clusters is '2', and has to be a whole number$"),
+    "several numbers of clusters": (lambda: labels(4, PATH, clusters=np.array([2, 3])), TypeError, r"^clusters is array\(\[2, 3\]\), and has to be a whole number$"),
+    "a least size as a float": (lambda: labels(4, PATH, clusters=2, min_size=1.5), TypeError, "^min_size is 1.5, and has to be a whole number$"),
+    "n as a text": (lambda: labels("4", PATH, clusters=2), TypeError, "^n is '4', and has to be a whole number$"),
+    "n as a float": (lambda: merges(4.0, PATH), TypeError, "^n is 4.0, and has to be a whole number$"),
+    "a height as a truth": (lambda: labels(4, PATH, height=True), TypeError, "^the height is a bool, and has to be a real number$"),
+    "a way between names": (lambda: PATH.path("a", 1), TypeError, "^a is 'a', and has to be a whole number$"),
+    "a way to a float": (lambda: PATH.bottleneck(0, 1.0), TypeError, "^b is 1.0, and has to be a whole number$"),
+    "a forest of half a vertex": (lambda: Forest([0], [1], [2], [0], n=2.5), TypeError, "^n is 2.5, and has to be a whole number$"),
+    "ends as fractions": (lambda: Forest([0.5], [1], [2], [0]), TypeError, r"^u has the dtype float64, as u\[0\] is 0\.5, and vertices are whole numbers$"),
+    "ends as names": (lambda: Forest([0], ["b"], [2], [0]), TypeError, r"^v has the dtype <U1, as v\[0\] is 'b', and vertices are whole numbers$"),
+    "masked weights": (lambda: Forest([0], [1], np.ma.array([2], mask=[1]), [0]), ValueError, "^w has masked entries: leave them out first$"),
+    "a maximum that is a text": (lambda: Forest([0], [1], [2], [0], maximum="no"), TypeError, "^maximum is 'no', and has to be True or False$"),
+    "names in no order": (lambda: PATH._replace(names={"a", "b", "c", "d"}), TypeError, "^names are a set, and have to be a list$"),
+    "names in a dict": (lambda: PATH._replace(names=dict(a=1, b=2, c=3, d=4)), TypeError, "^names are a dict, and have to be a list$"),
+    "a number in place of names": (lambda: PATH._replace(names=4), TypeError, "^names are a int, and have to be a list$"),
     "arrays of different lengths": (lambda: Forest([0, 1], [1], [2], [0]), ValueError, r"^the arrays of the forest have the shapes \(2,\), \(1,\)"),
 }
 OF_POINTS = {
@@ -113,6 +135,13 @@ OF_POINTS = {
     "distances that doubles round": (lambda: single_linkage([2**53 + 1, 2**53, 2**53]), ValueError, r"^y\[0\] is 9007199254740993, which a double would round: minimum_spanning_forest takes"),
     "distances, and a metric": (lambda: spanning_tree([1.0, 2.0, 3.0], metric="cosine"), TypeError, r"y\[:, None\]$"),
     "more samples than points": (lambda: spanning_tree(POINTS, min_samples=11), ValueError, "^min_samples is 11, and has to be from 1 to 10, the number of points$"),
+    "samples as a text": (lambda: spanning_tree(POINTS, min_samples="2"), TypeError, "^min_samples is '2', and has to be a whole number$"),
+    "samples as a float": (lambda: single_linkage(POINTS, min_samples=2.0), TypeError, "^min_samples is 2.0, and has to be a whole number$"),
+    "samples as a truth": (lambda: spanning_tree(POINTS, min_samples=True), TypeError, "^min_samples is True, and has to be a whole number$"),
+    "an exponent past all doubles": (lambda: spanning_tree(POINTS, metric="minkowski", p=10**400), ValueError, r"^p is past all doubles, of which the greatest is 1\.79\S+: numpy\.inf is the metric 'chebyshev'$"),
+    "a fraction past all doubles": (lambda: spanning_tree(POINTS, metric="minkowski", p=fractions.Fraction(10**400, 3)), ValueError, "^p is past all doubles"),
+    "an exponent that is NaN": (lambda: spanning_tree(POINTS, metric="minkowski", p=math.nan), ValueError, "^p is nan, and a distance needs at least 1$"),
+    "an exponent as a truth": (lambda: spanning_tree(POINTS, metric="minkowski", p=True), TypeError, "^p is True, and has to be a number$"),
     "degrees": (lambda: spanning_tree([[48.1, 11.5], [52.5, 13.4]], metric="haversine"), ValueError, "^the latitude of the point 0 is 48.1, .* numpy.radians"),
 }
 
@@ -146,6 +175,10 @@ class Mistakes(unittest.TestCase):
             "a weight that is NA, of a series": (lambda: forest_of(3, U, V, pandas.Series(gaps)), TypeError, r"as w\[1\] is <NA>: weights are"),
             "a vertex that is NA": (lambda: forest_of(3, pandas.Series([0, None], dtype="Int64"), V, W), TypeError, r"^u has the dtype object, as u\[1\] is <NA>, and vertices are"),
             "a column of names": (lambda: spanning_tree(named), TypeError, r"^y has the dtype object, as y\[0, 0\] is 'a', and has to be real numbers"),
+            "a frame in place of edges": (lambda: forest_of(named), TypeError, "^a frame is for boruvka.from_edges$"),
+            "times as coordinates": (lambda: spanning_tree(pandas.DataFrame({"x": pandas.to_timedelta([1, 2])})), TypeError, r"^y has the dtype timedelta64\[ns\]"),
+            "a coordinate that is NA": (lambda: spanning_tree(pandas.DataFrame({"x": gaps, "y": gaps})), TypeError, r"^y has the dtype object, as y\[1, 0\] is <NA>"),
+            "categories as weights": (lambda: forest_of(3, U, V, pandas.Categorical(["10", "9"])), TypeError, r"^w has the dtype <U2, as w\[0\] is '10'"),
             "a column that isn't there": (lambda: boruvka.from_edges(named), KeyError, "the frame has no column 'u', but 'name', 'x'"),
         })
         for nullable in (pandas.array(U, dtype="Int64"), pandas.Series(U, dtype="Int32"), np.array(U, object)):
@@ -186,6 +219,16 @@ class Mistakes(unittest.TestCase):
         self.assertEqual(spanning_tree(np.zeros((60_000, 4))).total, 0)
         with self.assertWarnsRegex(UserWarning, "its rows are taken as points, not as distances"):
             single_linkage(np.abs(POINTS[:, :1] - POINTS[:, 0]))
+        # (near the equator degrees are latitudes in radians too)
+        with self.assertWarnsRegex(UserWarning, r"^the longitude of the point 0 is 103\.8, past a full turn: it is taken as radians"):
+            spanning_tree([[1.3, 103.8], [-1.3, 36.8]], metric="haversine")
+        self.assertEqual(forest_of(3, [0, 1, 2], [1, 2, 0], [1, 2, 3], maximum=np.True_).total, 5)
+        self.assertEqual(forest_of(3, U, V, W, threads=10**6), forest_of(3, U, V, W))
+        # of p without an end the greatest step is left
+        square = [[0.0, 0.0], [3.0, 4.0]]
+        self.assertEqual([spanning_tree(square, metric="minkowski", p=it).w.tolist() for it in (1e300, math.inf)], [[4.0], [4.0]])
+        self.assertEqual(spanning_tree([[0.0], [-0.0], [2.0]]).w.tolist(), [0.0, 2.0])
+        self.assertEqual(spanning_tree(np.asmatrix(square)).w.tolist(), [5.0])
 
 
 if __name__ == "__main__":

@@ -11,6 +11,7 @@ try:
 except ImportError:
     sparse = None
 else:
+    from boruvka.linkage import spanning_tree
     from boruvka.sparse import minimum_spanning_tree
 
 # the graph of scipy's own example, and the answer that its documentation shows
@@ -56,6 +57,49 @@ class Sparse(unittest.TestCase):
         self.assertEqual(minimum_spanning_tree(stored).data.tolist(), [5, inf])
         for empty in (np.zeros((3, 3)), sparse.csr_matrix((3, 3)), sparse.csr_matrix((1, 1))):
             self.expect_scipys(empty, True)
+
+    def test_zeros_that_are_stored(self):
+        """A 0 is an edge in each format. Where it may only fill the format, it is refused."""
+        # a square: 0 to 1 at 0, 1 to 2 at 3, 2 to 3 at 0, 0 to 3 at 4
+        square = sparse.coo_matrix(([0.0, 3.0, 0.0, 4.0], ([0, 1, 2, 0], [1, 2, 3, 3])), shape=(4, 4))
+        for form in ("csr", "csc", "coo", "lil", "dok", "bsr"):
+            given = sparse.bsr_matrix(square.tocsr(), blocksize=(1, 1)) if form == "bsr" else square.asformat(form)
+            with self.subTest(form=form):
+                self.assertEqual(given.nnz, 4)
+                found = minimum_spanning_tree(given)
+                self.assertEqual((found.nnz, found[1, 2]), (1, 3.0))
+                self.assertEqual(sorted(spanning_tree(given).w.tolist()), [0.0, 0.0, 3.0])
+                self.assertEqual(minimum_spanning_tree(given, maximum=True).data.tolist(), [4.0, 3.0])
+        chain = sparse.csr_matrix(np.diag([1.0, 2.0, 3.0], 1))
+        for wrong, told in [(sparse.bsr_matrix(chain, blocksize=(2, 2)), r"\[1, 0\] is a 0 that may fill the format bsr, or be an edge"), (square.todia(), r"\[0, 1\] is a 0 that may fill the format dia")]:
+            with self.assertRaisesRegex(ValueError, f"^csgraph{told}"):
+                minimum_spanning_tree(wrong)
+            with self.assertRaisesRegex(ValueError, f"^y{told}"):
+                spanning_tree(wrong)
+        # zeros on the main diagonal are loops, and those beyond a dia_matrix are none of it
+        whole = sparse.bsr_matrix(np.array([[0.0, 1, 5, 5], [1, 0, 2, 5], [5, 2, 0, 3], [5, 5, 3, 0]]), blocksize=(2, 2))
+        for given in (whole, chain.todia(), sparse.dia_matrix(([[0.0, 1.0, 2.0, 3.0], [0.0] * 4], [1, 0]), shape=(4, 4))):
+            before = given.data.tolist()
+            self.assertEqual(sorted(minimum_spanning_tree(given).data.tolist()), [1.0, 2.0, 3.0])
+            self.assertEqual(sorted(spanning_tree(given).w.tolist()), [1.0, 2.0, 3.0])
+            self.assertEqual(given.data.tolist(), before)
+        # what the refusal tells to do
+        left = sparse.bsr_matrix(chain, blocksize=(2, 2)).tocsr()
+        left.eliminate_zeros()
+        self.assertEqual(minimum_spanning_tree(left).data.tolist(), [1.0, 2.0, 3.0])
+
+    def test_labels_of_a_frame(self):
+        try:
+            import pandas
+        except ImportError:
+            self.skipTest("there is no pandas")
+        weights = np.array([[0.0, 2.0], [0.0, 0.0]])
+        for rows, columns in [("ab", "ab"), ([0, 1], "ab"), ([0, 1], [0, 1])]:
+            found = minimum_spanning_tree(pandas.DataFrame(weights, list(rows), list(columns)))
+            self.assertEqual(found.toarray().tolist(), weights.tolist())
+        for rows, columns in [("ab", "ba"), ("ab", "bc")]:
+            with self.assertRaisesRegex(ValueError, "^csgraph is a frame whose columns have labels of its rows at other places: "):
+                minimum_spanning_tree(pandas.DataFrame(weights, list(rows), list(columns)))
 
     def test_the_lighter_of_two_directions_counts_where_it_stands(self):
         given = [[0, 4, 1], [3, 0, 0], [2, 6, 0]]
