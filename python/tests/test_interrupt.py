@@ -9,12 +9,13 @@ import unittest
 
 from test_documents import there
 
-# it tells by `ready` that what is timed has begun
+# it tells by `ready` that what is timed has begun; what a shell starts in the background would ignore SIGINT
 CODE = """
-import sys
+import signal
 import numpy as np
 import boruvka
 
+signal.signal(signal.SIGINT, signal.default_int_handler)
 points = np.random.default_rng(1).random(({n}, {d}))
 print("ready", flush=True)
 boruvka.linkage.spanning_tree(points, min_samples={nearest})
