@@ -143,8 +143,8 @@ uint32_t boruvka_version(void);
  *
  * Whole pages of 4096 bytes are used. If they are too few, the answer is BORUVKA_NO_MEMORY, and what the other parameters
  * point to is as it was, but for `fault`: so the same call may be made again with more. Enough are, for a list, 29 bytes a
- * link, 12 a vertex and 16384 more; for a text, 6 times its length, 12 bytes a vertex and 16384 more; for merges, 28 bytes a
- * link, 12 a vertex and 16384 more. No clause says so: it is counted where it is tightest. */
+ * link, 12 a vertex and 16384 more; for a text, 6 times its length, 12 bytes a vertex and 16384 more; for merges, 32 bytes a
+ * link, 4 a vertex and 16384 more. No clause says so: it is counted where it is tightest. */
 struct boruvka_memory {
     void *start;
     size_t size;

@@ -89,7 +89,7 @@ export function forestOfLinks(module, n, links) {
 // first n - c rows leave c clusters. Several trees have fewer than n - 1 rows.
 export function mergesOfLinks(module, n, links) {
   const count = links.length / 4, rows = aligned(links.byteLength);
-  const call = new Call(module, rows + 12 * count, PAGE + 28 * count + 12 * n), [from, to] = [0, rows].map(it => BigInt(call.at + it));
+  const call = new Call(module, rows + 12 * count, PAGE + 32 * count + 4 * n), [from, to] = [0, rows].map(it => BigInt(call.at + it));
   new Uint32Array(call.buffer, call.at, links.length).set(links);
   const answer = call.answer(({ boruvka_merges_within: merges }, memory) =>
     merges(memory, n, from, BigInt(count), to, BigInt(count)));

@@ -1,5 +1,5 @@
 -- Each vertex has a cluster under the first links, and those of a forest join what the graph's do.
-use Rattle.std.proofs.Common.{◌≡◌, ℕ, zero, suc, ◌+◌, ◌-◌, ◌<◌, ◌≤◌, ◌↔◌, ℤ, List, length, get_or, take, Contains, Some, refl, sym, ap, ◌∙◌, subst, inl, inr, arith}
+use Rattle.std.proofs.Common.{◌≡◌, ℕ, zero, suc, ◌+◌, ◌-◌, ◌<◌, ◌≤◌, ◌↔◌, ℤ, List, length, get_or, take, Contains, Some, sym, ap, ◌∙◌, subst, inl, inr, arith}
 use Rattle.std.specs.Prelude.{slice_get}
 use Rattle.std.proofs.lemmas.List.{take_all, length-take, get_or-take}
 use Rattle.std.proofs.lemmas.Option.{slice_get_cases, slice_get-get_or}
@@ -8,15 +8,14 @@ use Rattle.links.specs.Walk.{Joins}
 use Rattle.links.specs.LinkSet.{SameLinks}
 use Rattle.links.specs.Thresholds.{LinksUpTo}
 use Rattle.links.proofs.Members.{contains_none}
-use Rattle.links.proofs.Walks.{WithLink, JoinsThrough, Decided, Passing, joins_same, joins_link_back, joins_symm, joins_trans, joins_more, joins_alike, joins_equal, joins_one_more, joins_dec, dec_along}
+use Rattle.links.proofs.Walks.{Decided, Passing, joins_same, joins_more, joins_alike, joins_equal, joins_dec, dec_along}
 use Rattle.links.proofs.Covers.{forest_joins_up_to}
-use Rattle.link_merges.specs.Merges.{FirstJoin, IsInCluster}
+use Rattle.link_merges.specs.Merges.{FirstJoin, IsInCluster, IsClusterOf}
 use Rattle.link_merges.specs.Cuts.{AreFirstUpTo, MergesCutAsTheGraph}
-use Rattle.link_merges.proofs.Merging.{first_links, new_cluster}
+use Rattle.link_merges.proofs.Merging.{made, kept}
 
--- cluster c, there after k links, has just the vertices that they join with u
 abbrev HasCluster : ℕ → List Link → ℕ → ℕ → Type 0
-HasCluster n links u k = (c : ℕ) × (c < n + k) × ((v : ℕ) → IsInCluster n links c v ↔ FirstJoin links k u v)
+HasCluster n links u k = (c : ℕ) × IsClusterOf n links k u c
 
 abbrev Any : Link → Type 0
 Any l = Unit {0}
@@ -28,15 +27,14 @@ joined_dec links u v = dec_along
     (joins_dec Any (λ l. inl tt) links u v)
 
 -- at first a vertex is its point
-at_first : (n : ℕ) (links : List Link) (u : ℕ) → 1 ≤ u → u ≤ n → HasCluster n links u 0
-at_first n links u from to = (
-  u - 1,
-  omega (arith, from, to),
-  λ v. (
+pub at_first : (n : ℕ) (links : List Link) (u : ℕ) → 1 ≤ u → u ≤ n → IsClusterOf n links 0 u (u - 1)
+at_first n links u from to = record {
+  there = omega (arith, from, to);
+  same = λ v. (
     λ v_in. joins_same (Contains (take 0 links)) u v (sym (point v v_in)),
     λ joined. let same = itself v joined in inl (omega (arith, from, to), omega (arith, from, same)),
-  ),
-)
+  );
+}
   where
     point : (v : ℕ) → IsInCluster n links (u - 1) v → v ≡ u
     point v (inl (lt, is)) = omega (arith, is, from)
@@ -47,44 +45,24 @@ at_first n links u from to = (
 
 -- one more link makes a cluster of what it joins, and leaves the others
 one_further : (n : ℕ) (links : List Link) (u k : ℕ) (l : Link) → slice_get links k ≡ Some l → HasCluster n links u k → HasCluster n links u (k + 1)
-one_further n links u k l link_at (c, there, has) = elim (joined_dec (take (k + 1) links) u l.low) [
-  | inl is ↦ (
-    n + k,
-    omega arith,
-    λ v. (
-      λ v_in. joins_trans (Contains (take (k + 1) links)) u l.low v is ((new_cluster n links k l link_at v).0 v_in),
-      λ joined. (new_cluster n links k l link_at v).1 (joins_trans (Contains (take (k + 1) links)) l.low u v (joins_symm (Contains (take (k + 1) links)) u l.low is) joined),
-    ),
-  )
-  | inr isnt ↦ (
-    c,
-    omega (arith, there),
-    λ v. (
-      λ v_in. longer u v ((has v).0 v_in),
-      λ joined. (has v).1 (shorter isnt v ((joins_one_more (Contains (take k links)) l u v).0 (joins_more (Contains (take (k + 1) links)) (WithLink (Contains (take k links)) l) (λ m m_in. (first_links links k l link_at m).0 m_in) u v joined))),
-    ),
-  )
+one_further n links u k l link_at (c, is) = elim (joined_dec (take (k + 1) links) u l.low) [
+  | inl joined ↦ (n + k, made n links k l link_at u joined)
+  | inr not ↦ (c, kept n links k l link_at u c is not)
 ]
-  where
-    longer : (x y : ℕ) → FirstJoin links k x y → FirstJoin links (k + 1) x y
-    longer = joins_more (Contains (take k links)) (Contains (take (k + 1) links)) (λ m m_in. (first_links links k l link_at m).1 (inl m_in))
-
-    back : FirstJoin links (k + 1) l.high l.low
-    back = joins_link_back (Contains (take (k + 1) links)) l ((first_links links k l link_at l).1 (inr refl))
-
-    shorter : ¬ (FirstJoin links (k + 1) u l.low) → (v : ℕ) → JoinsThrough (Contains (take k links)) l u v → FirstJoin links k u v
-    shorter isnt v (inl joined) = joined
-    shorter isnt v (inr (inl (to, from))) = absurd (isnt (longer u l.low to))
-    shorter isnt v (inr (inr (to, from))) = absurd (isnt (joins_trans (Contains (take (k + 1) links)) u l.high l.low (longer u l.high to) back))
 
 -- no further link changes nothing
 none_further : (n : ℕ) (links : List Link) (u k : ℕ) → length links ≤ k → HasCluster n links u k → HasCluster n links u (k + 1)
-none_further n links u k past (c, there, has) =
-    let same : take k links ≡ take (k + 1) links = take_all k links past ∙ sym (take_all (k + 1) links (omega (arith, past))) in
-    (c, omega (arith, there), λ v. subst (λ (ls : List Link). IsInCluster n links c v ↔ Joins (Contains ls) u v) same (has v))
+none_further n links u k past (c, is) =
+    let same : take k links ≡ take (k + 1) links = take_all k links past ∙ sym (take_all (k + 1) links (omega (arith, past))) in (
+      c,
+      record {
+        there = let lt = is.there in omega (arith, lt);
+        same = λ v. subst (λ (ls : List Link). IsInCluster n links c v ↔ Joins (Contains ls) u v) same (is.same v);
+      },
+    )
 
-cluster_for : (n : ℕ) (links : List Link) (u : ℕ) → 1 ≤ u → u ≤ n → (k : ℕ) → HasCluster n links u k
-cluster_for n links u from to zero = at_first n links u from to
+pub cluster_for : (n : ℕ) (links : List Link) (u : ℕ) → 1 ≤ u → u ≤ n → (k : ℕ) → HasCluster n links u k
+cluster_for n links u from to zero = (u - 1, at_first n links u from to)
 cluster_for n links u from to (suc k) =
     let one : k + 1 ≡ suc k = omega arith in
     let before = cluster_for n links u from to k in
@@ -121,9 +99,9 @@ pub cut_as_the_graph : MergesCutAsTheGraph
 cut_as_the_graph n links forest taken is same k w up u from to =
     let own = cluster_for n taken u from to k in (
       own.0,
-      own.1,
+      own.1.there,
       λ v.
           let first = joins_alike (Contains (take k taken)) (LinksUpTo forest w) (first_up_to taken forest k w same up) u v in
           let graph = forest_joins_up_to links forest is w u v in
-          (λ v_in. graph.1 (first.0 ((own.2 v).0 v_in)), λ joined. (own.2 v).1 (first.1 (graph.0 joined))),
+          (λ v_in. graph.1 (first.0 ((own.1.same v).0 v_in)), λ joined. (own.1.same v).1 (first.1 (graph.0 joined))),
     )

@@ -1,10 +1,11 @@
 pub mod Sizes
-pub mod Hanging
 pub mod Merging
-pub mod Starting
 pub mod Rows
-pub mod Reading
 pub mod Cutting
 pub mod Unique
 pub mod Unions
 pub mod Existing
+pub mod Moving
+pub mod Counting
+pub mod Joining
+pub mod Starting

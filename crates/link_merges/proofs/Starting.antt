@@ -1,89 +1,75 @@
--- Before the first link: each vertex is a root, which has its point's name.
-use Rattle.std.proofs.Common.{◌≡◌, ℕ, ◌-◌, ◌<◌, ◌≤◌, ◌↔◌, List, [], ◌∷◌, length, take, Contains, refl, sym, ap, ◌∙◌, subst, inl, inr, arith}
-use Rattle.std.proofs.lemmas.Bool.{cases_lt}
-use Rattle.std.proofs.lemmas.List.{get_or_past}
+-- Before the first link is taken, and once all are joined.
+use Rattle.std.proofs.Common.{◌≡◌, ℕ, ◌+◌, ◌-◌, ◌<◌, ◌≤◌, List, ◌++◌, length, map, take, drop, Some, sym, ap, ◌∙◌, subst, arith}
+use Rattle.std.specs.Prelude.{slice_get}
+use Rattle.std.proofs.Math.Seq.{take-append_seam}
+use Rattle.std.proofs.lemmas.List.{length-map, get_or-map, take_all}
+use Rattle.std.proofs.lemmas.Option.{slice_get_within, get_or_from_slice_get}
 use Rattle.links.specs.declared.links.Link.{Link}
-use Rattle.links.proofs.Members.{contains_cases, contains_head, contains_none}
-use Rattle.links.proofs.Walks.{joins_same, joins_equal}
+use Rattle.links.specs.Link.{EndsUpTo}
+use Rattle.links.proofs.Components.{components_left}
 use Rattle.link_key.specs.Components.{IsAcyclic}
-use Rattle.link_merges.specs.declared.trees.Root.{Root}
-use Rattle.link_merges.specs.Merges.{IsInCluster, HasSize}
-use Rattle.link_merges.specs.Trees.{parent_of, at_root, AreApart, IsNamed, AreRootsAfter, AreTreesAfter}
+use Rattle.link_merges.specs.declared.merges.Merge.{Merge}
+use Rattle.link_merges.specs.Halves.{row_at, AreBelow, CloseNone, HasEnds, AreToJoin, AreJoined, AreMergesUpTo, points_of}
+use Rattle.link_merges.proofs.Cutting.{at_first}
+use Rattle.link_merges.proofs.Merging.{link_there, ends_in, acyclic_first}
 
--- no link closes a cycle
-no_links : IsAcyclic []
-no_links = (λ i j d lt in_list. absurd (omega (arith, in_list)), λ l l_in joined. contains_none l l_in)
+abbrev no_row : Merge
+no_row = record { first = 0; second = 0; size = 0 }
 
--- each vertex is its own root
-abbrev pub itself : ℕ → ℕ
-itself v = v
+-- links that close no cycle are no more than there are vertices
+pub few_links : (n : ℕ) (links : List Link) → EndsUpTo n links → IsAcyclic links → length links ≤ n
+few_links n links ends acyclic = let sum = (components_left n links ends acyclic.0 acyclic.1).2 in omega (arith, sum)
 
--- one vertex
-one : (r : ℕ) → HasSize (λ v. v ≡ r) 1
-one r = record {
-  numbers = r ∷ [];
-  distinct = λ i j d lt in_list. absurd (omega (arith, lt, in_list));
-  exact = λ v. (
-    λ v_in. elim (contains_cases r v [] v_in) [
-      | inl same ↦ same
-      | inr none ↦ absurd (contains_none v none)
-    ],
-    λ is. subst (Contains (r ∷ [])) (sym is) (contains_head r []),
-  );
-  counted = refl;
+module _ (n : ℕ) (links : List Link) (ends : EndsUpTo n links) (rows : List Merge) (are : rows ≡ map points_of links) where
+  pub len : length rows ≡ length links
+  len = ap length are ∙ simp length-map
+
+  row_is : (j : ℕ) (l : Link) → j < length rows → slice_get links j ≡ Some l → row_at rows j ≡ points_of l
+  row_is j l lt at =
+      let same = len in
+      ap (λ (rs : List Merge). row_at rs j) are ∙ get_or-map points_of links j l no_row (omega (arith, same, lt)) ∙ ap points_of (get_or_from_slice_get links j l l at)
+
+  pub points_below : (end : ℕ) → end ≡ n + length links → AreBelow end rows
+  points_below end end_is j lt =
+      let same = len in
+      let found = link_there links j (omega (arith, same, lt)) in
+      let is = row_is j found.0 lt found.1 in
+      let vertices = ends_in n links j found.0 ends found.1 in
+      let one = found.0.from_one in
+      let first : (row_at rows j).first ≡ found.0.low - 1 = ap (λ (r : Merge). r.first) is in
+      let second : (row_at rows j).second ≡ found.0.high - 1 = ap (λ (r : Merge). r.second) is in
+      let low = vertices.0 in
+      let some = vertices.1 in
+      let high = vertices.2 in
+      (omega (arith, first, one, low, end_is), omega (arith, second, some, high, end_is))
+
+  pub points_to_join : AreToJoin n links 0 rows
+  points_to_join = record {
+    within = let same = len in omega (arith, same);
+    none = λ i l lt at. absurd (omega (arith, lt));
+    each = λ j l lt at.
+        let here : 0 + j ≡ j = omega arith in
+        let at_j : slice_get links j ≡ Some l = ap (slice_get links) (sym here) ∙ at in
+        let vertices = ends_in n links j l ends at_j in
+        subst (HasEnds n links 0 l) (sym (row_is j l lt at_j))
+        (record { low = at_first n links l.low l.from_one vertices.0; high = at_first n links l.high vertices.1 vertices.2 });
+  }
+
+pub none_merged : (n : ℕ) (links : List Link) (rows : List Merge) → length rows ≡ length links → AreJoined n links 0 rows → AreMergesUpTo n links 0 rows
+none_merged n links rows len joined = record {
+  as_many = len;
+  none = let all : 0 + length rows ≡ length links = omega (arith, len) in subst (CloseNone links) all joined.none;
+  before = λ j l lt at. absurd (omega (arith, lt));
+  after = λ j l from at.
+      let here : 0 + j ≡ j = omega arith in
+      let lt : j < length links = slice_get_within links j l at in
+      subst (λ k. HasEnds n links k l (row_at rows j)) here (joined.each j l (omega (arith, len, lt)) (ap (slice_get links) here ∙ at));
 }
 
-module _ (n : ℕ) (links : List Link) (roots : List Root) (alone : (v : ℕ) → v ≤ n → at_root roots v ≡ record { size = 1; name = v - 1 }) where
-  none_first : (l : Link) → Contains (take 0 links) l → ⊥
-  none_first l l_in = contains_none l l_in
+-- joined links close no cycle
+pub all_acyclic : (links : List Link) → CloseNone links (length links) → IsAcyclic links
+all_acyclic links none = let most : length links ≤ length links = omega arith in subst IsAcyclic (take_all (length links) links most) (acyclic_first links (length links) most none)
 
-  named_start : (r : ℕ) → 1 ≤ r → r ≤ n → IsNamed n links 0 itself roots r
-  named_start r from to =
-      let name = ap (λ (t : Root). t.name) (alone r to) in record {
-        there = omega (arith, name, from, to);
-        exact = λ w. subst (λ c. IsInCluster n links c w ↔ (w ≡ r)) (sym name) (point w);
-        size = subst (HasSize (λ w. w ≡ r)) (sym (ap (λ (t : Root). t.size) (alone r to))) (one r);
-      }
-    where
-      point : (w : ℕ) → IsInCluster n links (r - 1) w ↔ (w ≡ r)
-      point w = (of_cluster, λ is. inl (omega (arith, from, to), omega (arith, is, from)))
-        where
-          of_cluster : IsInCluster n links (r - 1) w → w ≡ r
-          of_cluster (inl (lt, is)) = omega (arith, is, from)
-          of_cluster (inr (i, l, e, at, joined)) = absurd (omega (arith, e, from, to))
-
-  pub roots_start : AreRootsAfter n links 0 itself roots
-  roots_start = record {
-    none = refl;
-    past = λ v past. refl;
-    in_range = λ v from to. (from, to);
-    acyclic = no_links;
-    joined = λ u v from to same. joins_same (Contains (take 0 links)) u v same;
-    alike = λ u v joined. joins_equal (Contains (take 0 links)) (λ x. x) (λ l l_in. absurd (none_first l l_in)) u v joined;
-    named = named_start;
-  }
-
-module _ (n : ℕ) (links : List Link) (parents : List ℕ) (roots : List Root) (start : AreApart n parents roots) where
-  own : (v : ℕ) → parent_of parents v ≡ v
-  own v = elim (cases_lt n v) [
-    | inl past ↦ get_or_past parents v v (let len = start.parents_len in omega (arith, len, past))
-    | inr most ↦ start.own v (omega (arith, most))
-  ]
-
-  size_one : (v : ℕ) → v < length parents → (at_root roots v).size ≡ 1
-  size_one v lt = let len = start.parents_len in ap (λ (t : Root). t.size) (start.alone v (omega (arith, len, lt)))
-
-  pub trees_start : AreTreesAfter n links 0 parents roots
-  trees_start = record {
-    as_many = start.parents_len;
-    trees = record {
-      as_many = start.roots_len ∙ sym start.parents_len;
-      in_range = λ v lt. let is = own v in omega (arith, is, lt);
-      some = λ v lt. let is = size_one v lt in omega (arith, is);
-      few = λ v lt. let is = size_one v lt in omega (arith, is, lt);
-      doubled = λ v lt up. absurd (up (own v));
-    };
-    root = itself;
-    has = record { along = own; own = λ v is. refl };
-    after = roots_start n links roots start.alone;
-  }
+-- what stands in a `Vec` of as many elements once a whole slice of it was written
+pub whole : (m : ℕ) (rows items : List Merge) → m ≡ length items → length rows ≡ length items → take m (rows ++ drop (length rows) items) ≡ rows
+whole m rows items m_is len = ap (λ k. take k (rows ++ drop (length rows) items)) (m_is ∙ sym len) ∙ take-append_seam rows (drop (length rows) items)

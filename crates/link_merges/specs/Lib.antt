@@ -1,3 +1,3 @@
 pub mod Merges
 pub mod Cuts
-pub mod Trees
+pub mod Halves

@@ -9,12 +9,12 @@
 //!   other list is that of their merges ([`laws`]).
 //! - Cut at a height, the merges of a graph's forest give the components of the graph: the theorem of single linkage.
 //!
-//! Where to start a change: what clusters and merges are stands in `specs/Merges`, the theorem in `specs/Cuts`. `merges` goes
-//! over the links; `trees` keeps the vertices of each cluster in a tree, as `specs/Trees` says.
+//! Where to start a change: what clusters and merges are stands in `specs/Merges`, the theorem in `specs/Cuts`. `merges` begins
+//! with points and counts them at the end; `halves` joins the links between, half by half, as `specs/Halves` says.
 #![tactic(auto)]
 
+mod halves;
 pub mod laws;
 mod merges;
-mod trees;
 
 pub use merges::{Merge, merges_of};

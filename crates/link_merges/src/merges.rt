@@ -1,13 +1,12 @@
 //! The merges that links make, one after the other.
-ghost use Rattle.std.specs.Prelude.{◌≡◌, ℕ, ◌+◌, ◌<◌, ◌≤◌, ◌↔◌, length, take, Contains, IfOk, IfSome, IsSome, IsNone, OnSome, Some, slice_get};
+ghost use Rattle.std.specs.Prelude.{◌≡◌, ◌+◌, ◌<◌, ◌≤◌, ◌↔◌, length, map, IfOk, IfSome, IsSome};
 ghost use Rattle.limits.specs.declared.TheConstants.{MAX_VERTICES, MAX_ARCS};
 ghost use Rattle.links.specs.Link.{EndsUpTo};
 ghost use Rattle.link_key.specs.Components.{IsAcyclic};
-ghost use Rattle.link_merges.specs.Merges.{IsMerge, AreMerges};
-ghost use Rattle.link_merges.specs.Trees.{AreTreesAfter};
-ghost use Rattle.links.specs.declared.links.Link.{Link as TheLink};
+ghost use Rattle.link_merges.specs.Merges.{AreMerges};
+ghost use Rattle.link_merges.specs.Halves.{AreThemselves, row_at, points_in, points_of, merge_of};
 
-use crate::trees::Trees;
+use crate::halves::join;
 use limits::{MAX_ARCS, MAX_VERTICES};
 use links::Link;
 use std::alloc::{AllocError, Allocator};
@@ -22,32 +21,59 @@ pub struct Merge {
     pub size: u32,
 }
 
-// Merges the clusters that link i joins; none if they are one. Afterwards the trees are those after it.
-fn merge_link<A: Allocator>(trees: &mut Trees<A>, n: u32, links: &[Link], i: usize) -> Option<Merge>
-    requires few_vertices { n ≤ MAX_VERTICES }
-    requires few_links { length links.now ≤ MAX_ARCS }
-    requires ends { EndsUpTo n links.now }
-    requires in_range { i < length links.now }
-    requires before { AreTreesAfter n links.now i trees.old.parents.items trees.old.roots.items }
-    ensures cycle { IsNone result → ¬ (IsAcyclic links.now) }
-    ensures merge { IfSome result (λ merge. (l : TheLink) → slice_get links.now i ≡ Some l → IsMerge n links.now i l merge) }
-    ensures after { OnSome result (AreTreesAfter n links.now (i + 1) trees.new.parents.items trees.new.roots.items) }
+// The clusters of the ends of each link before any is joined: points.
+fn points_of_ends<A: Allocator>(alloc: A, links: &[Link]) -> Result<Vec<Merge, A>, AllocError>
+    ensures { IfOk result (λ rows. rows.items ≡ map points_of links.now) }
 {
-    let link = links[i];
-    let low = trees.root_of(link.low);
-    let high = trees.root_of(link.high);
-    if low == high {
-        return None;
+    let mut rows = Vec::with_capacity(alloc, links.len())?;
+    for link in links {
+        rows.push(Merge {
+            first: link.low - 1,
+            second: link.high - 1,
+            size: 1,
+        })?;
     }
-    let by_low = trees.roots[low as usize];
-    let by_high = trees.roots[high as usize];
-    let name = n + i as u32;
-    let size = trees.unite(low, high, name);
-    Some(Merge {
-        first: by_low.name.min(by_high.name),
-        second: by_low.name.max(by_high.name),
-        size,
-    })
+    Ok(rows)
+}
+
+// So many clusters, each of which stands for itself.
+fn apart<A: Allocator>(alloc: A, clusters: u32) -> Result<Vec<u32, A>, AllocError>
+    ensures as_many { IfOk result (λ now. length now.items ≡ clusters) }
+    ensures own { IfOk result (λ now. AreThemselves now.items) }
+{
+    let mut now = Vec::with_capacity(alloc, clusters as usize)?;
+    for c in 0..clusters {
+        now.push(c)?;
+    }
+    Ok(now)
+}
+
+// How many points cluster c has, by the rows of the links before.
+fn count_points(rows: &[Merge], n: u32, c: u32) -> u32
+    requires in_range { c < n + length rows.now }
+    ensures { result ≡ points_in n rows.now c }
+{
+    if c < n {
+        1
+    } else {
+        rows[(c - n) as usize].size
+    }
+}
+
+// The merge that row i is: the lower of its clusters first, and the points of both.
+fn merge_of(rows: &[Merge], n: u32, i: usize) -> Merge
+    requires in_range { i < length rows.now }
+    requires first { (row_at rows.now i).first < n + length rows.now }
+    requires second { (row_at rows.now i).second < n + length rows.now }
+    requires few { (merge_of n rows.now i).size ≤ MAX_VERTICES + 1 }
+    ensures { result ≡ merge_of n rows.now i }
+{
+    let row = rows[i];
+    Merge {
+        first: row.first.min(row.second),
+        second: row.first.max(row.second),
+        size: count_points(rows, n, row.first) + count_points(rows, n, row.second),
+    }
 }
 
 /// The merges of the clusters of `n` points by these links, link by link in their order; none if a link stands twice or the
@@ -55,8 +81,8 @@ fn merge_link<A: Allocator>(trees: &mut Trees<A>, n: u32, links: &[Link], i: usi
 /// cluster n + i. This is single-linkage clustering if the links are those of a minimum spanning forest in ascending order of
 /// weight; no clause asks for that order.
 ///
-/// The clusters are trees of vertices, the smaller hung under the larger one: for k links it costs O(n + k log k) time.
-/// Memory: 12 bytes a vertex and 12 a link. The only error is want of memory.
+/// The links are joined by halves: for k links it costs O(n + k log k) time. Memory: 16 bytes a link and 4 a vertex, once k
+/// is known to be at most n. The only error is want of memory.
 pub fn merges_of<A: Allocator + Copy>(
     alloc: A,
     n: u32,
@@ -68,13 +94,16 @@ pub fn merges_of<A: Allocator + Copy>(
     ensures acyclic { IfOk result (λ found. IsSome found ↔ IsAcyclic links.now) }
     ensures merges { IfOk result (λ found. IfSome found (λ merges. AreMerges n links.now merges.items)) }
 {
-    let mut trees = Trees::apart(alloc, n)?;
-    let mut merges = Vec::with_capacity(alloc, links.len().min(n as usize))?;
-    for i in 0..links.len() {
-        let Some(merge) = merge_link(&mut trees, n, links, i) else {
-            return Ok(None);
-        };
-        merges.push(merge)?;
+    if links.len() > n as usize {
+        return Ok(None);
     }
-    Ok(Some(merges))
+    let mut rows = points_of_ends(alloc, links)?;
+    let mut now = apart(alloc, n + links.len() as u32)?;
+    if !join(rows.as_mut_slice(), now.as_mut_slice(), n) {
+        return Ok(None);
+    }
+    for i in 0..links.len() {
+        rows[i] = merge_of(rows.as_slice(), n, i);
+    }
+    Ok(Some(rows))
 }

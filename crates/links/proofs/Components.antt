@@ -194,7 +194,7 @@ module _ (n : ℕ) (S : LinkSet) (l : Link) (ones : List ℕ) (are : AreRepresen
       (others.rest, fewer a.0 b.0 a.1 a.2 b.2 others, others.one_more)
 
 -- distinct links that close no cycle leave as many components as there are vertices more than links
-components_left : (n : ℕ) (links : List Link) → EndsUpTo n links → AreDistinct links → HasNoCycle (Contains links)
+pub components_left : (n : ℕ) (links : List Link) → EndsUpTo n links → AreDistinct links → HasNoCycle (Contains links)
     → (ones : List ℕ) × AreRepresentatives n (Contains links) ones × (length links + length ones ≡ n)
 components_left n [] ends distinct none = (vertices n, each_by_itself n, let all = all_vertices n in omega (arith, all))
 components_left n (l ∷ links) ends distinct none =
