@@ -63,7 +63,7 @@ def lists_that_end_as_long_as_the_bound(_room):
 
 @case
 def many_arcs_of_each_order_of_weights(_room):
-    for vertices, arcs in ((300, 100_000), (7_000, 150_000)):
+    for vertices, arcs in ((300, 80_000), (7_000, 145_000)):
         for seed, weights in enumerate(WEIGHTS):
             expect_forest(vertices, drawn(seed, vertices, arcs, weights))
             expect_forest(vertices, by_rows(seed, vertices, arcs // vertices, weights))
@@ -73,8 +73,8 @@ def many_arcs_of_each_order_of_weights(_room):
 def heavy_arcs_that_join_what_light_ones_leave_apart(_room):
     # far behind many light arcs within two halves one heavy arc joins these, and then a lighter one
     draw = random.Random(5)
-    light = [(2 * draw.randint(1, 200) - half, 2 * draw.randint(1, 200) - half, draw.randint(1, 1_000)) for half in (0, 1) for _ in range(80_000)]
+    light = [(2 * draw.randint(1, 200) - half, 2 * draw.randint(1, 200) - half, draw.randint(1, 1_000)) for half in (0, 1) for _ in range(45_000)]
     draw.shuffle(light)
     for bridges in ([(1, 2, 10**6)], [(1, 2, 10**6), (3, 4, 10**6 - 1)], [(1, 2, 0)]):
-        expect_forest(400, light[:150_000] + bridges + light[150_000:])
+        expect_forest(400, light[:80_000] + bridges + light[80_000:])
         expect_forest(400, light + bridges)
