@@ -1,5 +1,5 @@
 -- Links that are kept of all that were read, when more come and when they are replaced.
-use Rattle.std.proofs.Common.{◌≡◌, ℕ, ◌+◌, ◌≤◌, [], ◌++◌, List, refl, ap, sym, ◌∙◌, subst, arith, append-nil, length, length-append, Option, Some, None, Result, Ok, Err}
+use Rattle.std.proofs.Common.{◌≡◌, ℕ, ◌+◌, ◌≤◌, [], ◌++◌, List, refl, ap, sym, ◌∙◌, subst, arith, append-nil, append_assoc, length, length-append, Option, Some, None, Result, Ok, Err}
 use Rattle.std.specs.Prelude.{OnOk}
 use Rattle.byte_streams.specs.Streams.{SourceState}
 use Rattle.links.specs.Covers.{IsCoveredBy}
@@ -9,7 +9,7 @@ use Rattle.gr_text.specs.Graph.{GraphValue, with_links}
 use Rattle.gr_text.specs.LinesSoFar.{LinesSoFarValue, Swap, DifferBy, AreKept}
 use Rattle.gr_text.specs.Reader.{ReaderValue}
 use Rattle.gr_text.specs.Sourced.{IsReadOf}
-use Rattle.gr_text.specs.Kept.{AreKeptOf, IsKeptReadOf, KeepsOn, HasKept}
+use Rattle.gr_text.specs.Kept.{AreKeptOf, BeginsSo, IsKeptReadOf, KeepsOn, HasKept}
 use Rattle.gr_text.specs.declared.faults.ReadFault.{ReadFault}
 use Rattle.gr_text.specs.declared.sizes.Size.{Size}
 use Rattle.gr_text.proofs.ArcLineParts.{links_few}
@@ -22,6 +22,22 @@ covered_by_itself links = same_links_cover links links (λ l. (λ here. here, λ
 -- nothing was read
 pub kept_none : (drops : Type 0) (dropped : ℕ) → dropped ≡ 0 → AreKeptOf drops dropped [] []
 kept_none drops dropped none = record { cover = covered_by_itself []; counted = omega (arith, none); whole = λ all. refl }
+
+-- nothing is kept, and that is known
+pub nothing_known : (knows : List Link → Type 0) → knows [] → BeginsSo knows []
+nothing_known knows known = record { first = []; more = []; are = refl; known = known }
+
+-- what is known stays so when more come
+begins_with : {knows : List Link → Type 0} (links more : List Link) → BeginsSo knows links → BeginsSo knows (links ++ more)
+begins_with links more begins = record {
+  first = begins.first;
+  more = begins.more ++ more;
+  are = ap (λ (xs : List Link). xs ++ more) begins.are ∙ append_assoc begins.first begins.more more;
+  known = begins.known;
+}
+
+known_by : {knows : List Link → Type 0} {swap : Swap} (all links : List Link) → BeginsSo knows swap.put → DifferBy swap all links → BeginsSo knows links
+known_by {knows} {swap} all links known by = subst (λ (xs : List Link). BeginsSo knows xs) (sym by.links_are) (begins_with swap.put by.more known)
 
 -- the same links come to both
 kept_with : {drops : Type 0} {dropped : ℕ} (all kept more : List Link) → AreKeptOf drops dropped all kept → AreKeptOf drops dropped (all ++ more) (kept ++ more)
@@ -52,16 +68,24 @@ few_of None count all links lines are (say, zero_count, none) = omega (arith, ar
 few_of (Some size) count all links lines are (arcs, lawful, counted, of_arcs) = omega (arith, are.counted, counted, links_few arcs all of_arcs)
 
 -- those that were dropped and those that are kept are no more than the arcs
-pub kept_few : {drops : Type 0} {dropped : ℕ} (reader : ReaderValue) (text : List ℕ) → reader.fault ≡ None → HasKept drops dropped reader text
+pub kept_few : {drops : Type 0} {knows : List Link → Type 0} {dropped : ℕ} (reader : ReaderValue) (text : List ℕ) → reader.fault ≡ None → HasKept drops knows dropped reader text
     → dropped + length reader.so_far.links ≤ reader.so_far.count
 kept_few reader text none kept =
     let (short, counted, stands) = read_on reader text none kept.read in
     let (all, by, gives) = stands.give in
     few_of reader.so_far.size reader.so_far.count all reader.so_far.links stands.lines (kept_by all reader.so_far.links kept.are by) gives
 
+-- and so much is known of those that are kept
+pub kept_known : {drops : Type 0} {knows : List Link → Type 0} {dropped : ℕ} (reader : ReaderValue) (text : List ℕ) → reader.fault ≡ None → HasKept drops knows dropped reader text
+    → BeginsSo knows reader.so_far.links
+kept_known reader text none kept =
+    let (short, counted, stands) = read_on reader text none kept.read in
+    let (all, by, gives) = stands.give in
+    known_by all reader.so_far.links kept.known by
+
 -- what a reader was fed stays, while its links are replaced
-pub kept_on : {drops : Type 0} {dropped now : ℕ} (old : ReaderValue) (so_far : LinesSoFarValue) (text : List ℕ) → old.fault ≡ None → KeepsOn drops dropped now old.so_far so_far
-    → HasKept drops dropped old text → HasKept drops now (record old { so_far = so_far }) text
+pub kept_on : {drops : Type 0} {knew knows : List Link → Type 0} {dropped now : ℕ} (old : ReaderValue) (so_far : LinesSoFarValue) (text : List ℕ) → old.fault ≡ None
+    → KeepsOn drops knows dropped now old.so_far so_far → HasKept drops knew dropped old text → HasKept drops knows now (record old { so_far = so_far }) text
 kept_on old so_far text none keeps kept =
     let (short, counted, stands) = read_on old text none kept.read in
     let (all, by, gives) = stands.give in
@@ -69,6 +93,7 @@ kept_on old so_far text none keeps kept =
     record {
       swap = record { gone = all; put = so_far.links };
       are = keeps.kept all (kept_by all old.so_far.links kept.are by);
+      known = keeps.known;
       read = has_read_on _ text none short counted (record {
         lines = stands.lines;
         part = stands.part;
@@ -84,12 +109,12 @@ kept_on old so_far text none keeps kept =
     }
 
 -- the same of a keeper that may have failed
-pub kept_ok : {X E : Type 0} (drops : Type 0) (dropped now : ℕ) (r : Result X E) (was old : ReaderValue) (so_far : LinesSoFarValue) → was ≡ old → old.fault ≡ None
-    → OnOk r (KeepsOn drops dropped now was.so_far so_far)
-    → OnOk r ((text : List ℕ) → HasKept drops dropped old text → HasKept drops now (record was { so_far = so_far }) text)
-kept_ok drops dropped now (Ok x) was old so_far same none keeps = λ text kept.
-    kept_on was so_far text (subst (λ (r : ReaderValue). r.fault ≡ None) (sym same) none) keeps (subst (λ (r : ReaderValue). HasKept drops dropped r text) (sym same) kept)
-kept_ok drops dropped now (Err e) was old so_far same none fails = fails
+pub kept_ok : {X E : Type 0} (drops : Type 0) (knew knows : List Link → Type 0) (dropped now : ℕ) (r : Result X E) (was old : ReaderValue) (so_far : LinesSoFarValue) → was ≡ old → old.fault ≡ None
+    → OnOk r (KeepsOn drops knows dropped now was.so_far so_far)
+    → OnOk r ((text : List ℕ) → HasKept drops knew dropped old text → HasKept drops knows now (record was { so_far = so_far }) text)
+kept_ok drops knew knows dropped now (Ok x) was old so_far same none keeps = λ text kept.
+    kept_on was so_far text (subst (λ (r : ReaderValue). r.fault ≡ None) (sym same) none) keeps (subst (λ (r : ReaderValue). HasKept drops knew dropped r text) (sym same) kept)
+kept_ok drops knew knows dropped now (Err e) was old so_far same none fails = fails
 
 -- who drops none keeps all
 pub keeps_all : (limit dropped : ℕ) (result : Result GraphValue ReadFault) (before after : SourceState) → IsKeptReadOf ⊥ limit dropped result before after → IsReadOf limit result before after

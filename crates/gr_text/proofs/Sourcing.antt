@@ -3,6 +3,7 @@ use Rattle.std.proofs.Common.{◌≡◌, ℕ, ◌+◌, ◌≤◌, List, [], leng
 use Rattle.std.specs.Prelude.{◌==◌, count_by}
 use Rattle.byte_streams.specs.Streams.{SourceState, Gave}
 use Rattle.byte_streams.proofs.Streaming.{gave_nothing, gave_more}
+use Rattle.links.specs.declared.links.Link.{Link}
 use Rattle.gr_text.specs.Lines.{line_feed}
 use Rattle.gr_text.specs.Graph.{GraphValue, with_links}
 use Rattle.gr_text.specs.Fault.{HasLawfulLines}
@@ -13,7 +14,7 @@ use Rattle.gr_text.specs.Kept.{HasKept, HasFollowed, IsKeptReadOf}
 use Rattle.gr_text.specs.declared.faults.ReadFault.{ReadFault}
 use Rattle.gr_text.specs.declared.faults.ReadFault.TheVariants as fault
 use Rattle.gr_text.proofs.Feeding.{lawful_lines, read_on, stopped_by}
-use Rattle.gr_text.proofs.Keeping.{kept_none, kept_by}
+use Rattle.gr_text.proofs.Keeping.{kept_none, kept_by, nothing_known}
 
 -- a reader without a fault was fed no more than its limit, and nothing is wrong with the lines that have ended
 clean : {swap : Swap} (reader : ReaderValue) (text : List ℕ) → HasReadBut swap reader text → reader.fault ≡ None → (length text ≤ reader.limit) × HasLawfulLines text
@@ -21,20 +22,20 @@ clean reader text read none =
     let (short, counted, stands) = read_on reader text none read in (short, lawful_lines reader text stands)
 
 -- the source hasn't given anything yet
-pub nothing_kept : (drops : Type 0) (dropped : ℕ) (reader : ReaderValue) → dropped ≡ 0 → HasRead reader [] → HasKept drops dropped reader []
-nothing_kept drops dropped reader none read = record { swap = no_swap; are = kept_none drops dropped none; read = read }
+pub nothing_kept : (drops : Type 0) (knows : List Link → Type 0) (dropped : ℕ) (reader : ReaderValue) → dropped ≡ 0 → knows [] → HasRead reader [] → HasKept drops knows dropped reader []
+nothing_kept drops knows dropped reader none known read = record { swap = no_swap; are = kept_none drops dropped none; known = nothing_known knows known; read = read }
 
-pub nothing_fed : (drops : Type 0) (dropped : ℕ) (reader : ReaderValue) (s : SourceState) → dropped ≡ 0 → HasRead reader [] → HasFollowed drops dropped 0 reader s s
-nothing_fed drops dropped reader s none read = record { text = []; kept = nothing_kept drops dropped reader none read; gave = gave_nothing s }
+pub nothing_fed : (drops : Type 0) (knows : List Link → Type 0) (dropped : ℕ) (reader : ReaderValue) (s : SourceState) → dropped ≡ 0 → knows [] → HasRead reader [] → HasFollowed drops knows dropped 0 reader s s
+nothing_fed drops knows dropped reader s none known read = record { text = []; kept = nothing_kept drops knows dropped reader none known read; gave = gave_nothing s }
 
 -- one more piece was fed
-pub fed_kept : {drops : Type 0} {dropped : ℕ} (old new : ReaderValue) (text piece : List ℕ) → ((swap : Swap) (text : List ℕ) → HasReadBut swap old text → HasReadBut swap new (text ++ piece))
-    → HasKept drops dropped old text → HasKept drops dropped new (text ++ piece)
-fed_kept old new text piece fed kept = record { swap = kept.swap; are = kept.are; read = fed kept.swap text kept.read }
+pub fed_kept : {drops : Type 0} {knows : List Link → Type 0} {dropped : ℕ} (old new : ReaderValue) (text piece : List ℕ) → ((swap : Swap) (text : List ℕ) → HasReadBut swap old text → HasReadBut swap new (text ++ piece))
+    → HasKept drops knows dropped old text → HasKept drops knows dropped new (text ++ piece)
+fed_kept old new text piece fed kept = record { swap = kept.swap; are = kept.are; known = kept.known; read = fed kept.swap text kept.read }
 
 -- the source gave one more piece, which was fed
-pub piece_fed : {drops : Type 0} {dropped : ℕ} (old new : ReaderValue) (piece : List ℕ) (s t u : SourceState) → ((swap : Swap) (text : List ℕ) → HasReadBut swap old text → HasReadBut swap new (text ++ piece))
-    → HasFollowed drops dropped 0 old s t → Gave 0 0 piece t u → HasFollowed drops dropped 0 new s u
+pub piece_fed : {drops : Type 0} {knows : List Link → Type 0} {dropped : ℕ} (old new : ReaderValue) (piece : List ℕ) (s t u : SourceState) → ((swap : Swap) (text : List ℕ) → HasReadBut swap old text → HasReadBut swap new (text ++ piece))
+    → HasFollowed drops knows dropped 0 old s t → Gave 0 0 piece t u → HasFollowed drops knows dropped 0 new s u
 piece_fed old new piece s t u fed so_far more = record {
   text = so_far.text ++ piece;
   kept = fed_kept old new so_far.text piece fed so_far.kept;
@@ -42,24 +43,24 @@ piece_fed old new piece s t u fed so_far more = record {
 }
 
 -- the links were replaced
-pub links_kept : {drops : Type 0} {dropped now : ℕ} (old new : ReaderValue) (s t : SourceState) → ((text : List ℕ) → HasKept drops dropped old text → HasKept drops now new text)
-    → HasFollowed drops dropped 0 old s t → HasFollowed drops now 0 new s t
+pub links_kept : {drops : Type 0} {knew knows : List Link → Type 0} {dropped now : ℕ} (old new : ReaderValue) (s t : SourceState)
+    → ((text : List ℕ) → HasKept drops knew dropped old text → HasKept drops knows now new text) → HasFollowed drops knew dropped 0 old s t → HasFollowed drops knows now 0 new s t
 links_kept old new s t keeps so_far = record { text = so_far.text; kept = keeps so_far.text so_far.kept; gave = so_far.gave }
 
 -- it ended behind what the reader has read
-pub ends_behind : {drops : Type 0} {dropped : ℕ} (reader : ReaderValue) (s t u : SourceState) → HasFollowed drops dropped 0 reader s t → Gave 0 1 [] t u → HasFollowed drops dropped 1 reader s u
+pub ends_behind : {drops : Type 0} {knows : List Link → Type 0} {dropped : ℕ} (reader : ReaderValue) (s t u : SourceState) → HasFollowed drops knows dropped 0 reader s t → Gave 0 1 [] t u → HasFollowed drops knows dropped 1 reader s u
 ends_behind reader s t u so_far ended = record {
   text = so_far.text;
   kept = so_far.kept;
   gave = subst (λ bytes. Gave 0 1 bytes s u) (append-nil so_far.text) (gave_more 0 1 so_far.text [] s t u so_far.gave ended);
 }
 
-pub read_to_end : {drops : Type 0} {dropped : ℕ} (limit : ℕ) (outcome : Result GraphValue ReadFault) (reader : ReaderValue) (s u : SourceState) → HasFollowed drops dropped 1 reader s u
+pub read_to_end : {drops : Type 0} {knows : List Link → Type 0} {dropped : ℕ} (limit : ℕ) (outcome : Result GraphValue ReadFault) (reader : ReaderValue) (s u : SourceState) → HasFollowed drops knows dropped 1 reader s u
     → reader.fault ≡ None → reader.limit ≡ limit → ((swap : Swap) (text : List ℕ) → HasReadBut swap reader text → IsReadBut swap reader.limit text outcome)
     → IsKeptReadOf drops limit dropped outcome s u
-read_to_end {drops} {dropped} limit outcome reader s u ended none is answers = at outcome (answers kept.swap ended.text kept.read)
+read_to_end {drops} {knows} {dropped} limit outcome reader s u ended none is answers = at outcome (answers kept.swap ended.text kept.read)
   where
-    kept : HasKept drops dropped reader ended.text
+    kept : HasKept drops knows dropped reader ended.text
     kept = ended.kept
 
     whole : (result : Result GraphValue ReadFault) → IsRead reader.limit ended.text result → IsReadOf limit result s u
@@ -75,15 +76,15 @@ read_to_end {drops} {dropped} limit outcome reader s u ended none is answers = a
     at (Err e) fails = whole (Err e) fails
 
 -- where so many bytes were read or the end was found, and the limit lies below so many, the end was
-pub read_whole : {drops : Type 0} {dropped : ℕ} (ended : Bool) (limit enough : ℕ) (outcome : Result GraphValue ReadFault) (reader : ReaderValue) (s u : SourceState)
-    → HasFollowed drops dropped (cond ended 1 0) reader s u → (ended ≡ false → enough ≤ reader.limit) → limit < enough
+pub read_whole : {drops : Type 0} {knows : List Link → Type 0} {dropped : ℕ} (ended : Bool) (limit enough : ℕ) (outcome : Result GraphValue ReadFault) (reader : ReaderValue) (s u : SourceState)
+    → HasFollowed drops knows dropped (cond ended 1 0) reader s u → (ended ≡ false → enough ≤ reader.limit) → limit < enough
     → reader.fault ≡ None → reader.limit ≡ limit → ((swap : Swap) (text : List ℕ) → HasReadBut swap reader text → IsReadBut swap reader.limit text outcome)
     → IsKeptReadOf drops limit dropped outcome s u
 read_whole true limit enough outcome reader s u so_far few short none is answers = read_to_end limit outcome reader s u so_far none is answers
 read_whole false limit enough outcome reader s u so_far few short none is answers = absurd (omega (arith, few refl, short, is))
 
 -- a read failed behind what the reader has read
-pub breaks_off : {drops : Type 0} {dropped : ℕ} (limit line : ℕ) (reader : ReaderValue) (s t u : SourceState) → HasFollowed drops dropped 0 reader s t → reader.fault ≡ None → reader.limit ≡ limit
+pub breaks_off : {drops : Type 0} {knows : List Link → Type 0} {dropped : ℕ} (limit line : ℕ) (reader : ReaderValue) (s t u : SourceState) → HasFollowed drops knows dropped 0 reader s t → reader.fault ≡ None → reader.limit ≡ limit
     → ((swap : Swap) (text : List ℕ) → HasReadBut swap reader text → line ≡ 1 + count_by (λ b. b == line_feed) text) → Gave 1 0 [] t u → IsReadOf limit (Err (fault.Source line)) s u
 breaks_off limit line reader s t u so_far none is next failed = inr (inr (
   line,
@@ -98,7 +99,7 @@ breaks_off limit line reader s t u so_far none is next failed = inr (inr (
 ))
 
 -- a fault was found in what the reader was fed
-pub read_up_to : {drops : Type 0} {dropped : ℕ} (limit : ℕ) (why : ReadFault) (reader : ReaderValue) (s u : SourceState) → HasFollowed drops dropped 0 reader s u
+pub read_up_to : {drops : Type 0} {knows : List Link → Type 0} {dropped : ℕ} (limit : ℕ) (why : ReadFault) (reader : ReaderValue) (s u : SourceState) → HasFollowed drops knows dropped 0 reader s u
     → reader.fault ≡ Some why → reader.limit ≡ limit → IsReadOf limit (Err why) s u
 read_up_to limit why reader s u so_far is at = inr (inl (record {
   bytes = so_far.text;
@@ -107,5 +108,5 @@ read_up_to limit why reader s u so_far is at = inr (inl (record {
 }))
 
 -- memory was refused behind what the reader was fed
-pub memory_lacks : {drops : Type 0} {dropped : ℕ} (limit : ℕ) (reader : ReaderValue) (s u : SourceState) → HasFollowed drops dropped 0 reader s u → IsReadOf limit (Err fault.Memory) s u
+pub memory_lacks : {drops : Type 0} {knows : List Link → Type 0} {dropped : ℕ} (limit : ℕ) (reader : ReaderValue) (s u : SourceState) → HasFollowed drops knows dropped 0 reader s u → IsReadOf limit (Err fault.Memory) s u
 memory_lacks limit reader s u so_far = inr (inl (record { bytes = so_far.text; gave = so_far.gave; stops = tt }))

@@ -1,5 +1,5 @@
 -- What is read of a source while links are replaced by fewer that stand for them.
-use Rattle.std.specs.Prelude.{◌≡◌, ℕ, ◌+◌, List, length, Result, Ok, Err}
+use Rattle.std.specs.Prelude.{◌≡◌, ℕ, ◌+◌, List, ◌++◌, length, Result, Ok, Err}
 use Rattle.byte_streams.specs.Streams.{SourceState, Gave}
 use Rattle.links.specs.Covers.{IsCoveredBy}
 use Rattle.links.specs.declared.links.Link.{Link}
@@ -22,20 +22,29 @@ IsKeptReadOf drops limit dropped (Ok graph) before after =
     (all : List Link) × AreKeptOf drops dropped all graph.links × IsReadOf limit (Ok (with_links all graph)) before after
 IsKeptReadOf drops limit dropped (Err e) before after = IsReadOf limit (Err e) before after
 
+-- this is known of the links in front: more may have come behind them
+pub record BeginsSo (knows : List Link → Type 0) (links : List Link) : Type 0 where
+  pub first : List Link
+  pub more : List Link
+  pub are : links ≡ first ++ more
+  pub known : knows first
+
 -- a keeper had dropped `dropped` links and now `now`: whatever the old links were kept of, the new ones are
-pub record KeepsOn (drops : Type 0) (dropped now : ℕ) (old new : LinesSoFarValue) : Type 0 where
+pub record KeepsOn (drops : Type 0) (knows : List Link → Type 0) (dropped now : ℕ) (old new : LinesSoFarValue) : Type 0 where
   pub size : new.size ≡ old.size
   pub count : new.count ≡ old.count
   pub kept : (all : List Link) → AreKeptOf drops dropped all old.links → AreKeptOf drops now all new.links
+  pub known : BeginsSo knows new.links
 
 -- a reader was fed this text, and keeps such links of those that it read
-pub record HasKept (drops : Type 0) (dropped : ℕ) (reader : ReaderValue) (text : List ℕ) : Type 0 where
+pub record HasKept (drops : Type 0) (knows : List Link → Type 0) (dropped : ℕ) (reader : ReaderValue) (text : List ℕ) : Type 0 where
   pub swap : Swap
   pub are : AreKeptOf drops dropped swap.gone swap.put
+  pub known : BeginsSo knows swap.put
   pub read : HasReadBut swap reader text
 
 -- a reader was fed just what the source gave, which found its end so many times
-pub record HasFollowed (drops : Type 0) (dropped ended : ℕ) (reader : ReaderValue) (before after : SourceState) : Type 0 where
+pub record HasFollowed (drops : Type 0) (knows : List Link → Type 0) (dropped ended : ℕ) (reader : ReaderValue) (before after : SourceState) : Type 0 where
   pub text : List ℕ
-  pub kept : HasKept drops dropped reader text
+  pub kept : HasKept drops knows dropped reader text
   pub gave : Gave 0 ended text before after

@@ -1,5 +1,5 @@
 ghost use Rattle.std.specs.Prelude.{◌≡◌, ◌≤◌, ◌+◌, ℕ, List, [], length, OnOk, MatchOption, MatchResult};
-ghost use Rattle.gr_text.specs.Kept.{KeepsOn};
+ghost use Rattle.gr_text.specs.Kept.{BeginsSo, KeepsOn};
 ghost use Rattle.gr_text.specs.PartialLine.{IsWhole};
 ghost use Rattle.gr_text.specs.LinesSoFar.{AddsLines, AddsLink, FitsAfter, Gives, IsGraphOfLinesBut, IsLack, IsTaken, Swap, no_swap};
 
@@ -119,7 +119,8 @@ impl<A: Allocator> LinesSoFar<A> {
     pub(crate) fn keep<K: Keep<A>>(&mut self, keeper: &mut K) -> Result<(), AllocError>
         requires ready { K.ready }
         requires few { K.dropped keeper.old + length self.old.links ≤ self.old.count }
-        ensures { OnOk result (KeepsOn K.drops (K.dropped keeper.old) (K.dropped keeper.new) self.old self.new) }
+        requires known { BeginsSo (K.knows keeper.old) self.old.links }
+        ensures { OnOk result (KeepsOn K.drops (K.knows keeper.new) (K.dropped keeper.old) (K.dropped keeper.new) self.old self.new) }
     {
         let Some(size) = self.size else {
             return Ok(());

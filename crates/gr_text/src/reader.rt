@@ -168,12 +168,12 @@ impl<A: Allocator> GrReader<A> {
     pub(crate) fn keep<K: Keep<A>>(&mut self, keeper: &mut K) -> Result<(), AllocError>
         requires ready { K.ready }
         requires clean { self.old.fault ≡ None }
-        requires kept { (text : List ℕ) × HasKept K.drops (K.dropped keeper.old) self.old text }
+        requires kept { (text : List ℕ) × HasKept K.drops (K.knows keeper.old) (K.dropped keeper.old) self.old text }
         ensures limit { self.new.limit ≡ self.old.limit }
         ensures fed { self.new.fed ≡ self.old.fed }
         ensures fault { self.new.fault ≡ self.old.fault }
-        ensures kept { OnOk result ((text : List ℕ) → HasKept K.drops (K.dropped keeper.old) self.old text
-            → HasKept K.drops (K.dropped keeper.new) self.new text) }
+        ensures kept { OnOk result ((text : List ℕ) → HasKept K.drops (K.knows keeper.old) (K.dropped keeper.old) self.old text
+            → HasKept K.drops (K.knows keeper.new) (K.dropped keeper.new) self.new text) }
     {
         self.so_far.keep(keeper)
     }

@@ -16,9 +16,9 @@ use Rattle.plain_run.proofs.PlainRunning.{whole_file}
 pub covers_itself : (links : List Link) → IsCoveredBy links links
 covers_itself links = same_links_cover links links (λ l. (λ here. here, λ here. here))
 
--- a forest's links are its list's, so they end within the vertices
-pub ends_of_forest : (n : ℕ) (links forest : List Link) → EndsUpTo n links → IsForestOf links forest → EndsUpTo n forest
-ends_of_forest n links forest ends is i d b = All-contains (λ (l : Link). l.high ≤ n) links _ ends ((is.exact _).0 (Contains-get_or forest i d b)).0
+-- links that cover a list are links of it, so they end within the vertices
+pub ends_of_cover : (n : ℕ) (links kept : List Link) → EndsUpTo n links → IsCoveredBy links kept → EndsUpTo n kept
+ends_of_cover n links kept ends cover i d b = All-contains (λ (l : Link). l.high ≤ n) links _ ends (cover.among _ (Contains-get_or kept i d b))
 
 -- a file has at most 2^30 arc lines, whose links were dropped or are kept
 pub few_read : (drops : Type 0) (dropped : ℕ) (graph : GraphValue) (s t : SourceState) → IsKeptReadOf drops MAX_BYTES dropped (Ok graph) s t → dropped + length graph.links ≤ MAX_ARCS

@@ -7,8 +7,9 @@
 //!     bytes  ------------------------ the same, in memory ---------------------> Vec    plain_text
 //! ```
 //!
-//! While a file of many arcs is read, a long list of links becomes its forest, which covers it (`keeper`). So memory has a
-//! bound by the vertices, and all links are counted.
+//! While a file of many arcs is read, a long list of links becomes its forest, which covers it (`keeper`). If many more
+//! come, those that its light links make needless aren't kept (`sieve`). So memory has a bound by the vertices, and all links
+//! are counted.
 //!
 //! What it promises:
 //! - A run that ends well has read a whole file that means a graph, and written just the text of the graph's minimum
@@ -16,8 +17,8 @@
 //! - No spanning forest weighs less than the total reported, and the text of a forest is written again as it is.
 //!
 //! Where to start a change: `specs/Files` says what a file gives, `Outcomes` what a run does to its streams, whatever
-//! finds the forest, `PlainRun` what this run finds and reports; `FaultText` and `ReportText` have the texts. Runs over
-//! workers stand on these definitions in `forest_run`.
+//! finds the forest, `PlainRun` what this run finds and reports, `Sieve` which links may go; `FaultText` and `ReportText`
+//! have the texts. Runs over workers stand on these definitions in `forest_run`.
 #![tactic(auto)]
 
 mod by_threads;
@@ -26,6 +27,7 @@ mod in_memory;
 mod keeper;
 mod plain;
 mod report;
+mod sieve;
 mod spelling;
 
 pub use by_threads::run_threads;

@@ -4,7 +4,7 @@ use Rattle.gr_text.proofs.Sourcing.{nothing_fed, nothing_kept}
 use Rattle.gr_text.proofs.sourced.read_kept_upto.Goals as goal
 
 pub read_rest-requires-clause-kept : goal.read_rest-requires-clause-kept
-read_rest-requires-clause-kept g c = ([], nothing_kept _ _ c.new.result c.requires.none c.new.ensures.nothing)
+read_rest-requires-clause-kept g c = ([], nothing_kept _ _ _ c.new.result c.requires.none c.requires.nothing c.new.ensures.nothing)
 
 pub returns : goal.returns
 returns g c =
@@ -13,5 +13,5 @@ returns g c =
     let before = source.state c.args.source.now in
     record {
       outcome = subst (λ k. IsKeptReadOf keep.drops k (keep.dropped c.read_rest.new.keeper) c.read_rest.result before (source.state c.read_rest.new.source)) c.new.ensures.limit
-          (c.read_rest.ensures before (nothing_fed _ _ c.new.result before c.requires.none c.new.ensures.nothing));
+          (c.read_rest.ensures before (nothing_fed _ _ _ c.new.result before c.requires.none c.requires.nothing c.new.ensures.nothing));
     }

@@ -14,9 +14,9 @@ invariant-loop-read g l =
       few : l.read ≤ l.reader.fed;
       within : l.read ≤ l.reader.limit;
       clean : l.reader.fault ≡ None;
-      kept : (text : List ℕ) × HasKept keep.drops (keep.dropped l.keeper) l.reader text;
-      followed : (before : SourceState) → HasFollowed keep.drops (keep.dropped l.fn.keeper) 0 l.fn.reader before (source.state l.fn.source)
-          → HasFollowed keep.drops (keep.dropped l.keeper) 0 l.reader before (source.state l.source);
+      kept : (text : List ℕ) × HasKept keep.drops (keep.knows l.keeper) (keep.dropped l.keeper) l.reader text;
+      followed : (before : SourceState) → HasFollowed keep.drops (keep.knows l.fn.keeper) (keep.dropped l.fn.keeper) 0 l.fn.reader before (source.state l.fn.source)
+          → HasFollowed keep.drops (keep.knows l.keeper) (keep.dropped l.keeper) 0 l.reader before (source.state l.source);
     }
 
 abbrev pub decreases-loop-read : goal.decreases-loop-read

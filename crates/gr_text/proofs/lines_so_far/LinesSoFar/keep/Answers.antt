@@ -10,5 +10,5 @@ returns-in-Ok g c =
     let was = c.self.inside in
     let done = c.in-Ok.ensures in
     let now : LinesSoFarValue = record { size = was.size; count = was.count; links = c.keep.new.links.items } in
-    subst (λ (v : LinesSoFarValue). KeepsOn keep.drops (keep.dropped c.args.keeper.now) (keep.dropped c.keep.new.self) v now) c.self.view_is
-    (record { size = refl; count = refl; kept = λ all are. kept_again all was.links.items now.links done.cover done.counted done.whole are })
+    subst (λ (v : LinesSoFarValue). KeepsOn keep.drops (keep.knows c.keep.new.self) (keep.dropped c.args.keeper.now) (keep.dropped c.keep.new.self) v now) c.self.view_is
+    (record { size = refl; count = refl; kept = λ all are. kept_again all was.links.items now.links done.cover done.counted done.whole are; known = done.known })

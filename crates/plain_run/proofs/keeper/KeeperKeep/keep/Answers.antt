@@ -1,12 +1,23 @@
-use Rattle.links.proofs.Covers.{forest_covers_list}
-use Rattle.plain_run.proofs.KeptLinks.{covers_itself, ends_of_forest}
+use Rattle.std.proofs.Common.{◌∙◌}
+use Rattle.std.proofs.lemmas.Result.{on_ok_weaker}
+use Rattle.links.proofs.Covers.{cover_of_cover}
+use Rattle.plain_run.proofs.KeptLinks.{ends_of_cover}
 use Rattle.plain_run.proofs.keeper.KeeperKeep.keep.Goals as goal
 
-pub returns-then-count-long_list-clause-cover : goal.returns-then-count-long_list-clause-cover
-returns-then-count-long_list-clause-cover g c = covers_itself _
+pub returns-then-len-long_list-clause-ends : goal.returns-then-len-long_list-clause-ends
+returns-then-len-long_list-clause-ends g c = ends_of_cover c.args.vertices c.args.links.now.items _ c.requires.ends c.sift.ensures.cover
+
+pub reduce-requires-clause-ends : goal.reduce-requires-clause-ends
+reduce-requires-clause-ends g c = ends_of_cover c.args.vertices c.args.links.now.items _ c.requires.ends c.sift.ensures.cover
 
 pub returns-clause-ends : goal.returns-clause-ends
-returns-clause-ends g c = ends_of_forest c.args.vertices c.args.links.now.items _ c.requires.ends (rw c.replace-all.ensures.value at c.in_ok-kept.ensures.forest)
+returns-clause-ends g c =
+    on_ok_weaker c.reduce.result
+    (λ cover. ends_of_cover c.args.vertices c.sift.new.links.items c.reduce.new.links.items (ends_of_cover c.args.vertices c.args.links.now.items _ c.requires.ends c.sift.ensures.cover) cover)
+    c.reduce.ensures.cover
 
 pub returns-clause-cover : goal.returns-clause-cover
-returns-clause-cover g c = forest_covers_list c.args.links.now.items _ (rw c.replace-all.ensures.value at c.in_ok-kept.ensures.forest)
+returns-clause-cover g c = on_ok_weaker c.reduce.result (λ cover. cover_of_cover _ _ _ c.sift.ensures.cover cover) c.reduce.ensures.cover
+
+pub returns-clause-counted : goal.returns-clause-counted
+returns-clause-counted g c = on_ok_weaker c.reduce.result (λ counted. c.sift.ensures.counted ∙ counted) c.reduce.ensures.counted

@@ -1,0 +1,80 @@
+"""Files round the sizes from which `--plain` keeps fewer links than it reads: of more than 65,536 arcs, and of more than 15
+a vertex, a list of 32,768 links and of 10 a vertex becomes its forest."""
+import random
+
+from cases.running import case, expect, file_of, forest_of, forest_text, ran
+
+LONG = 32_768
+WEIGHTS = {
+    "equal": lambda draw, place: 7,
+    "few": lambda draw, place: draw.randint(-2, 2),
+    "many": lambda draw, place: draw.randint(-(2**62), 2**62),
+    "rising": lambda draw, place: place,
+    "falling": lambda draw, place: -place,
+}
+THREADS = [["--plain"], ["--plain", "--threads", "3"]]
+
+
+def expect_forest(vertices, arcs, all_words=THREADS):
+    file, forest = file_of(vertices, arcs), forest_of(vertices, arcs)
+    links, total = sum(u != v for u, v, _ in arcs), sum(weight for weight, _, _ in forest)
+    report = f"vertices={vertices} links={links} rounds=0 shards=0 asked=0 answered=0 alone=0 closed=0 total={total}\n"
+    for words in all_words:
+        expect(ran([*words, "--report"], file), 0, forest_text(vertices, forest), report.encode())
+
+
+def drawn(seed, vertices, arcs, weights):
+    """Arcs between any vertices, loops and repeats among them."""
+    draw = random.Random(seed)
+    return [(draw.randint(1, vertices), draw.randint(1, vertices), WEIGHTS[weights](draw, place)) for place in range(arcs)]
+
+
+def by_rows(seed, vertices, each, weights):
+    """Arcs from each vertex in turn to near ones, in both directions beside each other."""
+    draw = random.Random(seed)
+    rows = []
+    for v in range(vertices):
+        for place in range(each // 2):
+            near, weight = (v + draw.randint(1, 2 * each)) % vertices, WEIGHTS[weights](draw, place)
+            rows += [(v + 1, near + 1, weight), (near + 1, v + 1, weight)]
+    return rows
+
+
+@case
+def as_many_arcs_as_are_kept_whole_and_one_more(_room):
+    for vertices in (2, 300, 4_369, 5_000):
+        most = max(65_536, 15 * vertices)
+        for arcs in (most - 1, most, most + 1):
+            expect_forest(vertices, drawn(arcs, vertices, arcs, "many"))
+
+
+@case
+def lists_that_end_as_long_as_the_bound(_room):
+    # of a star each link is in the forest: a list is long at its last link, one before, one behind
+    for vertices in (3_000, 4_000):
+        long = max(LONG, 10 * vertices)
+        star = [(1, v, v) for v in range(2, vertices + 1)]
+        loops = [(1, 1, 0)] * 70_000
+        for links in (long - 1, long, long + 1):
+            again = [(2, 3, weight) for weight in range(links - len(star))]
+            expect_forest(vertices, star + again + loops)
+            expect_forest(vertices, loops + again + star)
+
+
+@case
+def many_arcs_of_each_order_of_weights(_room):
+    for vertices, arcs in ((300, 80_000), (7_000, 145_000)):
+        for seed, weights in enumerate(WEIGHTS):
+            expect_forest(vertices, drawn(seed, vertices, arcs, weights))
+            expect_forest(vertices, by_rows(seed, vertices, arcs // vertices, weights))
+
+
+@case
+def heavy_arcs_that_join_what_light_ones_leave_apart(_room):
+    # far behind many light arcs within two halves one heavy arc joins these, and then a lighter one
+    draw = random.Random(5)
+    light = [(2 * draw.randint(1, 200) - half, 2 * draw.randint(1, 200) - half, draw.randint(1, 1_000)) for half in (0, 1) for _ in range(45_000)]
+    draw.shuffle(light)
+    for bridges in ([(1, 2, 10**6)], [(1, 2, 10**6), (3, 4, 10**6 - 1)], [(1, 2, 0)]):
+        expect_forest(400, light[:80_000] + bridges + light[80_000:])
+        expect_forest(400, light + bridges)
