@@ -4,3 +4,4 @@ pub mod PlainRunning
 pub mod Lengths
 pub mod Again
 pub mod KeptLinks
+pub mod JoinedParts

@@ -3,3 +3,4 @@ pub mod Outcomes
 pub mod PlainRun
 pub mod ReportText
 pub mod FaultText
+pub mod Parts
