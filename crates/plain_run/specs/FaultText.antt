@@ -4,6 +4,8 @@ use Rattle.std.specs.Fmt.{signed_decimal}
 use Rattle.links.specs.declared.cuts.CutFault.{CutFault}
 use Rattle.links.specs.declared.cuts.CutFault.TheVariants as cut
 use Rattle.gr_text.specs.FaultText.{read_text, unwritten_text}
+use Rattle.plain_run.specs.declared.fault.PartFault.{PartFault}
+use Rattle.plain_run.specs.declared.fault.PartFault.TheVariants as part
 use Rattle.plain_run.specs.declared.fault.RunFault.{RunFault}
 use Rattle.plain_run.specs.declared.fault.RunFault.TheVariants as fault
 
@@ -24,3 +26,8 @@ fault_text (fault.Missed l) =
     codes "link " ++ decimal l.low ++ codes " " ++ decimal l.high ++ codes " " ++ signed_decimal l.weight ++ codes " was missed"
 fault_text fault.Memory = codes "no memory"
 fault_text (fault.Write written) = unwritten_text written
+
+-- why a file isn't a part beside those before it
+abbrev pub part_text : PartFault → List ℕ
+part_text (part.Read why) = read_text why
+part_text (part.OtherVertices vertices wanted) = decimal vertices ++ codes " vertices in place of " ++ decimal wanted

@@ -4,3 +4,4 @@ pub mod PlainRun
 pub mod ReportText
 pub mod Sieve
 pub mod FaultText
+pub mod Parts

@@ -5,8 +5,9 @@ ghost use Rattle.plain_run.specs.Files.{HasFile, MeansGraph, MeansNothing, IsFir
 ghost use Rattle.plain_run.specs.Outcomes.{known};
 ghost use Rattle.plain_run.specs.PlainRun.{RanPlain, WritesAgain};
 
+use crate::crew::ManyThreads;
 use crate::fault::RunFault;
-use crate::keeper::{Keeper, ManyThreads};
+use crate::keeper::Keeper;
 use crate::plain::report_of;
 use crate::report::Report;
 use byte_streams::{Sink, Source};
@@ -48,7 +49,8 @@ pub fn run_threads<R: Threads + Sync, S: Source, W: Sink, A: Allocator + Copy + 
     ensures flushed { OnOk result (IsFlushed (W.unflushed sink.new)) }
     ensures again { OnOk result (W.can_write sink.new) }
 {
-    let mut keeper = Keeper::new(ManyThreads { rt, threads });
+    let crew = ManyThreads { rt, threads };
+    let mut keeper = Keeper::new(&crew);
     let graph = match read_graph_kept_par(rt, threads, &mut keeper, alloc, source) {
         Ok(graph) => graph,
         Err(fault) => return Err(RunFault::Read(fault)),

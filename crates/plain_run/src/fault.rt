@@ -1,6 +1,6 @@
 //! Why a run ends ill.
 ghost use Rattle.std.specs.Prelude.{◌≡◌, ◌≤◌, length};
-ghost use Rattle.plain_run.specs.FaultText.{cut_text, fault_text};
+ghost use Rattle.plain_run.specs.FaultText.{cut_text, fault_text, part_text};
 
 use crate::spelling::{LINE_ROOM, push_count, push_signed};
 use arrayvec::ArrayString;
@@ -63,6 +63,40 @@ impl RunFault {
             }
             RunFault::Memory => text.push_str("no memory"),
             RunFault::Write { written } => text.push_str(WriteFault { written }.text().as_str()),
+        }
+        text
+    }
+}
+
+/// Why a file isn't a part beside those before it.
+#[derive(Clone, Copy, Debug, PartialEq, Eq, Error)]
+#[error("{}", self.text())]
+pub enum PartFault {
+    /// The file wasn't read, or memory was refused for its links beside the others.
+    Read(ReadFault),
+
+    /// The file has another number of vertices than those before it.
+    OtherVertices {
+        /// How many it has.
+        vertices: u32,
+        /// How many they have.
+        wanted: u32,
+    },
+}
+
+impl PartFault {
+    /// The text that it is shown as, put together on the stack.
+    pub fn text(&self) -> ArrayString<LINE_ROOM>
+        ensures text { result.bytes ≡ part_text self.now }
+        ensures short { length result.bytes ≤ 120 }
+    {
+        let mut text = ArrayString::new();
+        match *self {
+            PartFault::Read(why) => text.push_str(why.text().as_str()),
+            PartFault::OtherVertices { vertices, wanted } => {
+                push_count(&mut text, "", u64::from(vertices));
+                push_count(&mut text, " vertices in place of ", u64::from(wanted));
+            }
         }
         text
     }

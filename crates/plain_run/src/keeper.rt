@@ -1,20 +1,18 @@
 //! A list of links that is kept within a bound while its file is read: when it is long it becomes its forest, which covers
 //! it.
 ghost use Rattle.std.specs.Prelude.{◌≡◌, ◌+◌, ◌≤◌, length, None, IfOk, OnOk};
-ghost use Rattle.std.specs.Thread.{IsSync};
 ghost use Rattle.links.specs.Covers.{IsCoveredBy};
-ghost use Rattle.links.specs.Forest.{IsForestOf};
 ghost use Rattle.links.specs.Link.{EndsUpTo, IsAscending};
 ghost use Rattle.gr_text.specs.Kept.{BeginsSo};
 ghost use Rattle.plain_run.specs.Sieve.{KnowsOf};
 
+use crate::crew::Crew;
 use crate::sieve::Sieve;
 use gr_text::Keep;
 use limits::{MAX_ARCS, MAX_VERTICES};
-use link_key::{Link, keep_forest, keep_forest_par};
+use link_key::Link;
 use std::alloc::{AllocError, Allocator};
 use std::mem;
-use std::thread::Threads;
 
 // A file that states no more arcs than these, or no more than so many a vertex, has all of its links kept: it would gain
 // little memory, and lose the time of a second forest.
@@ -31,64 +29,10 @@ const LONG_A_VERTEX: usize = 10;
 // So many links are sifted at once, or more.
 const BATCH: usize = 1 << 10;
 
-/// Who finds the forest of a list.
-pub(crate) trait Crew {
-    // What threads need of whoever makes them.
-    ghost ready: { Type 0 } = { Unit {0} };
-
-    /// The list, of which the links of its forest alone are kept.
-    fn keep_forest<A: Allocator + Copy>(
-        &self,
-        alloc: A,
-        n: u32,
-        links: Vec<Link, A>,
-    ) -> Result<Vec<Link, A>, AllocError>
-        requires ready { ready }
-        requires few_vertices { n ≤ MAX_VERTICES }
-        requires ends { EndsUpTo n links.items }
-        ensures forest { IfOk result (λ kept. IsForestOf links.items kept.items) }
-        ensures few { IfOk result (λ kept. length kept.items ≤ length links.items) };
-}
-
-/// The caller's thread alone.
-#[derive(Drop)]
-pub(crate) struct OneThread;
-
-impl Crew for OneThread {
-    fn keep_forest<A: Allocator + Copy>(
-        &self,
-        alloc: A,
-        n: u32,
-        links: Vec<Link, A>,
-    ) -> Result<Vec<Link, A>, AllocError> {
-        keep_forest(alloc, n, links)
-    }
-}
-
-/// Up to so many threads.
-#[derive(Drop)]
-pub(crate) struct ManyThreads<'a, R> {
-    pub rt: &'a R,
-    pub threads: usize,
-}
-
-impl<'a, R: Threads + Sync> Crew for ManyThreads<'a, R> {
-    ghost ready = { IsSync R.row };
-
-    fn keep_forest<A: Allocator + Copy>(
-        &self,
-        alloc: A,
-        n: u32,
-        links: Vec<Link, A>,
-    ) -> Result<Vec<Link, A>, AllocError> {
-        keep_forest_par(self.rt, self.threads, alloc, n, links)
-    }
-}
-
 /// Keeps the links of a file within the bound.
 #[derive(Drop)]
-pub(crate) struct Keeper<C, A: Allocator> {
-    crew: C,
+pub(crate) struct Keeper<'a, C, A: Allocator> {
+    crew: &'a C,
     /// How many links were dropped.
     pub dropped: u64,
     /// Drops further links before the list is long, where many more come.
@@ -97,9 +41,9 @@ pub(crate) struct Keeper<C, A: Allocator> {
     is_coarse: bool,
 }
 
-impl<C: Crew, A: Allocator + Copy> Keeper<C, A> {
+impl<'a, C: Crew, A: Allocator + Copy> Keeper<'a, C, A> {
     /// One that has dropped none.
-    pub fn new(crew: C) -> Self
+    pub fn new(crew: &'a C) -> Self
         ensures none { result.dropped ≡ 0 }
         ensures no_sieve { result.sieve ≡ None }
     {
@@ -191,7 +135,7 @@ impl<C: Crew, A: Allocator + Copy> Keeper<C, A> {
     }
 }
 
-impl<C: Crew, A: Allocator + Copy> Keep<A> for Keeper<C, A> {
+impl<'a, C: Crew, A: Allocator + Copy> Keep<A> for Keeper<'a, C, A> {
     ghost ready = { C.ready };
 
     ghost drops = { Unit {0} };
@@ -235,6 +179,13 @@ fn long_list(vertices: usize, arcs: usize) -> usize
     if arcs <= FEW_ARCS.max(vertices * FEW_A_VERTEX) {
         usize::MAX
     } else {
-        LONG.max(vertices * LONG_A_VERTEX)
+        many_links(vertices)
     }
+}
+
+/// How many links of so many vertices are a long list.
+pub(crate) fn many_links(vertices: usize) -> usize
+    requires { vertices ≤ MAX_VERTICES }
+{
+    LONG.max(vertices * LONG_A_VERTEX)
 }

@@ -6,8 +6,9 @@ ghost use Rattle.plain_run.specs.Outcomes.{known};
 ghost use Rattle.plain_run.specs.PlainRun.{RanPlain, WritesAgain, counted_report};
 ghost use Rattle.links.specs.Least.{sum_of_weights};
 
+use crate::crew::OneThread;
 use crate::fault::RunFault;
-use crate::keeper::{Keeper, OneThread};
+use crate::keeper::Keeper;
 use crate::report::Report;
 use byte_streams::{Sink, Source};
 use gr_text::{read_graph_kept, write_forest};
@@ -66,7 +67,7 @@ pub fn run_plain<S: Source, W: Sink, A: Allocator + Copy>(
     ensures flushed { OnOk result (IsFlushed (W.unflushed sink.new)) }
     ensures again { OnOk result (W.can_write sink.new) }
 {
-    let mut keeper = Keeper::new(OneThread);
+    let mut keeper = Keeper::new(&OneThread);
     let graph = match read_graph_kept(&mut keeper, alloc, source) {
         Ok(graph) => graph,
         Err(fault) => return Err(RunFault::Read(fault)),

@@ -1,0 +1,113 @@
+-- Several files as parts of one graph, which has the links of all of them.
+use Rattle.std.specs.Prelude.{◌≡◌, ◌≢◌, ◌<◌, ◌≤◌, ◌*◌, ⊤, ℕ, List, [], ◌∷◌, ◌++◌, length, All, Result, Ok, Err}
+use Rattle.std.specs.List.{flat_map}
+use Rattle.limits.specs.declared.TheConstants.{MAX_ARCS, MAX_BYTES, MAX_VERTICES}
+use Rattle.byte_streams.specs.Streams.{SourceState, SinkState, Gave, Took, WentOut}
+use Rattle.links.specs.Covers.{IsCoveredBy}
+use Rattle.links.specs.Forest.{IsForestOf}
+use Rattle.links.specs.Link.{EndsUpTo}
+use Rattle.links.specs.declared.links.Link.{Link}
+use Rattle.gr_text.specs.Graph.{GraphValue}
+use Rattle.gr_text.specs.ForestText.{forest_text}
+use Rattle.gr_text.specs.Sourced.{IsReadOf}
+use Rattle.gr_text.specs.declared.faults.ReadFault.TheVariants as read
+use Rattle.plain_run.specs.Files.{IsFileOf, IsFirstOf}
+use Rattle.plain_run.specs.PlainRun.{IsPlainReport}
+use Rattle.plain_run.specs.declared.fault.PartFault.{PartFault}
+use Rattle.plain_run.specs.declared.fault.PartFault.TheVariants as part
+use Rattle.plain_run.specs.declared.fault.RunFault.{RunFault}
+use Rattle.plain_run.specs.declared.fault.RunFault.TheVariants as fault
+use Rattle.plain_run.specs.declared.parts.TheConstants.{MAX_FILES}
+use Rattle.plain_run.specs.declared.report.Report.{Report}
+
+-- what is kept of the files so far: the number of vertices that each of them names, some of their links, and how many
+-- links and files there were
+pub record PartsValue : Type 0 where
+  pub vertices : ℕ
+  pub kept : List Link
+  pub count : ℕ
+  pub files : ℕ
+
+-- what is so of any parts: the links end within the vertices, no more are kept than there were, and files have few
+pub record AreLawfulParts (parts : PartsValue) : Type 0 where
+  pub few_vertices : parts.vertices ≤ MAX_VERTICES
+  pub ends : EndsUpTo parts.vertices parts.kept
+  pub no_more : length parts.kept ≤ parts.count
+  pub few : parts.count ≤ parts.files * MAX_ARCS
+  pub few_files : parts.files ≤ MAX_FILES
+
+-- the links of all graphs, one list after the other
+abbrev pub links_of_all : List GraphValue → List Link
+links_of_all graphs = flat_map (λ graph. graph.links) graphs
+
+-- the graph of n vertices with the links of all graphs
+abbrev pub joined_graph : ℕ → List GraphValue → GraphValue
+joined_graph n graphs = record { vertices = n; links = links_of_all graphs }
+
+-- the parts stand for these graphs: each has as many vertices, and the links kept cover those of all
+pub record ArePartsOf (graphs : List GraphValue) (parts : PartsValue) : Type 0 where
+  pub one_number : All (λ graph. graph.vertices ≡ parts.vertices) graphs
+  pub cover : IsCoveredBy (links_of_all graphs) parts.kept
+  pub counted : parts.count ≡ length (links_of_all graphs)
+  pub files : parts.files ≡ length graphs
+
+-- ---- one more file
+
+-- the source was read to its end and means a graph, which comes behind those that the parts stand for
+pub record IsAdded (old new : PartsValue) (before after : SourceState) : Type 0 where
+  pub bytes : List ℕ
+  pub graph : GraphValue
+  pub read : Gave 0 1 bytes before after
+  pub file : IsFileOf bytes graph
+  pub parts : (graphs : List GraphValue) → ArePartsOf graphs old → ArePartsOf (graphs ++ graph ∷ []) new
+
+-- the source was read to its end and means a graph of so many vertices; each file before it has another number, which is this
+pub record HasOtherVertices (vertices wanted : ℕ) (old : PartsValue) (before after : SourceState) : Type 0 where
+  pub bytes : List ℕ
+  pub graph : GraphValue
+  pub read : Gave 0 1 bytes before after
+  pub file : IsFileOf bytes graph
+  pub vertices_are : vertices ≡ graph.vertices
+  pub wanted_is : wanted ≡ old.vertices
+  pub differ : vertices ≢ wanted
+  pub some_before : 0 < old.files
+
+-- what one more file did to the parts: it was added, or refused for what it says, for another number of vertices or for
+-- want of memory
+abbrev pub Adds : PartsValue → Result PartsValue PartFault → SourceState → SourceState → Type 0
+Adds old (Ok new) = IsAdded old new
+Adds old (Err (part.Read why)) = IsReadOf MAX_BYTES (Err why)
+Adds old (Err (part.OtherVertices vertices wanted)) = HasOtherVertices vertices wanted old
+
+-- the answer is the first fault of the bytes, or that memory was refused in reading
+abbrev pub IsFirstFaultOfPart : {X : Type 0} → List ℕ → Result X PartFault → Type 0
+IsFirstFaultOfPart bytes (Err (part.Read why)) = IsFirstOf bytes why
+IsFirstFaultOfPart bytes other = ⊥
+
+-- the answer isn't a fault of the file or of its source: where it was not read, memory was refused
+abbrev pub IsNoRefusalOfPart : {X : Type 0} → Result X PartFault → Type 0
+IsNoRefusalOfPart (Err (part.Read why)) = why ≡ read.Memory
+IsNoRefusalOfPart other = ⊤
+
+-- ---- the forest of all
+
+-- this is the graph's forest, whose text went out, and such is its report
+pub record IsWrittenForest (graph : GraphValue) (report : Report) (before after : SinkState) : Type 0 where
+  pub forest : List Link
+  pub least : IsForestOf graph.links forest
+  pub text : Took 0 (forest_text graph.vertices forest) before after
+  pub said : IsPlainReport graph forest report
+
+-- so many bytes of the text of the graph's forest went out before a setback
+pub record IsPartOfForest (graph : GraphValue) (written : ℕ) (before after : SinkState) : Type 0 where
+  pub forest : List Link
+  pub least : IsForestOf graph.links forest
+  pub part : WentOut written (forest_text graph.vertices forest) before after
+
+-- what was done for the forest of a graph, and answered: its text was written, or a part of it; or nothing, for want of
+-- memory alone
+abbrev pub WritesForestOf : GraphValue → Result Report RunFault → SinkState → SinkState → Type 0
+WritesForestOf graph (Ok report) = IsWrittenForest graph report
+WritesForestOf graph (Err (fault.Write written)) = IsPartOfForest graph written
+WritesForestOf graph (Err fault.Memory) = Took 0 []
+WritesForestOf graph (Err other) = λ _ _. ⊥

@@ -1,0 +1,99 @@
+//! Who reads and solves: one thread, or several.
+ghost use Rattle.std.specs.Prelude.{◌≡◌, ◌≤◌, [], length, IfOk};
+ghost use Rattle.std.specs.Thread.{IsSync};
+ghost use Rattle.gr_text.specs.Kept.{IsKeptReadOf};
+ghost use Rattle.links.specs.Forest.{IsForestOf};
+ghost use Rattle.links.specs.Link.{EndsUpTo};
+
+use byte_streams::Source;
+use gr_text::{Graph, Keep, ReadFault, read_graph_kept, read_graph_kept_par};
+use limits::{MAX_BYTES, MAX_VERTICES};
+use link_key::{Link, keep_forest, keep_forest_par};
+use std::alloc::{AllocError, Allocator};
+use std::thread::Threads;
+
+/// Who reads a file, and finds the forest of a list.
+pub trait Crew {
+    // What threads need of whoever makes them.
+    ghost ready: { Type 0 } = { Unit {0} };
+
+    /// The graph of a source, with the links that a keeper keeps, as [`read_graph_kept`] reads it.
+    fn read<K: Keep<A>, S: Source, A: Allocator + Copy>(
+        &self,
+        keeper: &mut K,
+        alloc: A,
+        source: &mut S,
+    ) -> Result<Graph<A>, ReadFault>
+        requires ready { ready }
+        requires keeps { K.ready }
+        requires can { S.can_read source.old }
+        requires none { K.dropped keeper.old ≡ 0 }
+        requires nothing { K.knows keeper.old [] }
+        ensures outcome { IsKeptReadOf K.drops MAX_BYTES (K.dropped keeper.new) result (S.state source.old) (S.state source.new) };
+
+    /// The list, of which the links of its forest alone are kept.
+    fn keep_forest<A: Allocator + Copy>(
+        &self,
+        alloc: A,
+        n: u32,
+        links: Vec<Link, A>,
+    ) -> Result<Vec<Link, A>, AllocError>
+        requires ready { ready }
+        requires few_vertices { n ≤ MAX_VERTICES }
+        requires ends { EndsUpTo n links.items }
+        ensures forest { IfOk result (λ kept. IsForestOf links.items kept.items) }
+        ensures few { IfOk result (λ kept. length kept.items ≤ length links.items) };
+}
+
+/// The caller's thread alone.
+#[derive(Drop)]
+pub struct OneThread;
+
+impl Crew for OneThread {
+    fn read<K: Keep<A>, S: Source, A: Allocator + Copy>(
+        &self,
+        keeper: &mut K,
+        alloc: A,
+        source: &mut S,
+    ) -> Result<Graph<A>, ReadFault> {
+        read_graph_kept(keeper, alloc, source)
+    }
+
+    fn keep_forest<A: Allocator + Copy>(
+        &self,
+        alloc: A,
+        n: u32,
+        links: Vec<Link, A>,
+    ) -> Result<Vec<Link, A>, AllocError> {
+        keep_forest(alloc, n, links)
+    }
+}
+
+/// Up to so many threads.
+#[derive(Drop)]
+pub struct ManyThreads<'a, R> {
+    pub rt: &'a R,
+    pub threads: usize,
+}
+
+impl<'a, R: Threads + Sync> Crew for ManyThreads<'a, R> {
+    ghost ready = { IsSync R.row };
+
+    fn read<K: Keep<A>, S: Source, A: Allocator + Copy>(
+        &self,
+        keeper: &mut K,
+        alloc: A,
+        source: &mut S,
+    ) -> Result<Graph<A>, ReadFault> {
+        read_graph_kept_par(self.rt, self.threads, keeper, alloc, source)
+    }
+
+    fn keep_forest<A: Allocator + Copy>(
+        &self,
+        alloc: A,
+        n: u32,
+        links: Vec<Link, A>,
+    ) -> Result<Vec<Link, A>, AllocError> {
+        keep_forest_par(self.rt, self.threads, alloc, n, links)
+    }
+}

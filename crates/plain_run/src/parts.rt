@@ -1,0 +1,216 @@
+//! Several files as parts of one graph: the forest of all their links together.
+ghost use Rattle.std.specs.Prelude.{◌≡◌, ◌+◌, ◌<◌, ◌≤◌, ◌++◌, ℕ, List, [], length, IfOk, OnOk};
+ghost use Rattle.byte_streams.specs.Streams.{IsFlushed};
+ghost use Rattle.gr_text.specs.Graph.{GraphValue};
+ghost use Rattle.links.specs.Covers.{IsCoveredBy};
+ghost use Rattle.links.specs.Link.{EndsUpTo};
+ghost use Rattle.plain_run.specs.Files.{HasFile, MeansGraph, MeansNothing};
+ghost use Rattle.plain_run.specs.Parts.{Adds, ArePartsOf, IsFirstFaultOfPart, IsNoRefusalOfPart, WritesForestOf, joined_graph};
+
+use crate::crew::Crew;
+use crate::fault::{PartFault, RunFault};
+use crate::keeper::{Keeper, many_links};
+use crate::plain::report_of;
+use crate::report::Report;
+use byte_streams::{Sink, Source};
+use gr_text::{ReadFault, write_forest, write_forest_par};
+use limits::MAX_VERTICES;
+use link_key::{Forest, Link, keep_forest, keep_forest_par};
+use std::alloc::{AllocError, Allocator, Global};
+use std::marker::Model;
+use std::thread::Threads;
+
+/// How many files may be parts of one graph.
+pub const MAX_FILES: u32 = 1 << 16;
+
+/// What is kept of files that were read one after the other, for the forest of all their links together.
+///
+/// Its memory has a bound by the vertices: when the links kept are many, they become their forest, which covers them.
+#[derive(Drop)]
+pub struct Parts<A: Allocator = Global> {
+    vertices: u32,
+    kept: Vec<Link, A>,
+    count: u64,
+    files: u32,
+}
+
+impl<A: Allocator> Model for Parts<A> {
+    ghost use Rattle.plain_run.specs.Parts.{PartsValue, AreLawfulParts};
+
+    ghost Value = { PartsValue };
+
+    ghost view = { λ p. record { vertices = p.vertices; kept = p.kept.items; count = p.count; files = p.files } };
+
+    ghost invariant = { λ p. AreLawfulParts (record { vertices = p.vertices; kept = p.kept.items; count = p.count; files = p.files }) };
+}
+
+// The links kept of some lists with those of one more; where they are many, their forest.
+fn join_lists<C: Crew, A: Allocator + Copy>(
+    crew: &C,
+    n: u32,
+    mut kept: Vec<Link, A>,
+    more: &[Link],
+) -> Result<Vec<Link, A>, AllocError>
+    requires ready { C.ready }
+    requires few_vertices { n ≤ MAX_VERTICES }
+    requires ends { EndsUpTo n kept.items }
+    requires more_ends { EndsUpTo n more.now }
+    ensures ends { IfOk result (λ all. EndsUpTo n all.items) }
+    ensures cover { IfOk result (λ all. IsCoveredBy (kept.items ++ more.now) all.items) }
+    ensures few { IfOk result (λ all. length all.items ≤ length kept.items + length more.now) }
+{
+    kept.extend_from_slice(more)?;
+    if kept.len() < many_links(n as usize) {
+        return Ok(kept);
+    }
+    let alloc = *kept.allocator();
+    let forest = crew.keep_forest(alloc, n, kept)?;
+    Ok(forest)
+}
+
+impl<A: Allocator + Copy> Parts<A> {
+    /// No file yet.
+    pub fn new(alloc: A) -> Self
+        ensures none { ArePartsOf [] result }
+        ensures files { result.files ≡ 0 }
+    {
+        Parts {
+            vertices: 0,
+            kept: Vec::new(alloc),
+            count: 0,
+            files: 0,
+        }
+    }
+
+    /// How many files were added.
+    pub fn files(&self) -> u32
+        ensures { result ≡ self.now.files }
+    {
+        self.files
+    }
+
+    /// Reads one more file of at most [`limits::MAX_BYTES`] bytes, whose arcs come to those of the files before it.
+    ///
+    /// It has to name their number of vertices. At a fault all is dropped. It takes the time and the memory of
+    /// [`run_plain`](crate::run_plain), but for the writing, and memory for the links kept of the files before.
+    pub fn add<C: Crew, S: Source>(self, crew: &C, source: &mut S) -> Result<Self, PartFault>
+        requires ready { C.ready }
+        requires source { S.can_read source.old }
+        requires room { self.files < MAX_FILES }
+
+        // The source was read to its end and its graph became the last of those that the parts stand for, or the fault says
+        // why it didn't.
+        ensures added { Adds self result (S.state source.old) (S.state source.new) }
+        ensures files { IfOk result (λ parts. parts.files ≡ self.files + 1) }
+
+        // So a file that means nothing is refused by its first fault, where no read fails; one that means a graph is
+        // refused for its number of vertices alone.
+        ensures malformed { (bytes : List ℕ) → HasFile bytes (S.state source.old) (S.state source.new)
+            → MeansNothing bytes → IsFirstFaultOfPart bytes result }
+        ensures lawful { (bytes : List ℕ) → HasFile bytes (S.state source.old) (S.state source.new)
+            → MeansGraph bytes → IsNoRefusalOfPart result }
+    {
+        let Parts {
+            vertices,
+            kept,
+            count,
+            files,
+        } = self;
+        let alloc = *kept.allocator();
+        let mut keeper = Keeper::new(crew);
+        let graph = match crew.read(&mut keeper, alloc, source) {
+            Ok(graph) => graph,
+            Err(fault) => return Err(PartFault::Read(fault)),
+        };
+        let n = graph.n();
+        if files > 0 && n != vertices {
+            return Err(PartFault::OtherVertices {
+                vertices: n,
+                wanted: vertices,
+            });
+        }
+        let links = graph.into_links();
+        let read = keeper.dropped + links.len() as u64;
+        match join_lists(crew, n, kept, links.as_slice()) {
+            Ok(kept) => Ok(Parts {
+                vertices: n,
+                kept,
+                count: count + read,
+                files: files + 1,
+            }),
+            Err(AllocError) => Err(PartFault::Read(ReadFault::Memory)),
+        }
+    }
+
+    /// Writes the text of the forest of all links of the files, as [`run_plain`](crate::run_plain) writes that of one file's
+    /// links. Without a file it writes that of the graph of no vertices.
+    pub fn write<W: Sink>(self, sink: &mut W) -> Result<Report, RunFault>
+        requires sink { W.can_write sink.old }
+
+        // Exactly the text of the forest of the files' links went out, one file's after the other's, or a part of it, or
+        // nothing for want of memory. The links of all files are counted.
+        ensures written { (graphs : List GraphValue) → ArePartsOf graphs self
+            → WritesForestOf (joined_graph self.vertices graphs) result (W.state sink.old) (W.state sink.new) }
+
+        // Then no byte of a sink that knows which wait for a flush does, and it can be written again.
+        ensures flushed { OnOk result (IsFlushed (W.unflushed sink.new)) }
+        ensures again { OnOk result (W.can_write sink.new) }
+    {
+        let Parts {
+            vertices,
+            kept,
+            count,
+            ..
+        } = self;
+        let alloc = *kept.allocator();
+        let Ok(links) = keep_forest(alloc, vertices, kept) else {
+            return Err(RunFault::Memory);
+        };
+        let forest = Forest::of_ascending(links);
+        match write_forest(sink, vertices, &forest) {
+            Ok(_) => Ok(report_of(vertices, count, &forest)),
+            Err(fault) => Err(RunFault::Write {
+                written: fault.written,
+            }),
+        }
+    }
+
+    /// Writes it by up to `threads` threads, as [`run_threads`](crate::run_threads) does.
+    pub fn write_threads<R: Threads + Sync, W: Sink>(
+        self,
+        rt: &R,
+        threads: usize,
+        sink: &mut W,
+    ) -> Result<Report, RunFault>
+    where
+        A: Send + Sync,
+        requires sink { W.can_write sink.old }
+
+        // Exactly the text of the forest of the files' links went out, one file's after the other's, or a part of it, or
+        // nothing for want of memory. The links of all files are counted.
+        ensures written { (graphs : List GraphValue) → ArePartsOf graphs self
+            → WritesForestOf (joined_graph self.vertices graphs) result (W.state sink.old) (W.state sink.new) }
+
+        // Then no byte of a sink that knows which wait for a flush does, and it can be written again.
+        ensures flushed { OnOk result (IsFlushed (W.unflushed sink.new)) }
+        ensures again { OnOk result (W.can_write sink.new) }
+    {
+        let Parts {
+            vertices,
+            kept,
+            count,
+            ..
+        } = self;
+        let alloc = *kept.allocator();
+        let Ok(links) = keep_forest_par(rt, threads, alloc, vertices, kept) else {
+            return Err(RunFault::Memory);
+        };
+        let forest = Forest::of_ascending(links);
+        match write_forest_par(rt, threads, alloc, sink, vertices, &forest) {
+            Ok(_) => Ok(report_of(vertices, count, &forest)),
+            Err(fault) => Err(RunFault::Write {
+                written: fault.written,
+            }),
+        }
+    }
+}
