@@ -3,7 +3,6 @@ ghost use Rattle.std.specs.Prelude.{◌≡◌, ℕ, ◌<◌, ◌≤◌, ◌^◌,
 ghost use Rattle.limits.specs.declared.TheConstants.{MAX_SHARDS, MAX_VERTICES, MAX_WORKERS};
 ghost use Rattle.links.specs.Link.{EndsUpTo};
 ghost use Rattle.round_core.specs.Picks.{AreNoPicks};
-ghost use Rattle.round_core.specs.Solver.{IsAtStart};
 ghost use Rattle.round_core.specs.declared.solver.SolveFault.TheVariants.{Memory};
 ghost use Rattle.port_rounds.specs.Lanes.{IsIdle};
 ghost use Rattle.port_rounds.specs.Bounds.{CanAskRound, CanRun};
@@ -17,13 +16,9 @@ use links::{Cut, Forest};
 use plain_run::Report;
 use round_core::{Picks, SolveFault, Solver, Turn};
 use round_theory::Port;
-use std::alloc::{AllocError, Allocator};
+use std::alloc::Allocator;
 use std::sync::Wait;
-use std::thread;
 use std::thread::Threads;
-
-// Of fewer vertices than these one thread makes all.
-const FEW_VERTICES: u32 = 1 << 17;
 
 impl<
     'a,
@@ -72,7 +67,8 @@ impl<
         ensures fault { IfErr result (IsSolveFault P.Port n cut.now self.old.lanes.now self.new.lanes.now) }
         ensures same_lanes { self.new.lanes.ghost_name ≡ self.old.lanes.ghost_name }
     {
-        let (mut solver, picks) = begin(self.rt, alloc, n)?;
+        let mut solver = Solver::new(alloc, n)?;
+        let picks = Picks::empty(alloc);
         let mut reused = Reused { alloc, picks };
         let mut alone = 0;
         let rt = self.rt;
@@ -114,58 +110,6 @@ impl<
         let report = report_of(cut, shards, n, &forest, counts);
         Ok((forest, report))
     }
-}
-
-// A solver at its start, and picks of which there is none.
-fn begin<R: Threads + Sync, A: Allocator + Copy + Send + Sync>(
-    rt: &R,
-    alloc: A,
-    n: u32,
-) -> Result<(Solver<A>, Picks<A>), AllocError>
-    requires { n ≤ MAX_VERTICES }
-    ensures start { IfOk result (λ r. IsAtStart n r.0) }
-    ensures none { IfOk result (λ r. AreNoPicks r.1) }
-{
-    if n < FEW_VERTICES {
-        let solver = Solver::new(alloc, n)?;
-        return Ok((solver, Picks::empty(alloc)));
-    }
-    begin_by_two(rt, alloc, n)
-}
-
-// A solver at its start, whose labels keep their bytes where there is memory for them.
-fn spelled_solver<A: Allocator + Copy>(alloc: A, n: u32) -> Result<Solver<A>, AllocError>
-    requires { n ≤ MAX_VERTICES }
-    ensures { IfOk result (IsAtStart n) }
-{
-    let mut solver = Solver::new(alloc, n)?;
-    let _ = solver.spell_labels();
-    Ok(solver)
-}
-
-// The same with room for the picks, made by a second thread: to touch so much memory for the first time takes longer than
-// what is written there.
-fn begin_by_two<R: Threads + Sync, A: Allocator + Copy + Send + Sync>(
-    rt: &R,
-    alloc: A,
-    n: u32,
-) -> Result<(Solver<A>, Picks<A>), AllocError>
-    requires { n ≤ MAX_VERTICES }
-    ensures start { IfOk result (λ r. IsAtStart n r.0) }
-    ensures none { IfOk result (λ r. AreNoPicks r.1) }
-    ensures room { IfOk result (λ r. length r.1 ≡ n) }
-{
-    let (solver, picks) = thread::join(
-        rt,
-        move || -> Result<Solver<A>, AllocError>
-            requires { n ≤ MAX_VERTICES }
-            ensures { IfOk result (IsAtStart n) }
-        { spelled_solver(alloc, n) },
-        move || -> Result<Picks<A>, AllocError>
-            ensures { IfOk result (λ picks. AreNoPicks picks × (length picks ≡ n)) }
-        { Picks::none(alloc, n) },
-    );
-    Ok((solver?, picks?))
 }
 
 /// A spanning forest of the cut's links, by what the lanes' ports answer and, where none is open, by the coordinator's own

@@ -2,7 +2,6 @@ pub mod Counts
 pub mod PickNumbers
 pub mod Clearing
 pub mod Books
-pub mod Halves
 pub mod Honest
 pub mod HookWalks
 pub mod Full
@@ -16,5 +15,4 @@ pub mod Missing
 pub mod WholeCuts
 pub mod WholeRounds
 pub mod Worked
-pub mod LookedUp
 pub mod OwnPicks

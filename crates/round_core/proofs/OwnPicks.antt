@@ -1,12 +1,13 @@
 -- Picks that are found by the components for which links are offered.
-use Rattle.std.proofs.Common.{◌≡◌, ℕ, ◌+◌, ◌-◌, ◌<◌, ◌≤◌, ◌⊎◌, ◌↔◌, ◌^◌, min, pos, true, false, List, [], ◌∷◌, ◌++◌, length, map, get_or, set, Contains, Some, None, refl, sym, ap, ◌∙◌, subst, inl, inr, eq-eqb, ne_eqb, arith}
+use Rattle.std.proofs.Common.{◌≡◌, ℕ, ◌+◌, ◌-◌, ◌<◌, ◌≤◌, ◌⊎◌, ◌↔◌, ◌^◌, min, pos, true, false, List, [], ◌∷◌, ◌++◌, length, take, drop, map, get_or, set, Contains, Some, None, refl, sym, ap, ◌∙◌, subst, inl, inr, eq-eqb, ne_eqb, arith}
 use Rattle.std.specs.Prelude.{Option, All, IsSomeAnd, slice_get, ◌+ℤ◌}
 use Rattle.std.proofs.lemmas.Int.{ints}
 use Rattle.std.specs.List.{list_all}
 use Rattle.std.specs.Option.{option_to_list}
 use Rattle.std.proofs.lemmas.Bool.{cases_lt, cases_eq}
 use Rattle.std.proofs.lemmas.Option.{slice_get_cases, slice_get_read}
-use Rattle.std.proofs.lemmas.List.{length-map, get_or-map, get_or_default, get_or-set_same, get_or-set_other}
+use Rattle.std.proofs.lemmas.Grind.{flat_map-append}
+use Rattle.std.proofs.lemmas.List.{length-map, get_or-map, get_or_default, get_or-set_same, get_or-set_other, take-append-drop}
 use Rattle.std.proofs.lemmas.List.Elements.{All-contains_itself, Contains-append_left, Contains-append_right, Contains-push_cases}
 use Rattle.links.specs.declared.links.Link.{Link}
 use Rattle.links.specs.Link.{IsBelow, EndsUpTo}
@@ -27,8 +28,6 @@ use Rattle.round_core.specs.Picks.{pick_of, IsPickOf, ArePicks}
 use Rattle.round_core.specs.PickNumbers.{IsKeyNumber, no_pick, IsPickNumber, pick_in}
 use Rattle.round_core.specs.BookValue.{is_leaving, is_offer, named_links, all_named, IsRight, CanCount}
 use Rattle.round_core.proofs.PickNumbers.{pick_at, no_pick_is_none, key_is_pick, key_below_no_pick, below_is_less}
-use Rattle.round_core.specs.LookedUp.{IsLookedUp}
-use Rattle.round_core.specs.declared.picks.LookedUp.{LookedUp}
 use Rattle.round_core.specs.OwnPicks.{IsPlaced, IsOfferedBy, IsOfferedIn, AreTakenFrom, AreOwnPicks, IsBounded, IsCountedIn, AreCountedIn}
 
 -- an offer offers the link at its place
@@ -129,6 +128,11 @@ counted_both labels picks front back whole is = (
   ),
 )
 
+-- what the first offers name and what the rest do stand one behind the other
+pub offers_in_halves : (links : List Link) (offers : List Offer) (n : ℕ) → named_links links (take n offers) ++ named_links links (drop n offers) ≡ named_links links offers
+offers_in_halves links offers n =
+    sym (flat_map-append (λ (o : Offer). option_to_list (slice_get links o.1)) (take n offers) (drop n offers)) ∙ ap (named_links links) (take-append-drop n offers)
+
 -- so it is with the pick of a label, whose number stands among those of all
 pub bounded_at : (numbers : List ℕ) (picks : List (Option Link)) (c x m : ℕ) (l : Link) → map pick_in numbers ≡ picks → All IsPickNumber numbers → c - 1 < length numbers → x ≡ get_or numbers (c - 1) x → IsKeyNumber l m
     → (x ≤ m) ↔ IsBounded picks c l
@@ -137,18 +141,6 @@ bounded_at numbers picks c x m l picks_are all lt at key =
     let bounded = bounded_by x m l (subst IsPickNumber (sym at) (all (c - 1) x lt)) key in
     let P : Option Link → Type 0 = λ pick. IsSomeAnd pick (λ p. ¬ IsBelow l p) in
     (λ le. subst P (sym here) (bounded.0 le), λ is. bounded.1 (subst P here is))
-
--- the numbers at both labels of a link that was looked up
-pub counted_at : (numbers : List ℕ) (picks : List (Option Link)) (labels : List ℕ) (l : Link) (f : LookedUp) (x y : ℕ) → map pick_in numbers ≡ picks → All IsPickNumber numbers → f.low - 1 < length numbers → f.high - 1 < length numbers
-    → x ≡ get_or numbers (f.low - 1) x → y ≡ get_or numbers (f.high - 1) y → IsLookedUp labels l f → ((x ≤ f.number) × (y ≤ f.number)) ↔ IsCountedIn labels picks l
-counted_at numbers picks labels l f x y picks_are all low_in high_in x_is y_is is =
-    let low = bounded_at numbers picks f.low x f.number l picks_are all low_in x_is is.number in
-    let high = bounded_at numbers picks f.high y f.number l picks_are all high_in y_is is.number in
-    let at_low : IsBounded picks f.low l → IsBounded picks (label_of labels l.low) l = subst (λ c. IsBounded picks c l) is.low in
-    let at_high : IsBounded picks f.high l → IsBounded picks (label_of labels l.high) l = subst (λ c. IsBounded picks c l) is.high in
-    let of_low : IsBounded picks (label_of labels l.low) l → IsBounded picks f.low l = subst (λ c. IsBounded picks c l) (sym is.low) in
-    let of_high : IsBounded picks (label_of labels l.high) l → IsBounded picks f.high l = subst (λ c. IsBounded picks c l) (sym is.high) in
-    (λ les. (at_low (low.0 les.0), at_high (high.0 les.1)), λ both. (low.1 (of_low both.0), high.1 (of_high both.1)))
 
 -- ---- they are the picks of all links
 

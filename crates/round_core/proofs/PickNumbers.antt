@@ -175,6 +175,9 @@ module _ (labels numbers : List ℕ) (l : Link) (m x y x' y' : ℕ) (are : AreLa
   second : IsPickNumber y' × IsLesserOf (pick_in y) l (pick_in y')
   second = subst (λ k. IsPickNumber k × IsLesserOf (pick_in y) l (pick_in k)) (sym y'_is) (lesser_is_min y m l (subst IsPickNumber (sym y_is) (all_once b y b_once)) m_is)
 
+  pub numbers_counted : All IsPickNumber counted_numbers
+  numbers_counted = All-set IsPickNumber once b y' second.0 all_once
+
   picks_once : map pick_in once ≡ set (map pick_in numbers) a (pick_in x')
   picks_once = map-set pick_in numbers a x'
 

@@ -5,6 +5,5 @@ pub mod Roots
 pub mod Solver
 pub mod SolverLaws
 pub mod Examples
-pub mod LookedUp
 pub mod OwnPicks
 pub mod EndLabels

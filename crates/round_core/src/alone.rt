@@ -10,7 +10,7 @@ ghost use Rattle.round_core.specs.Solver.{vertices, HasRoundsOf, IsRoundOf};
 ghost use Rattle.round_core.specs.declared.solver.SolveFault.TheVariants.{Memory};
 
 use crate::end_labels::EndLabels;
-use crate::picks::{Picks, look_up};
+use crate::picks::Picks;
 use crate::solver::{SolveFault, Solver, Turn};
 use limits::MAX_VERTICES;
 use links::{Cut, Forest, Link};
@@ -74,7 +74,7 @@ fn count_leaving<A: Allocator>(picks: &mut Picks<A>, labels: &EndLabels, links: 
         let low = labels.of(link.low);
         let high = labels.of(link.high);
         if low != high {
-            picks.count_found(look_up(labels, *link));
+            picks.count(labels, *link);
         }
     }
 }

@@ -1,5 +1,6 @@
 ghost use Rattle.std.specs.Prelude.{◌≡◌, ◌≤◌, ◌↔◌, length, IsTrue};
 ghost use Rattle.links.specs.Labels.{label_of, AreLabels, AreApart};
+ghost use Rattle.round_theory.specs.Labelling.{IsVertex};
 
 use std::marker::Model;
 
@@ -40,6 +41,7 @@ impl<'a> EndLabels<'a> {
         requires from_one { 1 ≤ vertex }
         requires to_n { vertex ≤ length self.now }
         ensures label { result ≡ label_of self.now vertex }
+        ensures vertex { IsVertex (length self.now) result }
     {
         if self.apart {
             return vertex;

@@ -5,7 +5,6 @@ ghost use Rattle.round_theory.specs.Labelling.{IsVertex};
 ghost use Rattle.round_core.specs.Picks.{pick_of, AreNoPicks, HaveAllPicks, ArePicks, Counts};
 ghost use Rattle.round_core.specs.OwnPicks.{IsPlaced, IsOfferedIn, AreOwnPicks, IsCountedIn};
 ghost use Rattle.round_core.specs.PickNumbers.{IsKeyNumber, IsPickNumber, AreCleared, pick_in};
-ghost use Rattle.round_core.specs.LookedUp.{IsLookedUp, IsCountable, CountsFound, CountsEach};
 
 use crate::end_labels::EndLabels;
 use crate::own_picks::take_by_parts;
@@ -151,39 +150,32 @@ impl<A: Allocator> Picks<A> {
         pick_of_number(self.numbers[before])
     }
 
-    // Counts each link that was looked up.
-    pub(crate) fn count_each(&mut self, found: &[LookedUp])
-        requires within { All (IsCountable (length self.old)) found.now }
-        ensures each_vertex { length self.new ≡ length self.old }
-        ensures picks { CountsEach found.now self.old self.new }
-    {
-        for one in found {
-            self.count_found(*one);
-        }
-    }
-
-    // Whether the link that was looked up is below the pick of neither of its components.
+    // Whether the link is below the pick of neither of its components.
     #[inline]
-    pub(crate) fn have_counted(&self, found: LookedUp) -> bool
-        requires within { IsCountable (length self.now) found }
-        ensures { (labels : List ℕ) (l : TheLink) → IsLookedUp labels l found → IsTrue result ↔ IsCountedIn labels self.now l }
+    pub(crate) fn have_counted(&self, labels: &EndLabels, link: Link) -> bool
+        requires each_vertex { length self.now ≡ length labels.now }
+        requires ends { link.high ≤ length labels.now }
+        ensures { IsTrue result ↔ IsCountedIn labels.now self.now link }
     {
-        let number = found.number;
-        let low = found.low as usize - 1;
-        let high = found.high as usize - 1;
+        let number = key_number(link);
+        let low = labels.of(link.low) as usize - 1;
+        let high = labels.of(link.high) as usize - 1;
         self.numbers[low] <= number && self.numbers[high] <= number
     }
 
-    // Counts a link that was looked up for both of the components that it leaves.
+    // Counts a link for both of the components that it leaves.
     #[inline]
-    pub(crate) fn count_found(&mut self, found: LookedUp)
-        requires within { IsCountable (length self.old) found }
+    pub(crate) fn count(&mut self, labels: &EndLabels, link: Link)
+        requires labels { AreLabels labels.now }
+        requires each_vertex { length self.old ≡ length labels.now }
+        requires ends { link.high ≤ length labels.now }
+        requires leaving { label_of labels.now link.low ≢ label_of labels.now link.high }
         ensures each_vertex { length self.new ≡ length self.old }
-        ensures picks { CountsFound found self.old self.new }
+        ensures picks { Counts labels.now (link ∷ []) self.old self.new }
     {
-        let number = found.number;
-        let low = found.low as usize - 1;
-        let high = found.high as usize - 1;
+        let number = key_number(link);
+        let low = labels.of(link.low) as usize - 1;
+        let high = labels.of(link.high) as usize - 1;
         self.numbers[low] = self.numbers[low].min(number);
         self.numbers[high] = self.numbers[high].min(number);
     }
@@ -214,38 +206,6 @@ fn fill_up<A: Allocator>(numbers: &mut Vec<u128, A>, count: usize) -> Result<(),
     ensures each { OnOk result (length numbers.new.items ≡ count) }
 {
     numbers.resize(count, NO_PICK)
-}
-
-// What is to be known of a link before it is counted: the number of its key, and the labels of its ends.
-#[derive(Clone, Copy)]
-pub(crate) struct LookedUp {
-    number: u128,
-    low: u32,
-    high: u32,
-}
-
-impl LookedUp {
-    // What stands where no link was looked up yet.
-    pub(crate) const BLANK: LookedUp = LookedUp {
-        number: NO_PICK,
-        low: 0,
-        high: 0,
-    };
-}
-
-// Looks up a link.
-#[inline]
-pub(crate) fn look_up(labels: &EndLabels, link: Link) -> LookedUp
-    requires labels { AreLabels labels.now }
-    requires ends { link.high ≤ length labels.now }
-    requires leaving { label_of labels.now link.low ≢ label_of labels.now link.high }
-    ensures { IsLookedUp labels.now link result }
-{
-    LookedUp {
-        number: key_number(link),
-        low: labels.of(link.low),
-        high: labels.of(link.high),
-    }
 }
 
 // Whether each number is that of no pick.

@@ -1,7 +1,6 @@
 //! A shard that is kept, and which of its links are live.
 ghost use Rattle.std.specs.Prelude.{◌≡◌, ◌≤◌, ◌↔◌, length, IfOk, IsTrue};
 ghost use Rattle.links.specs.Link.{EndsUpTo};
-ghost use Rattle.round_theory.specs.Offers.{AreLightOffers};
 ghost use Rattle.shard_scans.specs.Live.{IsLive, IsAllLive, IsGreatestEnd, AreOffersOf};
 
 use crate::listed::Listed;
@@ -85,29 +84,15 @@ impl<A: Allocator + Copy> KeptShard<A> {
         if !self.has_ends_up_to(labels.n()) {
             return Ok(None);
         }
-        let offers = self.scan(scanner, labels)?;
-        Ok(Some(offers))
-    }
-
-    fn scan(
-        &mut self,
-        scanner: &mut Scanner<A>,
-        labels: &Labels<A>,
-    ) -> Result<Offers<A>, AllocError>
-        requires ends { EndsUpTo (length labels.now) self.old.links }
-        requires live { IsLive labels.now self.old }
-        ensures light { IfOk result (AreLightOffers self.old.links labels.now) }
-        ensures links { self.new.links ≡ self.old.links }
-        ensures live { IsLive labels.now self.new }
-    {
         if let Some(listed) = &mut self.live {
-            return scanner.scan_listed(self.links.as_slice(), listed, labels);
+            let offers = scanner.scan_listed(self.links.as_slice(), listed, labels)?;
+            return Ok(Some(offers));
         }
         let (offers, mut listed) = scanner.scan_and_list(self.links.as_slice(), labels)?;
         listed.shrink();
         self.live = Some(listed);
         self.scanned = true;
-        Ok(offers)
+        Ok(Some(offers))
     }
 }
 

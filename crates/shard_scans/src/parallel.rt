@@ -27,23 +27,6 @@ pub(crate) fn halvings_of<R: Threads>(rt: &R, count: usize, labels: usize) -> us
     parts.ilog2() as usize
 }
 
-// What a table keeps for all links to be scanned.
-pub(crate) fn best_of_all<R: Threads + Sync, A: Allocator + Copy + Send + Sync>(
-    rt: &R,
-    alloc: A,
-    scanned: Scanned,
-    halvings: usize,
-) -> Result<Table<A>, AllocError>
-    requires can { CanScan scanned }
-    ensures best { IfOk result (AreBest scanned.entry.links.now scanned.entry.labels.now 0 (length scanned.entry.links.now)) }
-{
-    let whole = Part {
-        from: 0,
-        to: scanned.links.len(),
-    };
-    best_between(rt, alloc, scanned, whole, halvings)
-}
-
 // What a table keeps for a part of the links to be scanned. It is halved so many times, or until a half has few links, and
 // one half goes to a thread of its own where one can be made.
 #[cycle(halves)]

@@ -11,7 +11,7 @@ use crate::by_numbers::offers_of_listed;
 use crate::listed::Listed;
 use crate::live::{LiveLink, label_at, write_live};
 use crate::numbers::{Numbers, mark_each, mark_names};
-use crate::parallel::{best_of_all, halvings_of};
+use crate::parallel::{best_between, halvings_of};
 use crate::parts::{Part, Scanned};
 use crate::table::Table;
 use limits::MAX_SHARD_LINKS;
@@ -153,11 +153,11 @@ impl<A: Allocator + Copy> Scanner<A> {
 impl<A: Allocator + Copy + Send + Sync> Scanner<A> {
     /// The same offers as [`scan`](Scanner::scan) gives, by threads, as [`scan_par`] has it. The only error is want of
     /// memory, and a scanner goes on after it as before.
-    pub fn scan_par<R: Threads + Sync, B: Allocator>(
+    pub fn scan_par<'a, R: Threads + Sync, B: Allocator>(
         &mut self,
         rt: &R,
-        links: &[Link],
-        labels: &Labels<B>,
+        links: &'a [Link],
+        labels: &'a Labels<B>,
     ) -> Result<Offers<A>, AllocError>
         requires few_links { length links.now ≤ MAX_SHARD_LINKS }
         requires ends { EndsUpTo (length labels.now) links.now }
@@ -167,42 +167,17 @@ impl<A: Allocator + Copy + Send + Sync> Scanner<A> {
         if halvings == 0 {
             return self.scan(links, labels);
         }
-        self.scan_halved(rt, links, labels, halvings)
+        let scanned = Scanned {
+            links,
+            labels: labels.as_slice(),
+        };
+        let whole = Part {
+            from: 0,
+            to: links.len(),
+        };
+        let table = best_between(rt, self.table.allocator(), scanned, whole, halvings)?;
+        Ok(Offers::of_known(table.gather()?))
     }
-
-    // The same offers, by the labels themselves, of links that are halved so many times.
-    fn scan_halved<'a, R: Threads + Sync, B: Allocator>(
-        &self,
-        rt: &R,
-        links: &'a [Link],
-        labels: &'a Labels<B>,
-        halvings: usize,
-    ) -> Result<Offers<A>, AllocError>
-        requires few_links { length links.now ≤ MAX_SHARD_LINKS }
-        requires ends { EndsUpTo (length labels.now) links.now }
-        ensures light { IfOk result (AreLightOffers links.now labels.now) }
-    {
-        let labels = labels.as_slice();
-        let alloc = self.table.allocator();
-        let scanned = Scanned { links, labels };
-        let table = best_of_all(rt, alloc, scanned, halvings)?;
-        offers_of(links, labels, &table)
-    }
-}
-
-// The offers of a table.
-fn offers_of<A: Allocator + Copy>(
-    links: &[Link],
-    labels: &[u32],
-    table: &Table<A>,
-) -> Result<Offers<A>, AllocError>
-    requires few_links { length links.now ≤ MAX_SHARD_LINKS }
-    requires ends { EndsUpTo (length labels.now) links.now }
-    requires labels { AreLabels labels.now }
-    requires best { AreBest links.now labels.now 0 (length links.now) table.now }
-    ensures light { IfOk result (AreLightOffers links.now labels.now) }
-{
-    Ok(Offers::of_known(table.gather()?))
 }
 
 // The pass over a part of the links.

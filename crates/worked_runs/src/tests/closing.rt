@@ -241,16 +241,6 @@ fn few_offers(rt: HostRuntime) {
     expect_least(&rt, rt.alloc(), 9, &[8, 3, 8], &[2, 1, 0])
 }
 
-// As many as are looked up at a time, and one fewer or more, and as many as two or three times.
-#[test]
-fn whole_batches_and_odd_ones(rt: HostRuntime) {
-    let counts = [63, 64, 65, 127, 128, 129, 192, 193];
-    expect_least(&rt, rt.alloc(), 194, &counts, &[0, 1, 2, 3, 4, 5, 6, 7]);
-    for count in counts {
-        expect_least(&rt, rt.alloc(), 194, &[count], &[0]);
-    }
-}
-
 #[test]
 fn no_offer(rt: HostRuntime) {
     expect_least(&rt, rt.alloc(), 5, &[0, 0], &[1, 0])

@@ -13,7 +13,7 @@ use std::alloc::Allocator;
 use std::thread::Threads;
 
 impl<A: Allocator + Copy + Send + Sync> Engine<A> {
-    // Hears the next frame of a stream as `hear_or_fault_par` hears it. An ask under the labels of the last one is replied
+    // Hears the next frame of a stream as `hear_or_fault` hears it, but that it scans by threads. An ask under the labels of the last one is replied
     // to by those that are kept, without a copy or a look at them, and one under labels that coarsen them, as they were seen to
     // while they came, leaves the lists of live links as they are.
     pub(crate) fn hear_next<R: Threads + Sync, S: Source>(
@@ -59,7 +59,20 @@ impl<A: Allocator + Copy + Send + Sync> Engine<A> {
                 );
                 Ok(Some(asked.reply_or_fault(reply)))
             }
-            Ok(NextFrame::Other(frame)) => match self.hear_or_fault_par(rt, frame) {
+            Ok(
+                NextFrame::Other(
+                    Frame::Ask {
+                        round,
+                        shard,
+                        labels,
+                    },
+                ),
+            ) => {
+                let other = Ask { round, shard };
+                let reply = self.reply_par(rt, other, labels);
+                Ok(Some(other.reply_or_fault(reply)))
+            }
+            Ok(NextFrame::Other(frame)) => match self.hear(frame) {
                 Ok(reply) => Ok(reply),
                 Err(_) => Err(ServeFault::Memory),
             },

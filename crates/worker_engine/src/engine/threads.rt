@@ -3,7 +3,7 @@ ghost use Rattle.std.specs.Prelude.{◌≡◌, IsSome, IfOk, OnOk, OnErr};
 ghost use Rattle.frames.specs.FrameValue.{value_of};
 ghost use Rattle.frames.specs.Lawful.{IsLawful, IsAsk};
 ghost use Rattle.frames.specs.FrameStream.{AreLawful};
-ghost use Rattle.worker_replies.specs.Serving.{shelf_of, shelf_with, IsReply, MayWantMemory, AreReplyTo, MayFollow, IsShardFrame, replies_in};
+ghost use Rattle.worker_replies.specs.Serving.{shelf_of, shelf_with, IsReply, MayWantMemory, AreReplyTo, replies_in};
 ghost use Rattle.worker_engine.specs.Shelves.{shelf_list, AreAllUnder};
 
 use super::{Ask, Engine, NOT_KEPT, make_live};
@@ -45,34 +45,8 @@ impl<A: Allocator + Copy + Send + Sync> Engine<A> {
         }
     }
 
-    // Hears one frame as `hear_or_fault` does, but that it scans by threads.
-    pub(super) fn hear_or_fault_par<R: Threads + Sync>(
-        &mut self,
-        rt: &R,
-        frame: Frame<A>,
-    ) -> Result<Option<Frame<A>>, AllocError>
-        requires lawful { IsLawful (value_of frame) }
-        ensures shelf { OnOk result (shelf_of self.new ≡ shelf_with (shelf_of self.old) (value_of frame)) }
-        ensures reply { IfOk result (λ reply. MayFollow (shelf_of self.old) (value_of frame) (replies_in reply)) }
-        ensures lawful { IfOk result (λ reply. AreLawful (replies_in reply)) }
-        ensures wants_memory { OnErr result (IsShardFrame (value_of frame)) }
-    {
-        match frame {
-            Frame::Ask {
-                round,
-                shard,
-                labels,
-            } => {
-                let ask = Ask { round, shard };
-                let reply = self.reply_par(rt, ask, labels);
-                Ok(Some(ask.reply_or_fault(reply)))
-            }
-            _ => self.hear(frame),
-        }
-    }
-
     // The reply to an ask, as `reply` gives it, by threads.
-    fn reply_par<R: Threads + Sync>(
+    pub(super) fn reply_par<R: Threads + Sync>(
         &mut self,
         rt: &R,
         ask: Ask,

@@ -1,19 +1,10 @@
-use Rattle.std.proofs.Common.{◌≡◌, ℕ, ◌+◌, ◌++◌, [], ◌∷◌, List, Contains, take, sym, ap, ◌∙◌, subst, append_assoc, take_all, arith}
+use Rattle.std.proofs.Common.{◌≡◌, ◌+◌, ◌++◌, [], ◌∷◌, List, Contains, take, sym, ap, ◌∙◌, subst, append_assoc, take_all, arith}
 use Rattle.std.proofs.lemmas.List.{take_more}
 use Rattle.links.specs.declared.links.Link.{Link}
 use Rattle.round_core.specs.Picks.{ArePicks}
-use Rattle.round_core.specs.LookedUp.{IsCountable}
-use Rattle.round_core.proofs.LookedUp.{countable}
 use Rattle.round_core.proofs.WholeCuts.{picks_stay}
 use Rattle.round_core.proofs.alone.count_leaving.Goals as goal
 use Rattle.round_core.proofs.alone.count_leaving.Goals.{then-low-high, else-low-high}
-
-pub count_found-requires : goal.count_found-requires
-count_found-requires g c = record {
-  within =
-      subst (λ (n : ℕ). IsCountable n c.look_up.result) (sym c.loop-link.invariant.each_vertex)
-      (countable c.args.labels.now c.link-item.result c.look_up.result c.requires.labels c.look_up.ensures);
-}
 
 pub loop-link-preserved : goal.loop-link-preserved
 loop-link-preserved g c =
@@ -25,10 +16,10 @@ loop-link-preserved g c =
     let more : take (i + 1) links ≡ take i links ++ l ∷ [] = take_more links i l c.loop-link-test.true ∙ ap (λ x. take i links ++ x ∷ []) (sym c.link-item.is) in
     elim c.if-low-high.branch [
       | then-low-high w ↦ rw w.picks-is (record {
-        each_vertex = w.count_found.ensures.each_vertex ∙ so_far.each_vertex;
+        each_vertex = w.count.ensures.each_vertex ∙ so_far.each_vertex;
         picks = λ seen are.
             let next = append_assoc seen (take i links) (l ∷ []) ∙ ap (λ xs. seen ++ xs) (sym more) in
-            subst (λ (xs : List Link). ArePicks labels (Contains xs) w.count_found.new.self) next (w.count_found.ensures.picks labels l c.requires.labels so_far.each_vertex w.look_up.ensures (seen ++ take i links) (so_far.picks seen are));
+            subst (λ (xs : List Link). ArePicks labels (Contains xs) w.count.new.self) next (w.count.ensures.picks (seen ++ take i links) (so_far.picks seen are));
       })
       | else-low-high w ↦ rw w.picks-is (record {
         each_vertex = so_far.each_vertex;

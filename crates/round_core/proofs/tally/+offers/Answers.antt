@@ -1,7 +1,6 @@
 use Rattle.std.proofs.Common.{◌≡◌, ◌++◌}
 use Rattle.round_core.specs.BookValue.{named_links}
-use Rattle.round_core.proofs.Halves.{offers_in_halves}
-use Rattle.round_core.proofs.OwnPicks.{counted_both}
+use Rattle.round_core.proofs.OwnPicks.{counted_both, offers_in_halves}
 use Rattle.round_core.proofs.tally.+offers.Goals as goal
 
 pub returns-then-early : goal.returns-then-early

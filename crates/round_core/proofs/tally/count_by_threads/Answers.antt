@@ -6,11 +6,11 @@ use Rattle.round_core.proofs.tally.count_by_threads.Goals as goal
 pub take_own-requires-clause-placed : goal.take_own-requires-clause-placed
 take_own-requires-clause-placed g c κs within = placed_of c.args.cut.now c.args.labels.now c.args.answers.now c.requires.can
 
-pub returns-then-are_counted_by_halves : goal.returns-then-are_counted_by_halves
-returns-then-are_counted_by_halves g c = record {
+pub returns-then-are_counted : goal.returns-then-are_counted
+returns-then-are_counted g c = record {
   picks =
       own_are_picks c.args.cut.now c.args.labels.now c.args.answers.now _ c.requires.can (c.take_own.ensures.each_vertex ∙ c.requires.each_vertex) c.take_own.ensures.own
-      (c.are_counted_by_halves.ensures.0 c.if-are_counted_by_halves.true);
+      (c.are_counted.ensures.0 c.if-are_counted.true);
 }
 
 pub returns : goal.returns

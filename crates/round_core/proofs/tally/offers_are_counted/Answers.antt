@@ -1,38 +1,23 @@
-use Rattle.std.proofs.Common.{◌≡◌, ◌≢◌, ◌+◌, ◌≤◌, ℕ, Contains, true, length, get_or, take, take_all, refl, sym, subst, arith}
+use Rattle.std.proofs.Common.{◌≡◌, ◌+◌, ◌≤◌, Contains, true, length, get_or, take, take_all, refl, sym, subst, arith}
 use Rattle.std.proofs.lemmas.List.{get_or_default}
 use Rattle.std.proofs.lemmas.List.Elements.{All-get_or}
 use Rattle.std.specs.Prelude.{List}
 use Rattle.links.specs.declared.links.Link.{Link}
-use Rattle.links.specs.Labels.{label_of}
 use Rattle.links.specs.Offers.{Offer}
 use Rattle.round_core.specs.BookValue.{named_links}
-use Rattle.round_core.specs.LookedUp.{IsCountable}
 use Rattle.round_core.specs.OwnPicks.{AreCountedIn}
 use Rattle.round_core.proofs.Books.{offer_at, one_more_named}
-use Rattle.round_core.proofs.LookedUp.{countable}
 use Rattle.round_core.proofs.OwnPicks.{offers_at, offered_leaves, counted_more}
 use Rattle.round_core.proofs.tally.offers_are_counted.Goals as goal
 
 pub bounds-links-pair : goal.bounds-links-pair
 bounds-links-pair g c = (offer_at c.args.links.now c.args.labels.now c.args.pairs.now c.loop-pair.pair-index c.loop-pair-test.true c.requires.can.leaving).within
 
-pub look_up-requires-clause-ends : goal.look_up-requires-clause-ends
-look_up-requires-clause-ends g c =
+pub have_counted-requires-clause-ends : goal.have_counted-requires-clause-ends
+have_counted-requires-clause-ends g c =
     let offer = offer_at c.args.links.now c.args.labels.now c.args.pairs.now c.loop-pair.pair-index c.loop-pair-test.true c.requires.can.leaving in
     subst (λ (l : Link). l.high ≤ length c.args.labels.now) (sym c.index-links-pair.is)
     (All-get_or (λ (l : Link). l.high ≤ length c.args.labels.now) c.args.links.now (get_or c.args.pairs.now c.loop-pair.pair-index (0, 0)).1 c.index-links-pair.result offer.within c.requires.can.ends)
-
-pub look_up-requires-clause-leaving : goal.look_up-requires-clause-leaving
-look_up-requires-clause-leaving g c =
-    let offer = offer_at c.args.links.now c.args.labels.now c.args.pairs.now c.loop-pair.pair-index c.loop-pair-test.true c.requires.can.leaving in
-    subst (λ (l : Link). label_of c.args.labels.now l.low ≢ label_of c.args.labels.now l.high) (sym c.index-links-pair.is) (offer.apart c.index-links-pair.result)
-
-pub have_counted-requires : goal.have_counted-requires
-have_counted-requires g c = record {
-  within =
-      subst (λ (n : ℕ). IsCountable n c.look_up.result) (sym c.requires.each_vertex)
-      (countable c.args.labels.now c.index-links-pair.result c.look_up.result c.requires.can.labelled c.look_up.ensures);
-}
 
 pub returns-then-not-have_counted : goal.returns-then-not-have_counted
 returns-then-not-have_counted g c =
@@ -44,8 +29,7 @@ returns-then-not-have_counted g c =
     let o : Offer = get_or pairs i (0, 0) in
     let offer = offer_at links labels pairs i c.loop-pair-test.true c.requires.can.leaving in
     let named : Contains (named_links links pairs) l = (offered_leaves links labels pairs o.0 l c.requires.can.leaving (offers_at links pairs i l c.loop-pair-test.true offer.within c.index-links-pair.is)).0 in
-    let counts = c.have_counted.ensures labels l c.look_up.ensures in
-    (λ no. absurd (cc), λ all. let yes : c.have_counted.result ≡ true = counts.1 (all l named) in cc)
+    (λ no. absurd (cc), λ all. let yes : c.have_counted.result ≡ true = c.have_counted.ensures.1 (all l named) in cc)
 
 pub loop-pair-preserved : goal.loop-pair-preserved
 loop-pair-preserved g c =
@@ -56,9 +40,8 @@ loop-pair-preserved g c =
     let l = c.index-links-pair.result in
     let o : Offer = get_or pairs i (0, 0) in
     let offer = offer_at links labels pairs i c.loop-pair-test.true c.requires.can.leaving in
-    let counts = c.have_counted.ensures labels l c.look_up.ensures in
     counted_more labels c.args.picks.now (named_links links (take i pairs)) (named_links links (take (i + 1) pairs)) l
-    (one_more_named links pairs i o l c.loop-pair-test.true (get_or_default pairs i (0, 0) o c.loop-pair-test.true) offer.within c.index-links-pair.is) c.loop-pair.invariant (counts.0 c.if-not-have_counted.false)
+    (one_more_named links pairs i o l c.loop-pair-test.true (get_or_default pairs i (0, 0) o c.loop-pair-test.true) offer.within c.index-links-pair.is) c.loop-pair.invariant (c.have_counted.ensures.0 c.if-not-have_counted.false)
 
 pub returns : goal.returns
 returns g c =

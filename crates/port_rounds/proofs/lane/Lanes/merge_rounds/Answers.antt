@@ -1,11 +1,11 @@
-use Rattle.std.proofs.Common.{arith, refl, ◌∙◌}
+use Rattle.std.proofs.Common.{length, ap, arith, refl, ◌∙◌}
 use Rattle.std.proofs.lemmas.Result.{err_from_is_err_and}
 use Rattle.port_rounds.proofs.Ending.{asked_none, so_far_none, can_more, alone_few, turned_more, turned_last, turn_fault, asked_then}
 use Rattle.port_rounds.proofs.lane.Lanes.merge_rounds.Goals as goal
 use Rattle.port_rounds.proofs.lane.Lanes.merge_rounds.Goals.{in-None, in-Some+in_ok-turn+in-Done}
 
 pub loop-init : goal.loop-init
-loop-init g c = record { so_far = so_far_none g.P.Port c.args.n c.args.cut.now c.args.self.now.lanes.now c.in_ok-solver.solver c.in_ok-solver.ensures.start; same_lanes = refl; none = c.in_ok-solver.ensures.none }
+loop-init g c = record { so_far = so_far_none g.P.Port c.args.n c.args.cut.now c.args.self.now.lanes.now c.in_ok-solver.solver c.in_ok-solver.ensures; same_lanes = refl; none = λ i d lt. absurd (omega (arith, lt, ap length c.empty-picks.ensures)) }
 
 pub returns-in_err-solver-clause-ports : goal.returns-in_err-solver-clause-ports
 returns-in_err-solver-clause-ports g c = asked_none g.P.Port c.args.n c.args.cut.now c.args.self.now.lanes.now
