@@ -1,10 +1,10 @@
 //! Arcs as C gives them: three columns.
-ghost use Rattle.std.specs.Prelude.{◌≡◌, ◌↔◌, ◌<◌, ◌≤◌, ◌+◌, length, slice_index_or, All, IsTrue, IsSome, IfSome, IfOk};
+ghost use Rattle.std.specs.Prelude.{◌≡◌, ◌↔◌, ◌<◌, ◌≤◌, ◌+◌, length, slice_index, slice_index_or, All, IsTrue, IsSome, IfSome, IfOk};
 ghost use Rattle.limits.specs.declared.TheConstants.{MAX_VERTICES};
 ghost use Rattle.links.specs.Arc.{Arc};
 ghost use Rattle.links.specs.Link.{AreLinksOf, EndsUpTo, arc_key, key_of, is_no_loop};
 ghost use Rattle.gr_text.specs.Graph.{HasEnds};
-ghost use Rattle.boruvka_c.specs.Arcs.{AreColumns, arcs_in};
+ghost use Rattle.boruvka_c.specs.Arcs.{AreColumns, arcs_in, vertex_from};
 
 use limits::MAX_VERTICES;
 use links::Link;
@@ -78,9 +78,8 @@ impl<'a> Arcs<'a> {
         ensures key { IfSome result (λ l. (d : Arc) → key_of l ≡ arc_key (slice_index_or self.now place d)) }
         ensures end { IfSome result (λ l. l.high ≤ n) }
     {
-        let base = self.base;
-        let tail = self.tails[place] - base + 1;
-        let head = self.heads[place] - base + 1;
+        let tail = vertex_at(n, self.base, self.tails, place);
+        let head = vertex_at(n, self.base, self.heads, place);
         Link::of_arc(tail, head, self.weights[place])
     }
 
@@ -100,6 +99,19 @@ impl<'a> Arcs<'a> {
         }
         Ok(links)
     }
+}
+
+// Which of the vertices 1 to n the end at a place is, where they are numbered from base on.
+#[inline]
+fn vertex_at(n: u32, base: u32, ends: &[u32], place: usize) -> u32
+    requires few_vertices { n ≤ MAX_VERTICES }
+    requires ends { All (λ v. (base ≤ v) × (v < base + n)) ends.now }
+    requires in_range { place < length ends.now }
+    ensures vertex { result ≡ vertex_from base (slice_index ends.now place) }
+    ensures from_one { 1 ≤ result }
+    ensures to_n { result ≤ n }
+{
+    ends[place] - base + 1
 }
 
 // Whether each of these is one of the n vertices that are numbered from base on.

@@ -1,7 +1,5 @@
 //! The merges of clusters that links in the caller's memory make.
-ghost use Rattle.std.specs.Prelude.{◌≡◌, ◌≤ℤ◌, pos, length};
-ghost use Rattle.std.specs.Int.Signed.{◌<ℤ◌};
-ghost use Rattle.caller_forests.specs.Merges.{HaveMerges, AreMergesBy, RefusesMerges};
+ghost use Rattle.caller_forests.specs.Merges.{AnswersMerges};
 
 use caller_forests::{GivenLink, put_merges};
 use link_merges::Merge;
@@ -21,14 +19,7 @@ pub extern "C" fn boruvka_merges_in(
     links: &[GivenLink],
     merges: &mut [Merge],
 ) -> i64
-    ensures right { pos 0 ≤ℤ result → HaveMerges n links.now (length merges.old) }
-    ensures found { pos 0 ≤ℤ result → AreMergesBy n links.now merges.new }
-    ensures counted { pos 0 ≤ℤ result → result ≡ pos (length links.now) }
-
-    // Another number of merges than of links, or else too many vertices, or else too many links, or else an end that is no
-    // vertex, or else a loop, or else another cycle or want of memory, or else a link that weighs less than one before it.
-    ensures refused { result <ℤ pos 0 → RefusesMerges n links.now (length merges.old) result }
-    ensures untouched { result <ℤ pos 0 → merges.new ≡ merges.old }
+    ensures { AnswersMerges n links.now merges.old merges.new result }
 {
     put_merges(alloc, n, links, merges)
 }

@@ -1,6 +1,6 @@
 -- The merges of clusters that links in the caller's memory make.
-use Rattle.std.specs.Prelude.{◌≡◌, ◌≢◌, ℕ, ℤ, ◌<◌, ◌≤◌, List, length, AllPairs}
-use Rattle.std.specs.Int.Signed.{◌≤ℤ◌}
+use Rattle.std.specs.Prelude.{◌≡◌, ◌≢◌, ℕ, ℤ, pos, ◌<◌, ◌≤◌, ◌≤ℤ◌, List, length, AllPairs}
+use Rattle.std.specs.Int.Signed.{◌<ℤ◌}
 use Rattle.limits.specs.declared.TheConstants.{MAX_ARCS, MAX_VERTICES}
 use Rattle.link_merges.specs.Merges.{AreMerges}
 use Rattle.link_merges.specs.declared.merges.Merge.{Merge}
@@ -39,3 +39,13 @@ IsMergesRefusal n given room other = ⊥
 -- the answer is the code of why there are none
 abbrev pub RefusesMerges : ℕ → List GivenLink → ℕ → ℤ → Type 0
 RefusesMerges n given room answer = (why : Refusal) × (answer ≡ code_of why) × IsMergesRefusal n given room why
+
+-- the merges stand there, as many as links, or the answer is the code of why there are none, and what stood there is as it was
+pub record AnswersMerges (n : ℕ) (given : List GivenLink) (before after : List Merge) (answer : ℤ) : Type 0 where
+  pub right : pos 0 ≤ℤ answer → HaveMerges n given (length before)
+  pub found : pos 0 ≤ℤ answer → AreMergesBy n given after
+  pub counted : pos 0 ≤ℤ answer → answer ≡ pos (length given)
+  -- another number of merges than of links, or else too many vertices, or else too many links, or else an end that is no
+  -- vertex, or else a loop, or else another cycle or want of memory, or else a link that weighs less than one before it
+  pub refused : answer <ℤ pos 0 → RefusesMerges n given (length before) answer
+  pub untouched : answer <ℤ pos 0 → after ≡ before
