@@ -15,6 +15,7 @@
 //!   reading_by_threads  files read by threads, over drawn texts, with each fault, and memory that is refused
 //!   runs_by_threads     forests' texts and whole runs by threads
 //!   kept_runs       runs over files with so many arcs that links are dropped while they are read
+//!   joined_files    several files, whose arcs come together, to the text of one forest
 //!   writing         forest texts, how a sink is called, and how much of a text went out
 //!   plain_runs      a file, and a forest's own text, to its forest text
 //!   again           a forest's text, run again: the premise of that promise is met

@@ -3,6 +3,7 @@ mod drawn_lists;
 mod drawn_texts;
 mod fault_texts;
 mod forests_by_threads;
+mod joined_files;
 mod keeping;
 mod kept_runs;
 mod laws;

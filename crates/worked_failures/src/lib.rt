@@ -14,6 +14,7 @@
 //!   rounds            the board of claims, the book of a round, the solver
 //!   lanes             rounds over lanes to workers
 //!   runs              whole runs
+//!   joined_files      several files that come together
 //!   kept_runs         whole runs that drop links while they read
 //!   lost_lines        whole runs that go on without a worker that finds no memory
 //!   goes_on           sessions behind an ask without memory, rounds behind a refused answer

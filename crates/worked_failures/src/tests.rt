@@ -5,6 +5,7 @@ mod files;
 mod frame_texts;
 mod goes_on;
 mod in_turn;
+mod joined_files;
 mod kept_runs;
 mod lanes;
 mod lists;

@@ -30,7 +30,7 @@ const SIZES: [(u32, u32); 8] = [
 
 /// How the weights of a file go on.
 #[derive(Clone, Copy)]
-enum Weights {
+pub(super) enum Weights {
     Equal,
     Rising,
     Falling,
@@ -49,7 +49,7 @@ fn weight_of(weights: Weights, place: u32, drawn: u32) -> i64 {
 }
 
 // So many arcs between the vertices 1 to n, row by row: each row is one vertex's, with loops and repeats among them.
-fn rows(rt: &impl Abort, alloc: Global, n: u32, count: u32, weights: Weights) -> Vec<Row>
+pub(super) fn rows(rt: &impl Abort, alloc: Global, n: u32, count: u32, weights: Weights) -> Vec<Row>
     requires { 0 < n }
 {
     let mut state = u64::from(count);
@@ -66,7 +66,7 @@ fn rows(rt: &impl Abort, alloc: Global, n: u32, count: u32, weights: Weights) ->
 }
 
 // What the run reports.
-fn report_of(vertices: u32, links: &[Link], forest: &[Link]) -> Report {
+pub(super) fn report_of(vertices: u32, links: &[Link], forest: &[Link]) -> Report {
     let mut total = 0i128;
     for link in forest {
         total = total.wrapping_add(i128::from(link.weight));
@@ -84,17 +84,22 @@ fn report_of(vertices: u32, links: &[Link], forest: &[Link]) -> Report {
     }
 }
 
+// The text of a file of n vertices with these links.
+pub(super) fn text_of(rt: &impl Abort, alloc: Global, n: u32, links: &[Link]) -> Vec<u8> {
+    let mut rows = Vec::new(alloc);
+    for link in links {
+        rows.push((link.low, link.high, link.weight))
+            .expect(rt, "memory");
+    }
+    path_text(rt, alloc, n, rows.as_slice())
+}
+
 // The run over this file writes the text of the simple program's forest, and counts all links, however the source cuts it.
 fn expect_run(rt: &(impl Abort + Threads + Sync), alloc: Global, n: u32, arcs: &[Row]) {
     let file = path_text(rt, alloc, n, arcs);
     let links = links_between(rt, alloc, n, arcs);
     let forest = slow_forest(rt, alloc, n, links.as_slice());
-    let mut rows = Vec::new(alloc);
-    for link in &forest {
-        rows.push((link.low, link.high, link.weight))
-            .expect(rt, "memory");
-    }
-    let text = path_text(rt, alloc, n, rows.as_slice());
+    let text = text_of(rt, alloc, n, forest.as_slice());
     let report = report_of(n, links.as_slice(), forest.as_slice());
     for piece in [1_000, usize::MAX] {
         let bytes = file.clone().expect(rt, "memory");

@@ -19,17 +19,18 @@ fn long_file(rt: &impl Abort, alloc: Global) -> Vec<u8> {
     file
 }
 
-// A run that ended well wrote the two arcs and counts all; one that didn't wanted memory, and wrote nothing.
-fn expect_ended(
+// A run that ended well wrote the two arcs and counts all links; one that didn't wanted memory, and wrote nothing.
+pub(super) fn expect_ended(
     rt: &impl Abort,
     memory: &Memory,
     ended: Result<Report, RunFault>,
+    links: u64,
     text: &[u8],
 ) -> Result<(), AllocError> {
     match ended {
         Ok(report) => {
             expect_same(rt, text, b"p sp 3 2\na 2 3 -4\na 1 2 5\n".as_slice());
-            expect_same(rt, (report.links, report.total), (70_000, 1));
+            expect_same(rt, (report.links, report.total), (links, 1));
             Ok(())
         }
         Err(fault) => {
@@ -54,7 +55,7 @@ fn expect_kept(
     } else {
         run_threads(rt, threads, memory, &mut source, &mut text)
     };
-    expect_ended(rt, memory, ended, text.as_slice())
+    expect_ended(rt, memory, ended, 70_000, text.as_slice())
 }
 
 #[test]
