@@ -188,8 +188,8 @@ fn merges_asked_for_again(rt: HostRuntime) {
 // How many links a path has that is past the size of every inner piece.
 const LONG: u32 = 200_003;
 
-// Link i joins the vertex i + 2 to those before it, which are the cluster n + i - 1, or the point 0 at first. The heap has 28
-// bytes a link, 20 a vertex and 16384 more.
+// Link i joins the vertex i + 2 to those before it, which are the cluster n + i - 1, or the point 0 at first. The heap has 32
+// bytes a link, 4 a vertex and 16384 more.
 #[test]
 fn the_merges_of_a_long_path(rt: HostRuntime) {
     let n = LONG.wrapping_add(1);
@@ -208,7 +208,7 @@ fn the_merges_of_a_long_path(rt: HostRuntime) {
             .push((before.min(next), before.max(next), next.wrapping_add(1)))
             .expect(&rt, "memory");
     }
-    let heap = heap_of(&rt, rt.alloc(), 8_016_516);
+    let heap = heap_of(&rt, rt.alloc(), 7_216_496);
     expect_merges(
         &rt,
         rt.alloc(),
@@ -227,4 +227,78 @@ fn loops_of_links(rt: HostRuntime) {
     expect_same(&rt, have_no_loop(links.as_slice()), false);
     let none = given(&rt, rt.alloc(), &[]);
     expect_same(&rt, have_no_loop(none.as_slice()), true);
+}
+
+// The number of leaves of a star, and one more: a prime, so the products of a leaf with 7919 are all leaves.
+const PRIME: u32 = 100_003;
+
+// The point 0 is the hub. The leaf 7919 (i + 1) modulo the prime comes at place i, to the cluster n + i - 1, or to the hub.
+#[test]
+fn the_merges_of_a_shuffled_star(rt: HostRuntime) {
+    let mut rows = Vec::new(rt.alloc());
+    let mut wanted = Vec::new(rt.alloc());
+    let mut leaf = 0u32;
+    for place in 0..PRIME - 1 {
+        leaf = leaf.wrapping_add(7919) % PRIME;
+        rows.push((leaf.wrapping_add(1), 1, i64::from(place)))
+            .expect(&rt, "memory");
+        let before = if place == 0 {
+            0
+        } else {
+            PRIME.wrapping_add(place).wrapping_sub(1)
+        };
+        wanted
+            .push((leaf.min(before), leaf.max(before), place.wrapping_add(2)))
+            .expect(&rt, "memory");
+    }
+    expect_merges(
+        &rt,
+        rt.alloc(),
+        rt.alloc(),
+        PRIME,
+        rows.as_slice(),
+        wanted.as_slice(),
+    );
+}
+
+// A path of 2^17 vertices, whose links join vertices to pairs, then pairs to fours, and so on. Of so many pairs, a power of
+// two, the one at place i is 5 i; so pair q is at place 52429 q, since 5 times 52429 is 1 modulo 2^17.
+#[test]
+fn the_merges_of_a_shuffled_path(rt: HostRuntime) {
+    let n = 1u32 << 17;
+    let mut rows = Vec::new(rt.alloc());
+    let mut wanted = Vec::new(rt.alloc());
+    for level in 0..17u32 {
+        let parts = n >> level;
+        let size = 1u32 << level;
+        for place in 0..parts / 2 {
+            let left = place.wrapping_mul(10) & parts.wrapping_sub(1);
+            let end = left.wrapping_add(1).wrapping_mul(size);
+            rows.push((end, end.wrapping_add(1), i64::from(level)))
+                .expect(&rt, "memory");
+            let of_left = cluster_of(n, parts, left);
+            let of_right = cluster_of(n, parts, left.wrapping_add(1));
+            let both = (of_left.min(of_right), of_left.max(of_right));
+            wanted
+                .push((both.0, both.1, size.wrapping_mul(2)))
+                .expect(&rt, "memory");
+        }
+    }
+    expect_merges(
+        &rt,
+        rt.alloc(),
+        rt.alloc(),
+        n,
+        rows.as_slice(),
+        wanted.as_slice(),
+    );
+}
+
+// The cluster that is part q of the path in so many parts.
+fn cluster_of(n: u32, parts: u32, q: u32) -> u32 {
+    if parts == n {
+        return q;
+    }
+    let first = n.wrapping_mul(2).wrapping_sub(parts.wrapping_mul(2));
+    first.wrapping_add(q.wrapping_mul(52429) & parts.wrapping_sub(1))
 }
