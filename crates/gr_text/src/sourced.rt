@@ -55,7 +55,8 @@ pub fn read_graph_upto<S: Source, A: Allocator>(
 /// The graph of a source of at most 2^40 bytes, with the links that a keeper keeps of all of its links.
 ///
 /// As [`read_graph`], but the keeper is asked after each read, once the problem line has come. If it fails, the fault is
-/// `Memory`. The memory is that of the links kept and of those of one read, beside what the keeper takes.
+/// `Memory`. The keeper comes as one that knows of no links yet. The memory is that of the links kept and of those of one
+/// read, beside what the keeper takes.
 pub fn read_graph_kept<K: Keep<A>, S: Source, A: Allocator>(
     keeper: &mut K,
     alloc: A,

@@ -39,13 +39,13 @@ pub record HasEnds (n : ℕ) (links : List Link) (k : ℕ) (l : Link) (row : Mer
   pub low : IsClusterOf n links k l.low row.first
   pub high : IsClusterOf n links k l.high row.second
 
--- a row for each link from place k on, all with clusters that the first k links join, which close no cycle
+-- a row for each of the next links from place k on, all with clusters that the first k links join, which close no cycle
 pub record AreToJoin (n : ℕ) (links : List Link) (k : ℕ) (rows : List Merge) : Type 0 where
   pub within : k + length rows ≤ length links
   pub none : CloseNone links k
   pub each : (j : ℕ) (l : Link) → j < length rows → slice_get links (k + j) ≡ Some l → HasEnds n links k l (row_at rows j)
 
--- a row for each link from place k on, with the clusters that the link joins; none closes a cycle
+-- a row for each of the next links from place k on, with the clusters that the link joins; none closes a cycle
 pub record AreJoined (n : ℕ) (links : List Link) (k : ℕ) (rows : List Merge) : Type 0 where
   pub within : k + length rows ≤ length links
   pub none : CloseNone links (k + length rows)

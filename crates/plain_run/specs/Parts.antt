@@ -28,7 +28,7 @@ pub record PartsValue : Type 0 where
   pub count : ℕ
   pub files : ℕ
 
--- what is so of any parts: the links end within the vertices, no more are kept than there were, and files have few
+-- what is so of any parts: the links end within the vertices, no more are kept than there were, and neither they nor the files are too many
 pub record AreLawfulParts (parts : PartsValue) : Type 0 where
   pub few_vertices : parts.vertices ≤ MAX_VERTICES
   pub ends : EndsUpTo parts.vertices parts.kept
@@ -61,7 +61,8 @@ pub record IsAdded (old new : PartsValue) (before after : SourceState) : Type 0 
   pub file : IsFileOf bytes graph
   pub parts : (graphs : List GraphValue) → ArePartsOf graphs old → ArePartsOf (graphs ++ graph ∷ []) new
 
--- the source was read to its end and means a graph of so many vertices; each file before it has another number, which is this
+-- the source was read to its end and means a graph of so many vertices, which aren't the wanted ones: those that the files
+-- before it name
 pub record HasOtherVertices (vertices wanted : ℕ) (old : PartsValue) (before after : SourceState) : Type 0 where
   pub bytes : List ℕ
   pub graph : GraphValue
@@ -72,8 +73,8 @@ pub record HasOtherVertices (vertices wanted : ℕ) (old : PartsValue) (before a
   pub differ : vertices ≢ wanted
   pub some_before : 0 < old.files
 
--- what one more file did to the parts: it was added, or refused for what it says, for another number of vertices or for
--- want of memory
+-- what one more file did to the parts: it was added, or refused for what it says or for want of memory, or for another
+-- number of vertices
 abbrev pub Adds : PartsValue → Result PartsValue PartFault → SourceState → SourceState → Type 0
 Adds old (Ok new) = IsAdded old new
 Adds old (Err (part.Read why)) = IsReadOf MAX_BYTES (Err why)

@@ -14,12 +14,12 @@ IsSieveOf labels heaviest links =
     (u v : ℕ) → 1 ≤ u → u ≤ length labels → 1 ≤ v → v ≤ length labels → label_of labels u ≡ label_of labels v
     → Joins (LinksNotAbove links heaviest) u v
 
--- the sieve has let just these links through
+-- the sieve has let so many links through, and these join what it takes for joined
 pub record Passes {A : Type 0} (sieve : Sieve A) (links : List Link) : Type 0 where
   pub count : sieve.passed ≡ length links
   pub joined : IsSieveOf sieve.labels sieve.heaviest links
 
--- the sieve, if there is one, has let these links through
+-- the same of a sieve, if there is one
 abbrev pub KnowsOf : {A : Type 0} → Option (Sieve A) → List Link → Type 0
 KnowsOf sieve links = IfSome sieve (λ s. Passes s links)
 

@@ -73,6 +73,7 @@ impl<A: Allocator + Copy> Parts<A> {
     pub fn new(alloc: A) -> Self
         ensures none { ArePartsOf [] result }
         ensures files { result.files ≡ 0 }
+        ensures vertices { result.vertices ≡ 0 }
     {
         Parts {
             vertices: 0,
@@ -92,7 +93,8 @@ impl<A: Allocator + Copy> Parts<A> {
     /// Reads one more file of at most [`limits::MAX_BYTES`] bytes, whose arcs come to those of the files before it.
     ///
     /// It has to name their number of vertices. At a fault all is dropped. It takes the time and the memory of
-    /// [`run_plain`](crate::run_plain), but for the writing, and memory for the links kept of the files before.
+    /// [`run_plain`](crate::run_plain), but for the writing, and memory for the links kept of the files before and once more
+    /// for those of this file.
     pub fn add<C: Crew, S: Source>(self, crew: &C, source: &mut S) -> Result<Self, PartFault>
         requires ready { C.ready }
         requires source { S.can_read source.old }

@@ -40,7 +40,7 @@ pub(crate) fn report_of<A: Allocator>(vertices: u32, links: u64, forest: &Forest
 /// it takes O(b + m log m + n log n) time, and memory for one list of the links, in which the forest is found, and what
 /// [`forest_of`] takes beside it. If the file states more than 65,536 arcs, and more than 15 a vertex, a list of 10 links a
 /// vertex, and of 32,768 or more, becomes its forest before more are read. If a further such list would come, heavy links
-/// whose ends light ones of the forest join are dropped as they come.
+/// whose ends light ones of the forest join are dropped as they come, which takes 4 bytes a vertex.
 pub fn run_plain<S: Source, W: Sink, A: Allocator + Copy>(
     alloc: A,
     source: &mut S,
