@@ -108,7 +108,7 @@ def a_worker_that_finds_no_memory_is_given_up(room):
 
 @case
 def each_large_allocation_of_a_run_by_threads_refused(room):
-    # (so many vertices that two threads begin, and so many links of the forest that threads sort them)
+    # (many vertices, and so many links of the forest that threads sort them)
     file, text = drawn_graph(11, 2**17 + 1, 90_000)
     expect((text.count(b"\na ") > 2**16, b"", b""), True, b"", b"")
     each_refused_over_workers(room, file, text, 2, 2, 2**19, 10)

@@ -19,7 +19,8 @@ word_of (Some seat) = suc seat
 abbrev pub Knows : View → ℕ → List Event → Type 0
 Knows view number events = (k : ℕ) × (number ≡ view.first + k) × (get_elem? view.lists k ≡ some events)
 
--- there is a run that leaves these words, with the events of each seat, in that seat's order, each once, and no others
+-- there is a run that leaves these words, with the events of each seat that a view has, in that seat's order, each once; and
+-- none of a number past the board's seats
 pub record AgreesWithRun (size : Size) (row : List ℕ) (views : List View) : Type 0 where
   pub run : List Event
   pub is_run : IsRun run

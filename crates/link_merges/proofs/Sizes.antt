@@ -1,4 +1,4 @@
--- How many vertices trees have together.
+-- How many vertices clusters have together.
 use Rattle.std.proofs.Common.{◌≢◌, ℕ, ◌+◌, ◌<◌, ◌≤◌, ◌⊎◌, ◌↔◌, eqb, List, [], ◌∷◌, ◌++◌, length, get_or, Contains, sym, ap₂, ◌∙◌, subst, inl, inr, arith}
 use Rattle.std.specs.Prelude.{AllPairs}
 use Rattle.std.proofs.lemmas.Bool.{ne_eqb, eqb-true}

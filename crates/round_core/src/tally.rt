@@ -2,14 +2,11 @@
 //!
 //! By several, each offered link is first taken for the component that its offer names, by parts of the components. That is
 //! all where answers are light: the link's other component has an offer of its own there, of a link that isn't greater. Whether
-//! it is so is looked at, by several threads too, which write nothing. Where it isn't, all offers are counted in one thread. So
+//! it is so is looked at, by several threads for an answer of many offers, which write nothing. Where it isn't, all offers are counted in one thread. So
 //! nothing but the time stands on whether the least was taken: what was taken has to be offered, and the look finds the rest.
-ghost use Rattle.std.specs.Prelude.{◌≡◌, ℕ, List, ◌+◌, ◌<◌, ◌≤◌, ◌↔◌, length, take, All, Contains, true, IsTrue};
-ghost use Rattle.std.specs.List.{list_all};
+ghost use Rattle.std.specs.Prelude.{◌≡◌, ℕ, List, ◌+◌, ◌<◌, ◌↔◌, length, All, Contains, true, IsTrue};
 ghost use denote.Param.Send.{IsSync};
-ghost use Rattle.links.specs.Link.{EndsUpTo};
-ghost use Rattle.links.specs.Labels.{AreLabels};
-ghost use Rattle.round_core.specs.BookValue.{is_offer, named_links, all_named, CanCount, CanCountOffers};
+ghost use Rattle.round_core.specs.BookValue.{named_links, all_named, CanCount, CanCountOffers};
 ghost use Rattle.round_core.specs.Picks.{AreNoPicks, ArePicks, Counts};
 ghost use Rattle.round_core.specs.OwnPicks.{AreCountedIn};
 

@@ -1,7 +1,6 @@
 //! A pass over a shard's links in threads, each over a part with a table of its own.
 ghost use Rattle.std.specs.Prelude.{◌≡◌, ◌<◌, ◌≤◌, length, IfOk};
 ghost use denote.Param.Send.{IsSync, IsSend, Frees};
-ghost use Rattle.shard_scans.specs.Scanning.{AreBest};
 ghost use Rattle.shard_scans.specs.Parts.{CanScan, IsPartOf, AreBestOf, SayPlaces, Merges};
 
 use crate::parts::{Part, Scanned};

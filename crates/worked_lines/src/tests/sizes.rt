@@ -1,5 +1,5 @@
 // A run past the size of every inner piece, of 40,000 vertices and links and 15 merging rounds, one of 9,000 links between few
-// vertices, and runs of so many vertices that two threads begin them.
+// vertices, and runs of many vertices and few links.
 use super::runs::{Solved, run_of};
 use super::same::expect_same;
 use crate::in_memory::engines;
@@ -96,10 +96,9 @@ fn many_links_of_few_vertices_without_a_worker(rt: HostRuntime) {
     expect_same(&rt, counts, [6, 1, 0, 0, 7, 0]);
 }
 
-// Two links between the first vertex and the last two: of as many vertices as two threads begin a run with, one fewer and
-// one more.
+// Two links between the first vertex and the last two: of 2^17 vertices, one fewer and one more.
 #[test]
-fn as_many_vertices_as_two_threads_begin_with(rt: HostRuntime) {
+fn two_links_between_many_vertices(rt: HostRuntime) {
     let alloc = rt.alloc();
     for n in [131_071u32, 131_072, 131_073] {
         let before = n - 1;

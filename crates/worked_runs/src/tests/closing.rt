@@ -168,10 +168,10 @@ fn expect_least_of_all<R: Abort + Threads + Sync>(rt: &R, alloc: Global, n: u32,
 }
 
 // An offer for each vertex, and of these as few as one thread counts, and more; the labels are cut into four parts, of which
-// the last is shorter or as long.
+// the last is shorter or as long. The offers of 40,001 vertices are halved twice where they are looked at.
 #[test]
 fn light_offers_of_one_shard(rt: HostRuntime) {
-    for n in [16_383, 16_384, 16_385, 16_387] {
+    for n in [16_383, 16_384, 16_385, 16_387, 40_001] {
         expect_least_of_all(&rt, rt.alloc(), n, 1);
     }
 }
