@@ -1,8 +1,9 @@
 -- What the program does, by what its words ask for.
-use Rattle.std.specs.Prelude.{Result, OnOk, Bool, true, false, option_map}
+use Rattle.std.specs.Prelude.{Result, OnOk, IsSome, Bool, true, false, option_map}
+use Rattle.std.proofs.lemmas.List.{get_or-map, length-map}
 use Rattle.std.specs.String.{string_bytes}
 use Rattle.std.specs.Global.{Vec}
-use Rattle.std.proofs.Common.{◌≡◌, ◌≢◌, ◌≤◌, ℕ, ◌⊎◌, ◌∙◌, List, [], length, All, Option, None, Some, inl, inr, Ok, Err, refl, sym, subst, arith, codes}
+use Rattle.std.proofs.Common.{◌≡◌, ◌≢◌, ◌≤◌, ℕ, ◌⊎◌, ◌∙◌, List, [], ◌∷◌, length, get_or, map, slice_get, All, Option, None, Some, inl, inr, Ok, Err, refl, sym, subst, arith, codes}
 use Rattle.byte_streams.specs.Streams.{SourceState, SinkState, IsFlushed}
 use Rattle.byte_streams.proofs.Streaming.{gave_nothing, took_nothing}
 use Rattle.links.specs.declared.cuts.CutFault.TheVariants as cut
@@ -19,12 +20,13 @@ use Rattle.forest_run.specs.declared.cutting.Cutting.TheVariants.{Even}
 use Rattle.plain_run.specs.declared.report.Report.{Report}
 use Rattle.plain_run.specs.declared.fault.RunFault.{RunFault}
 use Rattle.plain_run.specs.declared.fault.RunFault.TheVariants as fault
-use Rattle.program_words.specs.Arguments.{given, number_of, is_set, file_named}
+use Rattle.program_words.specs.Arguments.{given, number_of, is_set, files_named}
 use Rattle.program_words.specs.Messages.{IsWritten, fault_line, unopened_line}
 use Rattle.program_words.specs.Statuses.{status_for}
 use Rattle.program_words.specs.declared.chosen.Options.{Options}
 use Rattle.boruvka.specs.Streams.{Standard, of_run}
-use Rattle.boruvka.specs.Status.{Asked, asked_of, asked_by, EndsAs, EndsOnSource, EndsOn, Obeys, EndsWith, EndsOver, EndsOverWorkers, HasNoGraph, IsDone, IsReported, LeavesOutput, IsUntouched, report_of, status_of_run, uncounted}
+use Rattle.boruvka.specs.Asked.{Asked, asked_of, asked_by, EndsAs, EndsOnFiles, EndsOnSource, EndsOn, Obeys}
+use Rattle.boruvka.specs.Status.{EndsWith, EndsOver, EndsOverWorkers, HasNoGraph, IsDone, IsReported, LeavesOutput, IsUntouched, report_of, status_of_run, uncounted}
 
 -- ---- how a run ends
 
@@ -89,15 +91,35 @@ wants_memory_on : (file : Option (List ℕ)) (asked : Asked) (s : SourceState) (
 wants_memory_on None asked s a e f text = wants_memory_in asked.progress asked s a e f text
 wants_memory_on (Some name) asked s a e f text = inr (wants_memory_in asked.progress asked uncounted a e f text)
 
+wants_memory_of : (files : List (Option (List ℕ))) (asked : Asked) (s : SourceState) (a e f : SinkState) → IsWritten no_memory e f
+    → EndsOnFiles files asked 4 (record { source = s; sink = a; errors = e }) (record { source = s; sink = a; errors = f })
+wants_memory_of [] asked s a e f text = wants_memory_on None asked s a e f text
+wants_memory_of (file ∷ []) asked s a e f text = wants_memory_on file asked s a e f text
+wants_memory_of (file ∷ next ∷ files) asked s a e f text = inr (inr (record { status_is = refl; nothing = took_nothing a; told = text }))
+
 pub wants_memory_obeys : (asked : Asked) (s : SourceState) (a e f : SinkState) → IsWritten no_memory e f
     → Obeys asked 4 (record { source = s; sink = a; errors = e }) (record { source = s; sink = a; errors = f })
-wants_memory_obeys asked = wants_memory_on asked.file asked
+wants_memory_obeys asked = wants_memory_of asked.files asked
 
--- of a FILE that can't be opened the line is written, and nothing else is done
-pub unopened_obeys : (chosen : Options) (name : _) (s : SourceState) (a e f : SinkState) → chosen.file ≡ Some name → IsWritten (unopened_line (string_bytes name)) e f
-    → Obeys (asked_of chosen) 3 (record { source = s; sink = a; errors = e }) (record { source = s; sink = a; errors = f })
-unopened_obeys chosen name s a e f is written =
-    subst (λ o. EndsOn (option_map string_bytes o) (asked_of chosen) 3 (record { source = s; sink = a; errors = e }) (record { source = s; sink = a; errors = f })) (sym is) (inl (refl, took_nothing a, written))
+-- ---- which files there are
+
+-- one file at most: its name's alone
+pub only_file : {F : Type 0} (items : List (Option F)) (name : F) → length items ≤ 1 → Some (Some name) ≡ slice_get items 0 → items ≡ Some name ∷ []
+only_file [] name few is = absurd cc
+only_file (item ∷ []) name few is =
+    let same : item ≡ Some name = cc in
+    rw same refl
+only_file (item ∷ next ∷ items) name few is = absurd (omega arith)
+
+-- files that have names have them under a function
+some_under : {F Y : Type 0} (f : F → Y) (o : Option F) → IsSome (option_map f o) → IsSome o
+some_under f None is = absurd cc
+some_under f (Some x) is = refl
+
+pub some_items : {F Y : Type 0} (f : F → Y) (items : List (Option F)) → All IsSome (map (option_map f) items) → All IsSome items
+some_items f items all = λ k d within.
+    some_under f (get_or items k d)
+    (subst IsSome (get_or-map (option_map f) items k d (option_map f d) within) (all k (option_map f d) (omega (arith, length-map items (option_map f)))))
 
 -- ---- lines
 
@@ -287,13 +309,13 @@ refused_lines over lines shards wants status before after ends (bytes, has, noth
 asked_is : (chosen : Options) (words : List (List ℕ)) → chosen.workers ≡ number_of (given words (codes "workers")) 2
     → chosen.shards ≡ number_of (given words (codes "shards")) 64 → chosen.plain ≡ is_set words (codes "plain")
     → chosen.report ≡ is_set words (codes "report") → chosen.progress ≡ is_set words (codes "progress")
-    → option_map string_bytes chosen.file ≡ file_named words → asked_of chosen ≡ asked_by words
-asked_is chosen words workers shards plain report progress file = rw (workers, shards, plain, report, progress, file) refl
+    → map (option_map string_bytes) chosen.files.items ≡ files_named words → asked_of chosen ≡ asked_by words
+asked_is chosen words workers shards plain report progress files = rw (workers, shards, plain, report, progress, files) refl
 
 -- so where that was obeyed the words were
 pub obeys_words : (chosen : Options) (words : List (List ℕ)) (status : ℕ) (before after : Standard)
     → chosen.workers ≡ number_of (given words (codes "workers")) 2 → chosen.shards ≡ number_of (given words (codes "shards")) 64
     → chosen.plain ≡ is_set words (codes "plain") → chosen.report ≡ is_set words (codes "report") → chosen.progress ≡ is_set words (codes "progress")
-    → option_map string_bytes chosen.file ≡ file_named words → Obeys (asked_of chosen) status before after → Obeys (asked_by words) status before after
-obeys_words chosen words status before after workers shards plain report progress file obeyed =
-    subst (λ (asked : Asked). Obeys asked status before after) (asked_is chosen words workers shards plain report progress file) obeyed
+    → map (option_map string_bytes) chosen.files.items ≡ files_named words → Obeys (asked_of chosen) status before after → Obeys (asked_by words) status before after
+obeys_words chosen words status before after workers shards plain report progress files obeyed =
+    subst (λ (asked : Asked). Obeys asked status before after) (asked_is chosen words workers shards plain report progress files) obeyed

@@ -1,2 +1,4 @@
+pub mod Asked
+pub mod Joined
 pub mod Status
 pub mod Streams

@@ -7,23 +7,27 @@ ghost use Rattle.clap.specs.Words.{kind_of};
 ghost use Rattle.wires.specs.Lines.{HasRoom};
 ghost use Rattle.plain_run.specs.Outcomes.{known};
 ghost use Rattle.plain_run.specs.PlainRun.{RanPlain};
+ghost use Rattle.plain_run.specs.declared.parts.TheConstants.{MAX_FILES};
 ghost use Rattle.forest_run.specs.LinesRun.{HasGraphToCut};
 ghost use Rattle.forest_run.specs.WiredLines.{AreServed};
 ghost use Rattle.forest_run.specs.declared.cutting.Cutting.TheVariants.{Even};
 ghost use Rattle.tcp_lines.specs.Lines.{tcp_line, unused};
-ghost use Rattle.program_words.specs.Arguments.{IsMistake, file_named, is_set, refusals};
+ghost use Rattle.program_words.specs.Arguments.{IsMistake, files_named, is_set, refusals};
 ghost use Rattle.program_words.specs.Messages.{IsWritten, message_line, no_text_line};
 ghost use Rattle.boruvka.specs.Streams.{AreReady, OnThree, OnStreams, OnInput, OnOutput, SameInput};
-ghost use Rattle.boruvka.specs.Status.{asked_of, status_of_run, report_of, IsReported, JudgesFile, KeepsStreams, KeepsAsked, EndsOver, EndsAs, EndsOnSource, Obeys, ObeysWords};
-ghost use Rattle.boruvka.specs.Status.{HasNoGraph, IsDone, LeavesOutput, IsUntouched, AskForHelp, AskForVersion, AreWrong, HelpEnds, RefusesWords, EndsRefused};
+ghost use Rattle.boruvka.specs.Asked.{asked_of, KeepsAsked, EndsAs, EndsOnSource, Obeys, ObeysWords};
+ghost use Rattle.boruvka.specs.Asked.{AskForHelp, AskForVersion, AreWrong, HelpEnds, RefusesWords, EndsRefused};
+ghost use Rattle.boruvka.specs.Status.{report_of, JudgesFile, KeepsStreams, EndsOver, HasNoGraph, IsDone, LeavesOutput, IsUntouched};
 
-use crate::progress::Watched;
+use crate::ends::write_end;
+use crate::joined::run_joined;
+use crate::progress::{Told, Watched};
 use crate::standard::{StandardStreams, workers_beside};
 use byte_streams::{Sink, Source, Uncounted, put};
 use forest_run::{Cutting, Report, RunFault, run_lines, run_plain, run_threads};
 use program_words::{
-    DEVICE, MEMORY, Options, OptionsFault, USAGE, options, status_of, write_fault, write_no_text,
-    write_report, write_text, write_unopened,
+    DEVICE, MEMORY, Options, OptionsFault, USAGE, options, write_fault, write_no_text, write_text,
+    write_unopened,
 };
 use std::alloc::{Alloc, AllocError, Global};
 use std::convert::AsStr;
@@ -34,27 +38,6 @@ use std::sync::Wait;
 use std::thread::Threads;
 use tcp_lines::{TcpLine, Workers};
 use wires::Line;
-
-// Writes the report of a run that ended well, where it is wanted, or why it ended ill.
-fn write_end<E: Sink>(wants_report: bool, ended: &Result<Report, RunFault>, errors: &mut E) -> u8
-    requires { E.can_write errors.old }
-    ensures status { result ≡ status_of_run ended.now }
-    ensures reported { IsReported wants_report ended.now (E.state errors.old) (E.state errors.new) }
-    ensures quiet { wants_report ≡ false → result ≡ 0 → errors.new ≡ errors.old }
-{
-    match ended {
-        Ok(report) => {
-            if wants_report {
-                write_report(errors, report);
-            }
-            0
-        }
-        Err(fault) => {
-            write_fault(errors, fault);
-            status_of(fault)
-        }
-    }
-}
 
 // What a run answered, without its lines: they are closed.
 fn without_lines<L: Drop>(ended: Result<(Report, Vec<L>), RunFault>) -> Result<Report, RunFault>
@@ -213,7 +196,7 @@ where
     P: Sink,
     requires workers { chosen.now.workers ≤ MAX_WORKERS }
     requires streams { AreReady I.can_read O.can_write E.can_write io }
-    requires progress { P.can_write progress.old }
+    requires always { (sink : P) → P.can_write sink }
     ensures ends { OnStreams I.state O.state E.state (EndsOnSource chosen.now.progress (asked_of chosen.now) result)
         io.entry io.exit }
     ensures kept { KeepsAsked O.state O.unflushed (asked_of chosen.now) result io.entry io.exit }
@@ -227,7 +210,7 @@ where
         output,
         errors,
     } = io;
-    let input = &mut Watched::new(input, progress);
+    let input = &mut Watched::new(input, progress, Told::new(true));
     run_on(
         rt,
         chosen,
@@ -241,8 +224,8 @@ where
 
 /// Does what lawful words ask for, and answers the status.
 ///
-/// FILE is opened before the run begins; without FILE it reads the input. The forest goes to the output,
-/// and what went wrong to the errors, as does the report where it is asked for. `progress` is told how much was read,
+/// FILE is opened before the run begins; without FILE it reads the input. Of several files it joins the links. The forest
+/// goes to the output, and what went wrong to the errors, as does the report where it is asked for. `progress` is told how much was read,
 /// where that is asked for. With `--plain` it runs by up to as many
 /// threads as are asked for. Without it it starts the workers that are asked for, in threads of this process at the far
 /// ends of sockets, and ends them.
@@ -268,11 +251,12 @@ where
     P: Sink,
     requires workers { chosen.now.workers ≤ MAX_WORKERS }
     requires streams { AreReady I.can_read O.can_write E.can_write io }
-    requires progress { P.can_write progress.old }
+    requires always { (sink : P) → P.can_write sink }
+    requires few { length chosen.now.files.items ≤ MAX_FILES }
 
-    // What is asked for is done, on the input or on FILE, and then the input isn't read.
+    // What is asked for is done, on the input or on FILE, or on several; where each is a FILE the input isn't read.
     ensures obeys { OnStreams I.state O.state E.state (Obeys (asked_of chosen.now) result) io.entry io.exit }
-    ensures leaves_input { IsSome chosen.now.file → SameInput io.entry io.exit }
+    ensures leaves_input { chosen.now.files.items ≢ [] → All IsSome chosen.now.files.items → SameInput io.entry io.exit }
 
     // A file that is refused or can't be cut, want of memory and answers that make no forest write nothing to the
     // output. Where the run ends well none of its bytes waits for a flush, where that is known, and the errors get the
@@ -280,7 +264,10 @@ where
     ensures kept { KeepsAsked O.state O.unflushed (asked_of chosen.now) result io.entry io.exit }
     ensures untold { chosen.now.progress ≡ false → progress.new ≡ progress.old }
 {
-    let Some(name) = &chosen.file else {
+    if chosen.files.len() > 1 {
+        return run_joined(rt, chosen, io, progress);
+    }
+    let Some(Some(name)) = chosen.files.first() else {
         return run_told(rt, chosen, io, progress);
     };
     let Ok(file) = File::open(rt, name) else {
@@ -382,12 +369,14 @@ where
     requires input { I.can_read input.old }
     requires output { O.can_write output.old }
     requires errors { E.can_write errors.old }
-    requires progress { P.can_write progress.old }
+    requires always { (sink : P) → P.can_write sink }
 
-    // What lawful words ask for is done: the input is run on, or FILE is, and then the input isn't touched.
+    // What lawful words ask for is done: the input is run on, or FILE is, or several; where each is a FILE the input isn't
+    // touched.
     ensures obeys { OnThree I.state O.state E.state (ObeysWords (map S.text words.now) result)
         input.old output.old errors.old input.new output.new errors.new }
-    ensures leaves_input { IsSome (file_named (map S.text words.now)) → input.new ≡ input.old }
+    ensures leaves_input { files_named (map S.text words.now) ≢ []
+        → All IsSome (files_named (map S.text words.now)) → input.new ≡ input.old }
 
     // A file that is refused or can't be cut, wrong words, want of memory and answers that make no forest write
     // nothing to the output. Where all went well none of the forest's bytes waits for a flush, where that is known, and

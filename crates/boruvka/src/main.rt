@@ -5,7 +5,7 @@
 //! words --program_words::options--> Options --command::obey--> a run over FILE or standard input --> status
 //!                                               \--program_words::write_..--> standard error
 //!   a run: tcp_lines::Workers::start, command::run_over, Workers::join;
-//!          with --plain forest_run::run_plain, run_threads
+//!          with --plain forest_run::run_plain, run_threads, of several files joined::run_joined
 //! ```
 //!
 //! What it promises:
@@ -16,11 +16,14 @@
 //! - The forest is the minimum one without workers, and where workers answer as the engine does, which no contract sees
 //!   of sockets; whatever they answer it spans ([`command::run_over`]).
 //!
-//! Where to start a change: what the program does, in order, `command` with `specs/Status`; how the standard streams are
+//! Where to start a change: what the program does, in order, `command` with `specs/Asked`; how a run ends, `specs/Status`,
+//! and one on several files `joined` with `specs/Joined`; how the standard streams are
 //! kept apart from sockets, `standard`; what is told while it reads, `progress`. The words, the messages and the statuses stand in `program_words`.
 #![tactic(auto)]
 
 mod command;
+mod ends;
+mod joined;
 mod progress;
 mod standard;
 #[cfg(test)]

@@ -30,10 +30,10 @@ const SMALL_FOREST: &[u8; 50] = b"p sp 6 5\na 2 5 0\na 3 4 0\na 3 5 0\na 4 6 3\n
 
 const HELP: &str = "Computes the minimum spanning forest of a graph in the .gr format.
 
-Usage: boruvka [OPTIONS] [FILE]
+Usage: boruvka [OPTIONS] [FILE]...
 
 Arguments:
-  [FILE]  The graph; without it, or as -, standard input
+  [FILE]...  The graph; without it, or as -, standard input; with --plain several, joined
 
 Options:
       --workers <N>  How many workers scan the shards: 0 to 64 [default: 2]
@@ -135,6 +135,50 @@ fn reads_a_named_file(rt: HostRuntime) {
         b"",
     );
     fs::remove_file(&rt, name).expect(&rt, "a file");
+}
+
+// The arcs of the small net in two files, and again each of them: FILE and standard input, in either order.
+#[test]
+fn joins_several_files(rt: HostRuntime) {
+    let name = "half_a_net_for_a_test.gr";
+    let one = b"p sp 6 4\na 1 2 17\na 1 3 10\na 2 4 2\na 3 5 0\n";
+    let two = b"p sp 6 4\na 4 3 0\na 4 6 3\na 5 2 0\na 5 6 20\n";
+    let mut file = File::create(&rt, name).expect(&rt, "a file");
+    file.write_all(one).expect(&rt, "bytes written");
+    drop(file);
+    let report =
+        b"vertices=6 links=12 rounds=0 shards=0 asked=0 answered=0 alone=0 closed=0 total=13\n";
+    let words = ["boruvka", "--plain", "--report", name, "-", name];
+    expect(&rt, &words, two, 0, SMALL_FOREST, report);
+    let words = ["boruvka", "--plain", "--threads", "2", "-", name];
+    expect(&rt, &words, two, 0, SMALL_FOREST, b"");
+    let words = ["boruvka", "--plain", name, "-"];
+    let other = b"boruvka: -: 5 vertices in place of 6\n";
+    expect(&rt, &words, b"p sp 5 0\n", 1, b"", other);
+    let early = b"boruvka: -: line 1: NoProblemYet\n";
+    expect(&rt, &words, b"a 1 2 3\n", 1, b"", early);
+    let again = b"boruvka: cannot open -\n";
+    let words = ["boruvka", "--plain", "-", name, "-", "no/such/file"];
+    expect(&rt, &words, two, 3, b"", again);
+    fs::remove_file(&rt, name).expect(&rt, "a file");
+}
+
+// Nothing behind the first file that is no part is opened or read.
+#[test]
+fn stops_at_the_first_file_that_is_no_part(rt: HostRuntime) {
+    let unopened = b"boruvka: cannot open no/such/file\n";
+    let words = ["boruvka", "--plain", "no/such/file", "/", "-"];
+    expect(&rt, &words, b"", 3, b"", unopened);
+    let folder = b"boruvka: /: line 1: read failed\n";
+    let words = ["boruvka", "--plain", "/", "no/such/file"];
+    expect(&rt, &words, SMALL_NET, 3, b"", folder);
+}
+
+#[test]
+fn refuses_several_files_without_the_plain_word(rt: HostRuntime) {
+    let without =
+        b"error: several FILEs need --plain\n\nUsage: boruvka [OPTIONS] [FILE]...\n\nFor more information, try '--help'.\n";
+    expect(&rt, &["boruvka", "-", "-"], SMALL_NET, 2, b"", without);
 }
 
 #[test]
@@ -570,7 +614,11 @@ fn expect_options(
     let chosen = options(rt.alloc(), words).expect(rt, "lawful words");
     expect_same(rt, chosen.workers, workers);
     expect_same(rt, chosen.shards, shards);
-    expect_same(rt, chosen.file.as_deref(), file);
+    let first = match chosen.files.first() {
+        Some(first) => first.as_deref(),
+        None => None,
+    };
+    expect_same(rt, first, file);
 }
 
 #[test]
@@ -611,7 +659,7 @@ fn takes_threads_beside_the_plain_word(rt: HostRuntime) {
     let words = ["boruvka", "--plain", "--threads", "2"];
     expect(&rt, &words, SMALL_NET, 0, SMALL_FOREST, b"");
     let without =
-        b"error: --threads needs --plain\n\nUsage: boruvka [OPTIONS] [FILE]\n\nFor more information, try '--help'.\n";
+        b"error: --threads needs --plain\n\nUsage: boruvka [OPTIONS] [FILE]...\n\nFor more information, try '--help'.\n";
     let words = ["boruvka", "--threads", "2"];
     expect(&rt, &words, SMALL_NET, 2, b"", without);
 }
@@ -652,9 +700,10 @@ fn refuses_wrong_words(rt: HostRuntime) {
     expect_refused(&rt, &["boruvka", "--threads=1", "--workers", "0"]);
     expect_refused(&rt, &["boruvka", "--workers", "65"]);
     expect_refused(&rt, &["boruvka", "--shards", "0"]);
-    expect_refused(&rt, &["boruvka", "--plain", "a.gr", "b.gr"]);
+    expect_refused(&rt, &["boruvka", "a.gr", "b.gr"]);
+    expect_refused(&rt, &["boruvka", "--workers", "0", "a.gr", "-"]);
     let wrong =
-        b"error: unexpected argument '--wrong' found\n\n  tip: to pass '--wrong' as a value, use '-- --wrong'\n\nUsage: boruvka [OPTIONS] [FILE]\n\nFor more information, try '--help'.\n";
+        b"error: unexpected argument '--wrong' found\n\n  tip: to pass '--wrong' as a value, use '-- --wrong'\n\nUsage: boruvka [OPTIONS] [FILE]...\n\nFor more information, try '--help'.\n";
     expect(&rt, &["boruvka", "--wrong"], SMALL_NET, 2, b"", wrong);
 }
 

@@ -1,9 +1,11 @@
 -- What a parse of the program's words gives: what each word sets, and numbers that passed the ranges of their arguments.
-use Rattle.std.proofs.Common.{ap₂, ◌≡◌, ◌≢◌, ◌⊎◌, ◌∙◌, ◌<◌, ℕ, true, false, List, [], ◌∷◌, length, Option, Some, None, Result, refl, sym, ap, subst, inl, inr, arith, codes, slice_index, ◌||◌}
-use Rattle.std.specs.Prelude.{Bool, pos, not, is_some, ◌&&◌, if◌then◌else◌}
+use Rattle.std.proofs.Common.{◌≡◌, ◌≢◌, ◌⊎◌, ◌∙◌, ◌<◌, ℕ, true, false, List, [], ◌∷◌, length, Option, Some, None, Result, refl, sym, ap, subst, inl, inr, arith, codes, slice_index, ◌||◌}
+use Rattle.std.specs.Prelude.{Bool, map, pos, is_some, option_map, unwrap_or}
 use Rattle.std.specs.List.{All, slice_index_or}
 use Rattle.std.specs.Str.{bytes_eq}
 use Rattle.std.specs.Borrow.{Bor}
+use Rattle.std.specs.String.{string_bytes}
+use Rattle.std.proofs.lemmas.List.{length-map}
 use Rattle.std.proofs.lemmas.Bool.{cases_lt}
 use Rattle.std.proofs.lemmas.Slice.Eq.{bytes_eq-Decides}
 use Rattle.std.proofs.lemmas.List.Elements.{All-get_or, All-push}
@@ -19,18 +21,19 @@ use Rattle.clap.specs.declared.builder.value_parser.ValueParser.TheVariants as v
 use Rattle.clap.specs.declared.parser.matches.ArgMatches.{ArgMatches}
 use Rattle.clap.specs.declared.parser.matches.Found.{Found}
 use Rattle.clap.specs.declared.parser.matches.MatchedArg.{MatchedArg}
-use Rattle.clap.specs.Words.{App, FailsBy, HasMatchesOf, kind_of, fault_of, first_of, first_value, is_simple, is_simple_and_free, matches_of, one_of, rows_of}
+use Rattle.clap.specs.Words.{App, FailsBy, HasMatchesOf, all_of, kind_of, fault_of, first_of, first_value, is_simple, is_simple_and_free, matches_of, one_of, raw_values, rows_of}
 use Rattle.clap.proofs.OnLiterals.{clap_on_literals}
-use Rattle.clap.proofs.WalkLemmas.{first_value-rows, one_text-rows}
+use Rattle.clap.proofs.WalkLemmas.{first_value-rows, one_text-rows, raw_values-rows}
 use Rattle.clap.specs.declared.error.Error.{Error}
 use Rattle.limits.specs.declared.TheConstants.{MAX_SHARDS, MAX_WORKERS}
 use Rattle.program_words.specs.declared.chosen.TheConstants.{MAX_THREADS}
-use Rattle.program_words.specs.Arguments.{TakesFrom, IsOwn, IsOwnArg, HoldsFrom, IsUsage, program, refusals, is_true, lacks_plain, given, said}
+use Rattle.program_words.specs.Arguments.{TakesFrom, IsOwn, IsOwnArg, HoldsFrom, IsUsage, program, refusals, is_set, given, said, names_given, files_named, kinds_of, wrong_together}
+use Rattle.program_words.specs.declared.chosen.Options.{Options}
 use Rattle.program_words.specs.declared.chosen.OptionsFault.{OptionsFault}
 use Rattle.program_words.specs.declared.chosen.OptionsFault.TheVariants.{Usage, Memory}
 use Rattle.clap.specs.Kinds.{Kinds, IsAmong, or_else}
 use Rattle.clap.specs.declared.error.kind.ErrorKind.{ErrorKind}
-use Rattle.clap.specs.declared.error.kind.ErrorKind.TheVariants.{MissingRequiredArgument, OutOfMemory}
+use Rattle.clap.specs.declared.error.kind.ErrorKind.TheVariants.{OutOfMemory}
 
 -- an argument takes what the caller's does
 takes_same : (name : List ℕ) (low high : ℕ) (a b : Arg) → SameRules a b → TakesFrom name low high a → TakesFrom name low high b
@@ -171,11 +174,17 @@ pub fails_by_words : {T : Type 0} (app : App) (words : List (List ℕ)) (r : Res
     → (is_simple_and_free app ≡ true → FailsBy (fault_of app words) r) → FailsBy (fault_of program words) r
 fails_by_words {T} app words r is fails = subst (λ (a : App). FailsBy (fault_of a words) r) is (fails (ap is_simple_and_free is ∙ program_free))
 
--- whether the words lack `--plain`, as it is found
-pub lacks_is : (app : App) (words : List (List ℕ)) (m : ArgMatches) → app ≡ program → HasMatchesOf app words m
-    → (is_some (first_value (found_of m) (codes "threads")) && not (is_true (first_value (found_of m) (codes "plain")))) ≡ lacks_plain words
-lacks_is app words m is has =
-    ap₂ (λ (a b : Option (List ℕ)). is_some a && not (is_true b)) (said_is app words m (codes "threads") is has) (said_is app words m (codes "plain") is has)
+-- what is there is there under a function
+pub is_some-map : {X Y : Type 0} (f : X → Y) (o : Option X) → is_some o ≡ is_some (option_map f o)
+is_some-map f None = refl
+is_some-map f (Some x) = refl
+
+-- the texts that a getter reads for files are the names that the words give
+pub names_are : (app : App) (words : List (List ℕ)) (m : ArgMatches) → app ≡ program → HasMatchesOf app words m
+    → unwrap_or (option_map raw_values (matched_of (found_of m) (codes "file"))) [] ≡ names_given words
+names_are app words m is has =
+    ap (λ (names : Option (List (List ℕ))). unwrap_or names [])
+    (raw_values-rows (found_of m) (codes "file") ∙ ap (all_of (codes "file")) (rows_are app words m is has))
 
 -- words that are refused one by one are refused
 among_first : (kind : ErrorKind) (kinds others : Kinds) → IsAmong kind kinds → IsAmong kind (or_else kinds others)
@@ -184,25 +193,28 @@ among_first kind (k ∷ kinds) others among = among
 
 pub refused_first : (words : List (List ℕ)) (fault : OptionsFault) → IsUsage fault (λ error. IsAmong (kind_of error) (fault_of program words))
     → IsUsage fault (λ error. IsAmong (kind_of error) (refusals words))
-refused_first words (Usage error) among = among_first (kind_of error) (fault_of program words) (if lacks_plain words then MissingRequiredArgument ∷ [] else []) among
+refused_first words (Usage error) among =
+    among_first (kind_of error) (fault_of program words) (wrong_together (is_some (said words (codes "threads"))) (length (files_named words)) (is_set words (codes "plain"))) among
 refused_first words Memory among = tt
 
--- words that are taken one by one are taken where they don't lack `--plain`, and else refused for that
-rest_of : (words : List (List ℕ)) (lacks : Bool) → fault_of program words ≡ [] → lacks ≡ lacks_plain words
-    → refusals words ≡ (if lacks then MissingRequiredArgument ∷ [] else [])
-rest_of words lacks none is =
-    ap (λ (kinds : Kinds). or_else kinds (if lacks_plain words then MissingRequiredArgument ∷ [] else [])) none
-    ∙ ap (λ (b : Bool). if b then MissingRequiredArgument ∷ [] else []) (sym is)
+-- words that are right one by one are refused for what is told of them together
+pub told_is : {X : Type 0} (words : List (List ℕ)) (chosen : Options) (threads : Bool) (files : ℕ) (told : Option (ErrorKind × X)) → fault_of program words ≡ []
+    → threads ≡ is_some (said words (codes "threads")) → map (option_map string_bytes) chosen.files.items ≡ files_named words
+    → chosen.plain ≡ is_set words (codes "plain") → files ≡ length chosen.files.items
+    → kinds_of told ≡ wrong_together threads files chosen.plain → refusals words ≡ kinds_of told
+told_is words chosen threads files told none threads_are files_are plain_is long is =
+    let count : files ≡ length (files_named words) = long ∙ (sym (length-map chosen.files.items (option_map string_bytes)) ∙ ap length files_are) in
+    let same : wrong_together threads files chosen.plain ≡ wrong_together (is_some (said words (codes "threads"))) (length (files_named words)) (is_set words (codes "plain")) =
+    rw (threads_are, count, plain_is) refl in
+    ap (λ (k : Kinds). or_else k (wrong_together (is_some (said words (codes "threads"))) (length (files_named words)) (is_set words (codes "plain")))) none ∙ sym (is ∙ same)
 
-pub taken_whole : (words : List (List ℕ)) (lacks : Bool) → fault_of program words ≡ [] → lacks ≡ lacks_plain words → lacks ≡ false → refusals words ≡ []
-taken_whole words lacks none is not_so = rest_of words lacks none is ∙ ap (λ (b : Bool). if b then MissingRequiredArgument ∷ [] else []) not_so
+-- so an error of that kind is among their refusals
+pub refused_together : (words : List (List ℕ)) (kind : ErrorKind) (fault : OptionsFault) → refusals words ≡ kind ∷ []
+    → IsUsage fault (λ error. kind_of error ≡ kind) → IsUsage fault (λ error. IsAmong (kind_of error) (refusals words))
+refused_together words kind (Usage error) are is = subst (IsAmong (kind_of error)) (sym are) (inl is)
+refused_together words kind Memory are is = tt
 
-pub refused_alone : (words : List (List ℕ)) (lacks : Bool) (fault : OptionsFault) → fault_of program words ≡ [] → lacks ≡ lacks_plain words → lacks ≡ true
-    → IsUsage fault (λ error. kind_of error ≡ MissingRequiredArgument) → IsUsage fault (λ error. IsAmong (kind_of error) (refusals words))
-refused_alone words lacks (Usage error) none is so kind =
-    subst (IsAmong (kind_of error)) (sym (rest_of words lacks none is ∙ ap (λ (b : Bool). if b then MissingRequiredArgument ∷ [] else []) so)) (inl kind)
-refused_alone words lacks Memory none is so kind = tt
-
-pub alone_is_no_memory : (fault : OptionsFault) → IsUsage fault (λ error. kind_of error ≡ MissingRequiredArgument) → IsUsage fault (λ error. kind_of error ≢ OutOfMemory)
-alone_is_no_memory (Usage error) kind = λ memory. let bad : MissingRequiredArgument ≡ OutOfMemory = sym kind ∙ memory in absurd (cc)
-alone_is_no_memory Memory kind = tt
+pub not_memory : (kind : ErrorKind) (fault : OptionsFault) → kind ≢ OutOfMemory → IsUsage fault (λ error. kind_of error ≡ kind)
+    → IsUsage fault (λ error. kind_of error ≢ OutOfMemory)
+not_memory kind (Usage error) other is = λ memory. other (sym is ∙ memory)
+not_memory kind Memory other is = tt

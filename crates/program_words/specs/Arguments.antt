@@ -1,20 +1,21 @@
 -- The words of the command line: what the program takes, and what each word sets.
-use Rattle.std.specs.Prelude.{◌≡◌, ◌≢◌, ◌⊎◌, ℕ, ⊤, pos, true, false, not, ◌&&◌, is_some, if◌then◌else◌, List, [], ◌∷◌, Option, Some, None, Bool, Result, Ok, Err, codes}
+use Rattle.std.specs.Prelude.{◌≡◌, ◌≢◌, ◌⊎◌, ℕ, ⊤, nat_lt, pos, true, false, not, ◌&&◌, ◌||◌, is_some, if◌then◌else◌, List, [], ◌∷◌, length, map, Option, Some, None, unwrap_or, Bool, Result, Ok, Err, codes}
 use Rattle.std.specs.List.{All}
 use Rattle.std.specs.Str.{bytes_eq}
 use Rattle.std.specs.Str.Parse.{digits_value, without_leading_plus}
 use Rattle.limits.specs.declared.TheConstants.{MAX_SHARDS, MAX_WORKERS}
 use Rattle.clap.specs.Kinds.{or_else}
-use Rattle.clap.specs.Words.{App, Rule, IsPlain, IsPlainArg, IsSignedIn, Kinds, args_of, fault_of, first_of, found_of, kind_of, matches_of, new_app, new_rule, one_of, one_text, with_rule, without_minus}
-use Rattle.clap.specs.declared.builder.action.ArgAction.TheVariants.{SetTrue}
+use Rattle.clap.specs.Words.{App, Rule, IsPlain, IsPlainArg, IsSignedIn, Kinds, all_of, args_of, fault_of, first_of, found_of, kind_of, matches_of, new_app, new_rule, one_of, one_text, with_rule, without_minus}
+use Rattle.clap.specs.declared.builder.action.ArgAction.TheVariants.{Append, SetTrue}
 use Rattle.clap.specs.declared.builder.arg.Arg.{Arg}
 use Rattle.clap.specs.declared.builder.command.Command.{Command}
 use Rattle.clap.specs.declared.builder.command.Command.TheViews.{out-Command}
 use Rattle.clap.specs.declared.builder.value_parser.ValueParser.TheVariants as vp
 use Rattle.clap.specs.declared.error.Error.{Error}
 use Rattle.clap.specs.declared.error.kind.ErrorKind.{ErrorKind}
-use Rattle.clap.specs.declared.error.kind.ErrorKind.TheVariants.{DisplayHelp, DisplayVersion, MissingRequiredArgument, OutOfMemory}
+use Rattle.clap.specs.declared.error.kind.ErrorKind.TheVariants.{DisplayHelp, DisplayVersion, MissingRequiredArgument, OutOfMemory, TooManyValues}
 use Rattle.clap.specs.declared.parser.matches.ArgMatches.{ArgMatches}
+use Rattle.plain_run.specs.declared.parts.TheConstants.{MAX_FILES}
 use Rattle.program_words.specs.declared.chosen.TheConstants.{MAX_THREADS}
 use Rattle.program_words.specs.declared.chosen.OptionsFault.{OptionsFault}
 use Rattle.program_words.specs.declared.chosen.OptionsFault.TheVariants.{Usage, Memory}
@@ -37,15 +38,15 @@ default_rule name default low high = record (number_rule name low high) { defaul
 abbrev pub flag_rule : List ℕ → Rule
 flag_rule name = record (new_rule name) { long = Some name; action = Some SetTrue }
 
--- a word that is no option
-abbrev pub word_rule : List ℕ → Rule
-word_rule name = record (new_rule name) { value_names = 1 }
+-- words that are no option: each of them is kept
+abbrev pub words_rule : List ℕ → Rule
+words_rule name = record (new_rule name) { value_names = 1; action = Some Append }
 
 -- a command that tells its version
 abbrev pub with_version : App → App
 with_version a = record a { top = record a.top { has_version = true } }
 
--- the program: its version, three numbers, three flags, and a file
+-- the program: its version, three numbers, three flags, and files
 abbrev pub program : App
 program =
     with_rule
@@ -60,7 +61,7 @@ program =
     (number_rule (codes "threads") 1 MAX_THREADS))
     (flag_rule (codes "report")))
     (flag_rule (codes "progress")))
-    (word_rule (codes "file"))
+    (words_rule (codes "file"))
 
 -- ---- what words say to it, the program's name first
 
@@ -73,13 +74,16 @@ abbrev pub said : List (List ℕ) → List ℕ → Option (List ℕ)
 said words name = first_of name (matches_of program words)
 
 -- the file of a name: `-` is none, but the input
-abbrev pub file_of : Option (List ℕ) → Option (List ℕ)
-file_of None = None
-file_of (Some name) = if bytes_eq name (codes "-") then None else Some name
+abbrev pub file_of : List ℕ → Option (List ℕ)
+file_of name = if bytes_eq name (codes "-") then None else Some name
 
--- the file that the words name
-abbrev pub file_named : List (List ℕ) → Option (List ℕ)
-file_named words = file_of (said words (codes "file"))
+-- the names of files that the words give, in their order
+abbrev pub names_given : List (List ℕ) → List (List ℕ)
+names_given words = unwrap_or (all_of (codes "file") (matches_of program words)) []
+
+-- the files that they name
+abbrev pub files_named : List (List ℕ) → List (Option (List ℕ))
+files_named words = map file_of (names_given words)
 
 -- the number that a text writes, or this one where there is no text
 abbrev pub number_of : Option (List ℕ) → ℕ → ℕ
@@ -95,14 +99,21 @@ is_true (Some text) = bytes_eq text (codes "true")
 abbrev pub is_set : List (List ℕ) → List ℕ → Bool
 is_set words name = is_true (said words name)
 
--- whether the words say how many threads there are, and not that they stand in the place of workers
-abbrev pub lacks_plain : List (List ℕ) → Bool
-lacks_plain words = is_some (said words (codes "threads")) && not (is_set words (codes "plain"))
+-- what is wrong with words that are right one by one, by whether they say how many threads there are, how many files they
+-- name, and whether `--plain` is there: it lacks, though threads or several files ask for it, or the files are too many
+abbrev pub wrong_together : Bool → ℕ → Bool → Kinds
+wrong_together threads files plain = if (threads || nat_lt 1 files) && not plain then MissingRequiredArgument ∷ []
+    else (if nat_lt MAX_FILES files then TooManyValues ∷ [] else [])
 
--- what is wrong with the words, or that they ask for the help: nothing where the program takes them. Words that are right
--- one by one are wrong where `--plain` lacks
+-- what is wrong with the words, or that they ask for the help: nothing where the program takes them
 abbrev pub refusals : List (List ℕ) → Kinds
-refusals words = or_else (fault_of program words) (if lacks_plain words then MissingRequiredArgument ∷ [] else [])
+refusals words = or_else (fault_of program words)
+    (wrong_together (is_some (said words (codes "threads"))) (length (files_named words)) (is_set words (codes "plain")))
+
+-- the kind of what is told, if anything
+abbrev pub kinds_of : {X : Type 0} → Option (ErrorKind × X) → Kinds
+kinds_of None = []
+kinds_of (Some told) = told.0 ∷ []
 
 -- ---- why words ask for nothing
 

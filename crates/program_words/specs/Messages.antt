@@ -4,8 +4,9 @@ use Rattle.std.specs.Char.{digit_char, encode_utf8, is_control}
 use Rattle.std.specs.List.{flat_map}
 use Rattle.std.specs.Str.{chars}
 use Rattle.byte_streams.specs.Streams.{SinkState, Took, WentOut}
-use Rattle.plain_run.specs.FaultText.{fault_text}
+use Rattle.plain_run.specs.FaultText.{fault_text, part_text}
 use Rattle.plain_run.specs.ReportText.{report_text}
+use Rattle.plain_run.specs.declared.fault.PartFault.{PartFault}
 use Rattle.plain_run.specs.declared.fault.RunFault.{RunFault}
 use Rattle.plain_run.specs.declared.report.Report.{Report}
 
@@ -52,3 +53,7 @@ escaped text = flat_map escaped_char (chars text)
 -- the line of a file of this name that can't be opened
 abbrev pub unopened_line : List ℕ → List ℕ
 unopened_line name = message_line (codes "cannot open " ++ escaped name)
+
+-- the line of a file of this name that isn't a part
+abbrev pub part_line : List ℕ → PartFault → List ℕ
+part_line name why = message_line (escaped name ++ codes ": " ++ part_text why)

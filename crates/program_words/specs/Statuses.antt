@@ -2,6 +2,8 @@
 use Rattle.std.specs.Prelude.{ℕ}
 use Rattle.links.specs.declared.cuts.CutFault.TheVariants as cut
 use Rattle.gr_text.specs.declared.faults.ReadFault.TheVariants as read
+use Rattle.plain_run.specs.declared.fault.PartFault.{PartFault}
+use Rattle.plain_run.specs.declared.fault.PartFault.TheVariants as part
 use Rattle.plain_run.specs.declared.fault.RunFault.{RunFault}
 use Rattle.plain_run.specs.declared.fault.RunFault.TheVariants as fault
 
@@ -17,3 +19,8 @@ status_for (fault.Cut refusal) = 1
 status_for (fault.Rounds round) = 5
 status_for (fault.Missed link) = 5
 status_for fault.Memory = 4
+
+-- the status of a file that isn't a part: its own fault's, or 1 for another number of vertices
+abbrev pub status_for_part : PartFault → ℕ
+status_for_part (part.Read why) = status_for (fault.Read why)
+status_for_part (part.OtherVertices vertices wanted) = 1

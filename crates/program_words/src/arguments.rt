@@ -1,18 +1,19 @@
 //! The words of the command line.
-ghost use Rattle.std.specs.Prelude.{◌≡◌, ◌≢◌, ◌<◌, ◌≤◌, ℕ, ◌^◌, [], not, ◌&&◌, is_some, map, option_map, Some, IfOk, OnOk, codes};
+ghost use Rattle.std.specs.Prelude.{◌≡◌, ◌≢◌, ◌<◌, ◌≤◌, ℕ, ◌^◌, [], is_some, map, length, option_map, None, IfSome, IfOk, OnOk, codes};
 ghost use Rattle.std.specs.String.{string_bytes};
 ghost use Rattle.std.specs.Vec.Iter.{into_iter_items};
 ghost use Rattle.clap.specs.Words.{IsAmong, app_of, fault_of, first_value, found_of, kind_of, one_text, rule_of, with_rule};
-ghost use Rattle.clap.specs.declared.error.kind.ErrorKind.TheVariants.{MissingRequiredArgument, OutOfMemory};
-ghost use Rattle.program_words.specs.Arguments.{program, number_rule, default_rule, flag_rule, word_rule, refusals, given, file_named, number_of, is_true, is_set, OnUsage};
+ghost use Rattle.clap.specs.declared.error.kind.ErrorKind.TheVariants.{OutOfMemory};
+ghost use Rattle.program_words.specs.Arguments.{program, number_rule, default_rule, flag_rule, words_rule, refusals, given, said, files_named, number_of, is_true, is_set, OnUsage};
 ghost use Rattle.program_words.specs.Arguments.{file_of as the_file_of};
-ghost use Rattle.program_words.specs.Arguments.{IsOwn, IsOwnArg, IsOtherName, HoldsFrom, IsUsage, lacks_plain};
+ghost use Rattle.program_words.specs.Arguments.{IsOwn, IsOwnArg, IsOtherName, HoldsFrom, IsUsage, kinds_of, wrong_together};
 
 use crate::chosen::{MAX_THREADS, Options, OptionsFault};
 use crate::version::RELEASE;
 use clap::error::ErrorKind;
 use clap::{Arg, ArgAction, ArgMatches, Command};
 use limits::{MAX_SHARDS, MAX_WORKERS};
+use plain_run::MAX_FILES;
 use std::alloc::{AllocError, Global};
 use std::convert::AsStr;
 use std::env::Args;
@@ -20,6 +21,10 @@ use std::env::Args;
 const ABOUT: &str = "Computes the minimum spanning forest of a graph in the .gr format.";
 
 const THREADS_ALONE: &str = "--threads needs --plain";
+
+const FILES_ALONE: &str = "several FILEs need --plain";
+
+const TOO_MANY_FILES: &str = "at most 65536 FILEs";
 
 const BEHIND_THE_HELP: &str = "Exit status:
   0  Done
@@ -85,11 +90,12 @@ fn flag<'a>(alloc: Global, name: &'a str, help: &'a str) -> Arg<'a>
 
 fn file_arg<'a>(alloc: Global) -> Arg<'a>
     ensures own { IsOwnArg result }
-    ensures rule { rule_of result ≡ word_rule (codes "file") }
+    ensures rule { rule_of result ≡ words_rule (codes "file") }
 {
     Arg::new(alloc, "file")
         .value_name("FILE")
-        .help("The graph; without it, or as -, standard input")
+        .help("The graph; without it, or as -, standard input; with --plain several, joined")
+        .action(ArgAction::Append)
 }
 
 fn with<'a>(command: Command<'a>, arg: Arg<'a>) -> Result<Command<'a>, AllocError>
@@ -149,20 +155,34 @@ fn is_set(matches: &ArgMatches<'_>, name: &str) -> bool
     }
 }
 
-// Whether threads are asked for, and not that they stand in the place of workers.
-fn is_alone(matches: &ArgMatches<'_>) -> bool
-    ensures { result ≡ is_some (first_value (found_of matches.now) (codes "threads"))
-        && not (is_true (first_value (found_of matches.now) (codes "plain"))) }
+// What is wrong with words that are right one by one, and what is told of it.
+fn told_together(
+    names_threads: bool,
+    files: usize,
+    plain: bool,
+) -> Option<(ErrorKind, &'static str)>
+    ensures kinds { kinds_of result ≡ wrong_together names_threads files plain }
+    ensures memory { IfSome result (λ told. told.0 ≢ OutOfMemory) }
+    ensures few { result ≡ None → files ≤ MAX_FILES }
 {
-    matches.get_str("threads").is_some() && !is_set(matches, "plain")
+    if names_threads && !plain {
+        return Some((ErrorKind::MissingRequiredArgument, THREADS_ALONE));
+    }
+    if files > 1 && !plain {
+        return Some((ErrorKind::MissingRequiredArgument, FILES_ALONE));
+    }
+    if files > MAX_FILES as usize {
+        return Some((ErrorKind::TooManyValues, TOO_MANY_FILES));
+    }
+    None
 }
 
-// What is answered where threads are asked for without `--plain`.
-fn threads_alone(alloc: Global) -> OptionsFault
-    ensures { IsUsage result (λ error. kind_of error ≡ MissingRequiredArgument) }
+// What is answered to words that are wrong together.
+fn wrong_words(alloc: Global, kind: ErrorKind, text: &'static str) -> OptionsFault
+    ensures { IsUsage result (λ error. kind_of error ≡ kind) }
 {
     match the_command(alloc) {
-        Ok(mut command) => match command.error(ErrorKind::MissingRequiredArgument, THREADS_ALONE) {
+        Ok(mut command) => match command.error(kind, text) {
             Ok(error) => OptionsFault::Usage(error),
             Err(AllocError) => OptionsFault::Memory,
         },
@@ -172,13 +192,26 @@ fn threads_alone(alloc: Global) -> OptionsFault
 
 // The file of a name: `-` is none, but standard input.
 fn file_of(alloc: Global, name: &str) -> Result<Option<String>, AllocError>
-    ensures { IfOk result (λ file. option_map string_bytes file ≡ the_file_of (Some name.now)) }
+    ensures { IfOk result (λ file. option_map string_bytes file ≡ the_file_of name.now) }
 {
     if name == "-" {
         return Ok(None);
     }
     let name = String::from_str(alloc, name)?;
     Ok(Some(name))
+}
+
+// The files of these names, in their order.
+fn files_of(alloc: Global, names: &[&str]) -> Result<Vec<Option<String>>, AllocError>
+    ensures { IfOk result (λ files. map (option_map string_bytes) files.items
+        ≡ map the_file_of (map (λ name. name.now) names.now)) }
+{
+    let mut files = Vec::new(alloc);
+    for name in names {
+        let file = file_of(alloc, name)?;
+        files.push(file)?;
+    }
+    Ok(files)
 }
 
 /// The words that std got of the command line, all of them and in their order.
@@ -191,10 +224,11 @@ pub fn all_words(alloc: Global, words: Args) -> Result<Vec<String>, AllocError>
     Ok(all)
 }
 
-// What the words ask for, each for itself, and whether they ask for threads alone.
+// What the words ask for, each for itself, and whether they say how many threads there are.
 fn options_of<'a, S: AsStr>(alloc: Global, words: &'a [S]) -> Result<(Options, bool), OptionsFault>
     ensures lawful { OnOk result (fault_of program (map S.text words.entry.now) ≡ []) }
-    ensures lacks { IfOk result (λ o. o.1 ≡ lacks_plain (map S.text words.entry.now)) }
+    ensures names_threads { IfOk result (λ o.
+        o.1 ≡ is_some (said (map S.text words.entry.now) (codes "threads"))) }
     ensures workers { IfOk result (λ o.
         o.0.workers ≡ number_of (given (map S.text words.entry.now) (codes "workers")) 2) }
     ensures shards { IfOk result (λ o.
@@ -207,8 +241,8 @@ fn options_of<'a, S: AsStr>(alloc: Global, words: &'a [S]) -> Result<(Options, b
         o.0.report ≡ is_set (map S.text words.entry.now) (codes "report")) }
     ensures progress { IfOk result (λ o.
         o.0.progress ≡ is_set (map S.text words.entry.now) (codes "progress")) }
-    ensures file { IfOk result (λ o.
-        option_map string_bytes o.0.file ≡ file_named (map S.text words.entry.now)) }
+    ensures files { IfOk result (λ o.
+        map (option_map string_bytes) o.0.files.items ≡ files_named (map S.text words.entry.now)) }
     ensures few_workers { IfOk result (λ o. o.0.workers ≤ MAX_WORKERS) }
     ensures some_shards { IfOk result (λ o. 1 ≤ o.0.shards) }
     ensures few_shards { IfOk result (λ o. o.0.shards ≤ MAX_SHARDS) }
@@ -223,9 +257,9 @@ fn options_of<'a, S: AsStr>(alloc: Global, words: &'a [S]) -> Result<(Options, b
     let workers = number(&matches, "workers", 2);
     let shards = number(&matches, "shards", 64);
     let threads = number(&matches, "threads", 1);
-    let file = match matches.get_str("file") {
-        Some(name) => file_of(alloc, name)?,
-        None => None,
+    let files = match matches.get_strs("file") {
+        Some(names) => files_of(alloc, names)?,
+        None => Vec::new(alloc),
     };
     let chosen = Options {
         workers,
@@ -234,15 +268,15 @@ fn options_of<'a, S: AsStr>(alloc: Global, words: &'a [S]) -> Result<(Options, b
         threads,
         report: is_set(&matches, "report"),
         progress: is_set(&matches, "progress"),
-        file,
+        files,
     };
-    Ok((chosen, is_alone(&matches)))
+    Ok((chosen, matches.get_str("threads").is_some()))
 }
 
 /// What the words ask for, the program's name first.
 ///
-/// Words that the program doesn't take, those that ask for the help or the version, numbers past their ranges, and threads
-/// without `--plain` are `Usage`. A FILE of the name `-` is none. What each word means is clap's to say; it is asked for the
+/// Words that the program doesn't take, those that ask for the help or the version, numbers past their ranges, threads or
+/// several files without `--plain`, and more than [`MAX_FILES`] files are `Usage`. A FILE of the name `-` is none. What each word means is clap's to say; it is asked for the
 /// arguments above. In time and memory linear in the words.
 pub fn options<'a, S: AsStr>(alloc: Global, words: &'a [S]) -> Result<Options, OptionsFault>
     // Words are taken only where nothing is wrong with them, and each sets what it names.
@@ -259,8 +293,8 @@ pub fn options<'a, S: AsStr>(alloc: Global, words: &'a [S]) -> Result<Options, O
         o.report ≡ is_set (map S.text words.entry.now) (codes "report")) }
     ensures progress { IfOk result (λ o.
         o.progress ≡ is_set (map S.text words.entry.now) (codes "progress")) }
-    ensures file { IfOk result (λ o.
-        option_map string_bytes o.file ≡ file_named (map S.text words.entry.now)) }
+    ensures files { IfOk result (λ o.
+        map (option_map string_bytes) o.files.items ≡ files_named (map S.text words.entry.now)) }
 
     // The numbers are in their ranges.
     ensures few_workers { IfOk result (λ o. o.workers ≤ MAX_WORKERS) }
@@ -268,18 +302,19 @@ pub fn options<'a, S: AsStr>(alloc: Global, words: &'a [S]) -> Result<Options, O
     ensures few_shards { IfOk result (λ o. o.shards ≤ MAX_SHARDS) }
     ensures some_threads { IfOk result (λ o. 1 ≤ o.threads) }
     ensures few_threads { IfOk result (λ o. o.threads ≤ MAX_THREADS) }
+    ensures few_files { IfOk result (λ o. length o.files.items ≤ MAX_FILES) }
 
     // What is refused is refused for what is wrong with it; want of memory is answered as such.
     ensures refused { OnUsage result (λ error.
         IsAmong (kind_of error) (refusals (map S.text words.entry.now))) }
     ensures memory { OnUsage result (λ error. kind_of error ≢ OutOfMemory) }
 {
-    let (chosen, lacks) = match options_of(alloc, words) {
+    let (chosen, names_threads) = match options_of(alloc, words) {
         Ok(found) => found,
         Err(fault) => return Err(fault),
     };
-    if lacks {
-        return Err(threads_alone(alloc));
+    match told_together(names_threads, chosen.files.len(), chosen.plain) {
+        Some((kind, text)) => Err(wrong_words(alloc, kind, text)),
+        None => Ok(chosen),
     }
-    Ok(chosen)
 }

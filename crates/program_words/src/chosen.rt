@@ -22,8 +22,8 @@ pub struct Options {
     pub report: bool,
     /// Whether standard error is told how much was read.
     pub progress: bool,
-    /// The file that is read; standard input where there is none.
-    pub file: Option<String>,
+    /// The files that are read, at most [`MAX_FILES`](plain_run::MAX_FILES); `None` is standard input, as is no file at all.
+    pub files: Vec<Option<String>>,
 }
 
 /// Why the words ask for nothing.

@@ -9,8 +9,11 @@ use arrayvec::ArrayString;
 /// The room for a character that is escaped: four bytes, each as `\x` and two digits.
 pub(crate) const ESCAPED_ROOM: usize = 16;
 
-/// The room for a line with a name: 4200 bytes, and one more character. Linux opens no name of more than 4095 bytes.
-pub(crate) const NAMED_LINE_ROOM: usize = 4216;
+/// The room for what stands behind a name: a fault's text has at most 120 bytes.
+pub(crate) const END_ROOM: usize = 128;
+
+/// The room for a line with a name: 4200 bytes, one more character and an end. Linux opens no name of more than 4095 bytes.
+pub(crate) const NAMED_LINE_ROOM: usize = 4344;
 
 // The hex digit of a number below 16.
 fn hex_digit(value: u8) -> char

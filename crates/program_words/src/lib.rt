@@ -3,7 +3,7 @@
 //! ```text
 //!     words of the command line --options--> Options, or OptionsFault
 //!     Report, RunFault, FILE's name --write_report, write_fault, write_unopened--> a line on standard error
-//!     RunFault --status_of--> status
+//!     RunFault --status_of--> status            PartFault --write_part_fault, status_of_part--> the same
 //! ```
 //!
 //! What it promises:
@@ -26,7 +26,8 @@ mod version;
 pub use arguments::{all_words, options};
 pub use chosen::{MAX_THREADS, Options, OptionsFault};
 pub use messages::{
-    write_fault, write_no_text, write_progress, write_report, write_text, write_unopened,
+    write_fault, write_no_text, write_part_fault, write_progress, write_report, write_text,
+    write_unopened,
 };
-pub use statuses::{ANSWERS, DEVICE, MEMORY, USAGE, status_of};
+pub use statuses::{ANSWERS, DEVICE, MEMORY, USAGE, status_of, status_of_part};
 pub use version::RELEASE;

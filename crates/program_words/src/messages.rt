@@ -1,15 +1,16 @@
 //! Lines for the user on standard error, written without taking memory. A failed write is ignored.
-ghost use Rattle.std.specs.Prelude.{◌≡◌, ◌<◌, ◌≤◌, ◌++◌, length, OnOk, IfErr};
+ghost use Rattle.std.specs.Prelude.{◌≡◌, ◌+◌, ◌≤◌, ◌++◌, length, OnOk, IfErr};
+ghost use Rattle.program_words.specs.declared.escapes.TheConstants.{END_ROOM, NAMED_LINE_ROOM};
 ghost use Rattle.arrayvec.specs.ArrayString.{array_string_len};
 ghost use Rattle.byte_streams.specs.Streams.{Took, WentOut};
-ghost use Rattle.program_words.specs.Messages.{IsWritten, IsPartWritten, escaped_char};
-ghost use Rattle.program_words.specs.Messages.{report_line, fault_line, progress_line, no_text_line, unopened_line};
+ghost use Rattle.program_words.specs.Messages.{IsWritten, IsPartWritten, escaped, escaped_char};
+ghost use Rattle.program_words.specs.Messages.{report_line, fault_line, part_line, progress_line, no_text_line, unopened_line};
 
-use crate::escapes::{ESCAPED_ROOM, NAMED_LINE_ROOM, push_escaped};
+use crate::escapes::{END_ROOM, ESCAPED_ROOM, NAMED_LINE_ROOM, push_escaped};
 use arrayvec::ArrayString;
 use byte_streams::{PutFault, Sink, put};
 use itoa::Buffer;
-use plain_run::{LINE_ROOM, Report, RunFault};
+use plain_run::{LINE_ROOM, PartFault, Report, RunFault};
 
 /// Writes a text, up to the sink's first setback.
 pub fn write_text<S: Sink>(sink: &mut S, text: &[u8])
@@ -78,7 +79,7 @@ pub fn write_no_text<S: Sink>(sink: &mut S)
     write_text(sink, b"boruvka: a word is not UTF-8\n");
 }
 
-// Appends a character to a line, escaped. If there may be no room for it, what stands in the line is written first.
+// Appends a character to a line, escaped. If there may be no room for it and an end, what stands in the line is written first.
 fn push_or_write<S: Sink>(
     sink: &mut S,
     line: &mut ArrayString<NAMED_LINE_ROOM>,
@@ -87,12 +88,12 @@ fn push_or_write<S: Sink>(
     requires { S.can_write sink.old }
     ensures went { OnOk result (IsPartWritten (line.old.bytes ++ escaped_char c) line.new.bytes
         (S.state sink.old) (S.state sink.new)) }
-    ensures room { OnOk result (array_string_len line.new < NAMED_LINE_ROOM) }
+    ensures room { OnOk result (array_string_len line.new + END_ROOM ≤ NAMED_LINE_ROOM) }
     ensures again { OnOk result (S.can_write sink.new) }
     ensures part { IfErr result (λ fault. WentOut fault.written line.old.bytes
         (S.state sink.old) (S.state sink.new)) }
 {
-    if line.remaining_capacity() <= ESCAPED_ROOM {
+    if line.remaining_capacity() <= ESCAPED_ROOM + END_ROOM {
         put(sink, line.as_str().as_bytes())?;
         line.clear();
     }
@@ -100,22 +101,48 @@ fn push_or_write<S: Sink>(
     Ok(())
 }
 
-/// Writes that a file can't be opened, in one write if the line has at most 4200 bytes.
-///
-/// Control characters of the name could fake a line on a terminal, so they are escaped: each of their bytes is written
-/// as `\x` and two hex digits. All other characters stay as they are, a backslash too.
-pub fn write_unopened<S: Sink>(sink: &mut S, name: &str)
-    requires { S.can_write sink.old }
-    ensures { IsWritten (unopened_line name.now) (S.state sink.old) (S.state sink.new) }
+// Writes a name between two texts, in one write if all have at most 4200 bytes.
+//
+// Control characters of the name could fake a line on a terminal, so they are escaped: each of their bytes is written
+// as `\x` and two hex digits. All other characters stay as they are, a backslash too.
+fn write_named<S: Sink>(sink: &mut S, front: &str, name: &str, end: &str)
+    requires can { S.can_write sink.old }
+    requires front { length front.now ≤ 64 }
+    requires end { length end.now ≤ END_ROOM }
+    ensures { IsWritten (front.now ++ (escaped name.now ++ end.now)) (S.state sink.old) (S.state sink.new) }
 {
     let mut line = ArrayString::<NAMED_LINE_ROOM>::new();
-    line.push_str("boruvka: cannot open ");
+    line.push_str(front);
     for c in name.chars() {
         match push_or_write(sink, &mut line, c) {
             Ok(()) => {}
             Err(_) => return,
         }
     }
-    line.push_str("\n");
+    line.push_str(end);
     write_text(sink, line.as_str().as_bytes());
+}
+
+/// Writes that a file can't be opened, in one write if the line has at most 4200 bytes.
+///
+/// The control characters of its name are written as the hex digits of their bytes.
+pub fn write_unopened<S: Sink>(sink: &mut S, name: &str)
+    requires { S.can_write sink.old }
+    ensures { IsWritten (unopened_line name.now) (S.state sink.old) (S.state sink.new) }
+{
+    write_named(sink, "boruvka: cannot open ", name, "\n");
+}
+
+/// Writes why a file isn't a part of a graph, behind its name, as [`write_unopened`] writes the name.
+///
+/// It has the text that [`PartFault`] is shown as.
+pub fn write_part_fault<S: Sink>(sink: &mut S, name: &str, fault: &PartFault)
+    requires { S.can_write sink.old }
+    ensures { IsWritten (part_line name.now fault.now) (S.state sink.old) (S.state sink.new) }
+{
+    let mut end = ArrayString::<LINE_ROOM>::new();
+    end.push_str(": ");
+    end.push_str(fault.text().as_str());
+    end.push_str("\n");
+    write_named(sink, "boruvka: ", name, end.as_str());
 }

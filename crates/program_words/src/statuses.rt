@@ -1,10 +1,10 @@
 //! The statuses that the program ends with.
 ghost use Rattle.std.specs.Prelude.{◌≡◌};
-ghost use Rattle.program_words.specs.Statuses.{status_for};
+ghost use Rattle.program_words.specs.Statuses.{status_for, status_for_part};
 
 use gr_text::ReadFault;
 use links::CutFault;
-use plain_run::RunFault;
+use plain_run::{PartFault, RunFault};
 
 /// Wrong words.
 pub const USAGE: u8 = 2;
@@ -30,5 +30,16 @@ pub fn status_of(fault: &RunFault) -> u8
         RunFault::Cut(_) => 1,
         RunFault::Read(ReadFault::Source { .. }) | RunFault::Write { .. } => DEVICE,
         RunFault::Rounds { .. } | RunFault::Missed { .. } => ANSWERS,
+    }
+}
+
+/// The status of a file that isn't a part of a graph: that of a run that ends by the same fault, or 1 for another number of
+/// vertices.
+pub fn status_of_part(fault: &PartFault) -> u8
+    ensures { result ≡ status_for_part fault.now }
+{
+    match *fault {
+        PartFault::Read(why) => status_of(&RunFault::Read(why)),
+        PartFault::OtherVertices { .. } => 1,
     }
 }

@@ -1,6 +1,9 @@
-use Rattle.std.proofs.Common.{refl, map}
+use Rattle.std.proofs.Common.{All, ap, map, option_map, refl, subst, sym, ◌∙◌}
+use Rattle.std.specs.Prelude.{IsSome}
+use Rattle.std.specs.String.{string_bytes}
 use Rattle.clap.specs.Words.{kind_of}
-use Rattle.boruvka.proofs.Endings.{wants_memory_obeys, obeys_words}
+use Rattle.boruvka.specs.Asked.{asked_by}
+use Rattle.boruvka.proofs.Endings.{wants_memory_obeys, obeys_words, some_items}
 use Rattle.boruvka.proofs.command.command.Goals as goal
 
 pub returns-in-Err-Usage-clause-wrong : goal.returns-in-Err-Usage-clause-wrong
@@ -11,7 +14,16 @@ returns-in-Err-Usage-clause-wrong g c = λ wrong.
 pub returns-in-Ok-clause-obeys : goal.returns-in-Ok-clause-obeys
 returns-in-Ok-clause-obeys g c = λ lawful.
     let taken = c.in-Ok.ensures in
-    obeys_words c.in-Ok.chosen (map g.S.AsStr.text c.args.words.now) _ _ _ taken.workers taken.shards taken.plain taken.report taken.progress taken.file c.obey.ensures.obeys
+    obeys_words c.in-Ok.chosen (map g.S.AsStr.text c.args.words.now) _ _ _ taken.workers taken.shards taken.plain taken.report taken.progress taken.files c.obey.ensures.obeys
 
 pub returns-in-Err-Memory-clause-obeys : goal.returns-in-Err-Memory-clause-obeys
-returns-in-Err-Memory-clause-obeys g c = λ lawful. wants_memory_obeys _ _ _ _ _ c.write_fault.ensures
+returns-in-Err-Memory-clause-obeys g c = λ lawful.
+    wants_memory_obeys (asked_by (map g.S.AsStr.text c.args.words.now)) (g.I.Source.state c.args.input.now) (g.O.Sink.state c.args.output.now)
+    (g.E.Sink.state c.args.errors.now) (g.E.Sink.state c.write_fault.new.sink) c.write_fault.ensures
+
+pub returns-in-Ok-clause-leaves_input : goal.returns-in-Ok-clause-leaves_input
+returns-in-Ok-clause-leaves_input g c = λ some all.
+    let taken = c.in-Ok.ensures.files in
+    c.obey.ensures.leaves_input
+    (λ none. some (sym taken ∙ ap (map (option_map string_bytes)) none))
+    (some_items string_bytes c.in-Ok.chosen.files.items (subst (All IsSome) (sym taken) all))

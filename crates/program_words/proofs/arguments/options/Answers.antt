@@ -1,16 +1,24 @@
-use Rattle.std.proofs.Common.{map}
-use Rattle.program_words.proofs.WordMeanings.{refused_first, taken_whole, refused_alone, alone_is_no_memory}
+use Rattle.std.proofs.Common.{map, ap, length, ◌∙◌, ◌≡◌, arith}
+use Rattle.program_words.specs.Arguments.{kinds_of}
+use Rattle.program_words.proofs.WordMeanings.{refused_first, told_is, refused_together, not_memory}
 use Rattle.program_words.proofs.arguments.options.Goals as goal
 
 pub returns-in-Err-clause-refused : goal.returns-in-Err-clause-refused
 returns-in-Err-clause-refused g c = refused_first (map g.S.AsStr.text c.args.words.now) c.in-Err.fault c.in-Err.ensures.refused
 
-pub returns-then-lacks-clause-refused : goal.returns-then-lacks-clause-refused
-returns-then-lacks-clause-refused g c =
-    refused_alone (map g.S.AsStr.text c.args.words.now) _ c.threads_alone.result c.in-Ok.ensures.lawful c.in-Ok.ensures.lacks c.if-lacks.true c.threads_alone.ensures
+pub returns-in-Some-clause-refused : goal.returns-in-Some-clause-refused
+returns-in-Some-clause-refused g c =
+    let long : c.len.result ≡ length c.in-Ok.found.0.files.items = omega (arith, c.len.ensures, c.in-Ok.found.0.files.ok.0) in
+    refused_together (map g.S.AsStr.text c.args.words.now) c.in-Some.kind _
+    (told_is (map g.S.AsStr.text c.args.words.now) c.in-Ok.found.0 _ _ c.told_together.result c.in-Ok.ensures.lawful c.in-Ok.ensures.names_threads c.in-Ok.ensures.files c.in-Ok.ensures.plain long c.told_together.ensures.kinds
+    ∙ ap kinds_of c.in-Some.is)
+    c.wrong_words.ensures
 
-pub returns-then-lacks-clause-memory : goal.returns-then-lacks-clause-memory
-returns-then-lacks-clause-memory g c = alone_is_no_memory c.threads_alone.result c.threads_alone.ensures
+pub returns-in-Some-clause-memory : goal.returns-in-Some-clause-memory
+returns-in-Some-clause-memory g c = not_memory c.in-Some.kind _ c.in-Some.ensures.memory c.wrong_words.ensures
 
-pub returns-clause-lawful : goal.returns-clause-lawful
-returns-clause-lawful g c = taken_whole (map g.S.AsStr.text c.args.words.now) _ c.in-Ok.ensures.lawful c.in-Ok.ensures.lacks c.if-lacks.false
+pub returns-in-None-clause-lawful : goal.returns-in-None-clause-lawful
+returns-in-None-clause-lawful g c =
+    let long : c.len.result ≡ length c.in-Ok.found.0.files.items = omega (arith, c.len.ensures, c.in-Ok.found.0.files.ok.0) in
+    told_is (map g.S.AsStr.text c.args.words.now) c.in-Ok.found.0 _ _ c.told_together.result c.in-Ok.ensures.lawful c.in-Ok.ensures.names_threads c.in-Ok.ensures.files c.in-Ok.ensures.plain long c.told_together.ensures.kinds
+    ∙ ap kinds_of c.in-None.is

@@ -1,9 +1,10 @@
 use Rattle.std.specs.String.{string_bytes}
-use Rattle.std.proofs.Common.{rules, ap, option_map, arith, sym, ◌∙◌, ℕ, List, Option, Ok, map}
+use Rattle.std.proofs.Common.{rules, ap, option_map, arith, sym, ◌∙◌, ℕ, [], List, Option, Ok, map}
+use Rattle.std.specs.Prelude.{is_some, unwrap_or}
 use Rattle.program_words.specs.Arguments.{number_of, is_true, file_of}
-use Rattle.program_words.proofs.WordMeanings.{workers_hold, shards_hold, threads_hold, given_is, said_is, lacks_is, fails_by_words}
+use Rattle.program_words.proofs.WordMeanings.{workers_hold, shards_hold, threads_hold, given_is, is_some-map, said_is, names_are, fails_by_words}
 use Rattle.program_words.proofs.arguments.options_of.Goals as goal
-use Rattle.program_words.proofs.arguments.options_of.Goals.{in-Some+in_ok-file-in-Some, in-None}
+use Rattle.program_words.proofs.arguments.options_of.Goals.{in-Some+in_ok-files-in-Some, in-None}
 
 pub returns-clause-lawful : goal.returns-clause-lawful
 returns-clause-lawful g c = fails_by_words _ _ (Ok c.in_ok-matches.matches) c.in_ok-command.ensures.app c.in_ok-matches.ensures.kinds
@@ -20,8 +21,10 @@ returns-clause-shards g c =
     c.number-shards.ensures.value 1 4096 (search rules) (omega arith)
     ∙ ap (λ (t : Option (List ℕ)). number_of t 64) (given_is _ _ _ _ c.in_ok-command.ensures.app c.in_ok-matches.ensures.matches)
 
-pub returns-clause-lacks : goal.returns-clause-lacks
-returns-clause-lacks g c = c.is_alone.ensures ∙ lacks_is _ (map g.S.AsStr.text c.args.words.now) _ c.in_ok-command.ensures.app c.in_ok-matches.ensures.matches
+pub returns-clause-names_threads : goal.returns-clause-names_threads
+returns-clause-names_threads g c =
+    c.is_some.ensures
+    ∙ (is_some-map (λ s. s.now) c.get_str.result ∙ ap is_some (c.get_str.ensures ∙ said_is _ _ _ _ c.in_ok-command.ensures.app c.in_ok-matches.ensures.matches))
 
 pub returns-clause-threads : goal.returns-clause-threads
 returns-clause-threads g c =
@@ -41,14 +44,17 @@ pub returns-clause-progress : goal.returns-clause-progress
 returns-clause-progress g c =
     c.is_set-3.ensures ∙ ap is_true (said_is _ _ _ _ c.in_ok-command.ensures.app c.in_ok-matches.ensures.matches)
 
-pub returns-clause-file : goal.returns-clause-file
-returns-clause-file g c =
-    let read = c.get_str.ensures ∙ said_is _ _ _ _ c.in_ok-command.ensures.app c.in_ok-matches.ensures.matches in
-    elim c.match-get_str.branch [
-      | in-Some+in_ok-file-in-Some w ↦
-          ap (option_map string_bytes) w.file-is
-          ∙ (w.in_ok-file-in-Some.ensures ∙ ap file_of (sym (ap (option_map (λ s. s.now)) w.in-Some.is) ∙ read))
-      | in-None w ↦ ap (option_map string_bytes) w.file-is ∙ ap file_of (sym (ap (option_map (λ s. s.now)) w.in-None.is) ∙ read)
+pub returns-clause-files : goal.returns-clause-files
+returns-clause-files g c =
+    let read = ap (λ (names : Option (List (List ℕ))). unwrap_or names []) c.get_strs.ensures
+    ∙ names_are _ _ _ c.in_ok-command.ensures.app c.in_ok-matches.ensures.matches in
+    elim c.match-get_strs.branch [
+      | in-Some+in_ok-files-in-Some w ↦
+          ap (λ v. map (option_map string_bytes) v.items) w.files-is
+          ∙ (w.in_ok-files-in-Some.ensures ∙ ap (map file_of) (sym (ap (λ o. unwrap_or (option_map (λ s. map (λ v. v.now) s.now) o) []) w.in-Some.is) ∙ read))
+      | in-None w ↦
+          ap (λ v. map (option_map string_bytes) v.items) w.files-is
+          ∙ (ap (map (option_map string_bytes)) w.new-files.ensures.items ∙ ap (map file_of) (sym (ap (λ o. unwrap_or (option_map (λ s. map (λ v. v.now) s.now) o) []) w.in-None.is) ∙ read))
     ]
 
 pub returns-clause-few_workers : goal.returns-clause-few_workers

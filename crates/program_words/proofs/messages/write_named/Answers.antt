@@ -7,7 +7,7 @@ use Rattle.std.proofs.lemmas.List.{flat_map_more, take-append-drop}
 use Rattle.std.proofs.lemmas.List.Concat.{flat_map-append}
 use Rattle.program_words.specs.Messages.{IsWritten, IsPartWritten, escaped_char}
 use Rattle.program_words.proofs.Writing.{part_then, part_hindered, part_more}
-use Rattle.program_words.proofs.messages.write_unopened.Goals as goal
+use Rattle.program_words.proofs.messages.write_named.Goals as goal
 
 -- a line that stands up to some character, with the rest of it
 line_split : (front end done cs : List ℕ) (n : ℕ) → done ≡ take n cs
@@ -22,7 +22,7 @@ line_split front end done cs n is =
 pub loop-c-preserved : goal.loop-c-preserved
 loop-c-preserved g c = record {
   went = subst (λ (t : List ℕ). IsPartWritten t c.push_or_write.new.line.bytes (g.S.Sink.state c.args.sink.now) (g.S.Sink.state c.push_or_write.new.sink))
-      (flat_map_more escaped_char (codes "boruvka: cannot open ") c.loop-c.yielded c.in-Some.c)
+      (flat_map_more escaped_char c.args.front.now c.loop-c.yielded c.in-Some.c)
       (part_more _ _ _ _ _ _ _ c.loop-c.invariant.went c.in-Ok.ensures.went);
   room = c.in-Ok.ensures.room;
   can = c.in-Ok.ensures.again;
@@ -34,15 +34,17 @@ returns-in-Err g c =
     let n = length c.loop-c.yielded in
     let so_far = YieldsList-so_far (YieldsList-from_chars c.args.name.now c.utf8.name cc) c.loop-c.yielded _ c.loop-c.yielded_by in
     subst (λ (t : List ℕ). IsWritten t (g.S.Sink.state c.args.sink.now) (g.S.Sink.state c.push_or_write.new.sink))
-    (line_split (codes "boruvka: cannot open ") (10 ∷ []) c.loop-c.yielded cs n (sym (map-id c.loop-c.yielded) ∙ so_far))
-    (part_hindered _ _ (flat_map escaped_char (drop n cs) ++ 10 ∷ []) _ _ _ _ c.loop-c.invariant.went c.in-Err.ensures.part)
+    (line_split c.args.front.now c.args.end.now c.loop-c.yielded cs n (sym (map-id c.loop-c.yielded) ∙ so_far))
+    (part_hindered _ _ (flat_map escaped_char (drop n cs) ++ c.args.end.now) _ _ _ _ c.loop-c.invariant.went c.in-Err.ensures.part)
 
 pub returns : goal.returns
 returns g c =
     let done = YieldsList-end (YieldsList-from_chars c.args.name.now c.utf8.name cc) c.loop-c.yielded _ c.loop-c.yielded_by _ _ c.in-None.is c.next.ensures.steps in
     let all : c.loop-c.yielded ≡ chars c.args.name.now = sym (map-id c.loop-c.yielded) ∙ done.0 in
-    let last : IsWritten (c.loop-c.line.bytes ++ 10 ∷ []) (g.S.Sink.state c.loop-c.sink) (g.S.Sink.state c.write_text.new.sink) =
+    let last : IsWritten (c.loop-c.line.bytes ++ c.args.end.now) (g.S.Sink.state c.loop-c.sink) (g.S.Sink.state c.write_text.new.sink) =
     subst (λ (t : List ℕ). IsWritten t (g.S.Sink.state c.loop-c.sink) (g.S.Sink.state c.write_text.new.sink))
     (c.as_bytes.ensures.value ∙ (c.as_str.ensures.value ∙ c.push_str-2.ensures.bytes)) c.write_text.ensures in
-    subst (λ (cs : List ℕ). IsWritten ((codes "boruvka: cannot open " ++ flat_map escaped_char cs) ++ 10 ∷ []) (g.S.Sink.state c.args.sink.now) (g.S.Sink.state c.write_text.new.sink))
-    all (part_then _ _ (10 ∷ []) _ _ _ c.loop-c.invariant.went last)
+    subst (λ (t : List ℕ). IsWritten t (g.S.Sink.state c.args.sink.now) (g.S.Sink.state c.write_text.new.sink))
+    (ap (λ (cs : List ℕ). (c.args.front.now ++ flat_map escaped_char cs) ++ c.args.end.now) all
+    ∙ append_assoc c.args.front.now (flat_map escaped_char (chars c.args.name.now)) c.args.end.now)
+    (part_then _ _ c.args.end.now _ _ _ c.loop-c.invariant.went last)

@@ -1,0 +1,117 @@
+-- What is asked for, and that it was done.
+use Rattle.std.specs.Prelude.{◌≡◌, ◌≢◌, ◌≤◌, ℕ, ◌⊎◌, List, [], ◌∷◌, map, Option, None, Some, Bool, true, false, codes, option_map}
+use Rattle.std.specs.String.{string_bytes}
+use Rattle.byte_streams.specs.Streams.{SourceState, SinkState, Took}
+use Rattle.clap.specs.Words.{IsAmong}
+use Rattle.clap.specs.declared.error.kind.ErrorKind.{ErrorKind}
+use Rattle.clap.specs.declared.error.kind.ErrorKind.TheVariants.{DisplayHelp, DisplayVersion}
+use Rattle.program_words.specs.Arguments.{refusals, given, files_named, number_of, is_set, IsMistake}
+use Rattle.program_words.specs.declared.chosen.Options.{Options}
+use Rattle.program_words.specs.Messages.{IsWritten, unopened_line}
+use Rattle.boruvka.specs.Joined.{EndsOnSeveral}
+use Rattle.boruvka.specs.Status.{EndsOverWorkers, EndsWith, IsUntouched, KeepsStreams, uncounted}
+use Rattle.boruvka.specs.Streams.{Standard, Left}
+use Rattle.boruvka.specs.declared.standard.StandardStreams.{StandardStreams}
+
+-- what lawful words ask for: so many workers and shards, or no workers; with the report or without; on these files, each a FILE or the input
+pub record Asked : Type 0 where
+  pub workers : ℕ
+  pub shards : ℕ
+  pub plain : Bool
+  pub report : Bool
+  pub progress : Bool
+  pub files : List (Option (List ℕ))
+
+abbrev pub asked_of : Options → Asked
+asked_of chosen = record {
+  workers = chosen.workers;
+  shards = chosen.shards;
+  plain = chosen.plain;
+  report = chosen.report;
+  progress = chosen.progress;
+  files = map (option_map string_bytes) chosen.files.items;
+}
+
+-- a run that is asked for keeps as much of its streams, and one without workers isn't ended by what workers answered
+pub record KeepsAsked {I O E : Type 0} (sink_of : O → SinkState) (unflushed_of : O → Option (List ℕ)) (asked : Asked) (status : ℕ)
+    (before : StandardStreams I O E) (after : Left I O E) : Type 0 where
+  pub streams : KeepsStreams sink_of unflushed_of asked.report status before after
+  pub plain_status : asked.plain ≡ true → status ≤ 4
+
+-- the streams with another source
+abbrev pub with_source : SourceState → Standard → Standard
+with_source s all = record { source = s; sink = all.sink; errors = all.errors }
+
+-- the streams with such a source
+abbrev pub from_file : Standard → Standard
+from_file = with_source uncounted
+
+-- a run without workers, or over them
+abbrev pub EndsAs : Bool → Asked → ℕ → Standard → Standard → Type 0
+EndsAs true asked = EndsWith asked.report
+EndsAs false asked = EndsOverWorkers asked.workers asked.shards asked.report
+
+-- a run on a source. Where it is told how much was read, nobody is told in which state that leaves the source
+abbrev pub EndsOnSource : Bool → Asked → ℕ → Standard → Standard → Type 0
+EndsOnSource true asked status before after = (s : SourceState) × EndsAs asked.plain asked status before (with_source s after)
+EndsOnSource false asked status before after = EndsAs asked.plain asked status before after
+
+-- what is done with a FILE: it can't be opened, whose line is written and nothing else, or it is run on, and nothing is known of
+-- itself; without a FILE the input is run on
+abbrev pub EndsOn : Option (List ℕ) → Asked → ℕ → Standard → Standard → Type 0
+EndsOn None asked status before after = EndsOnSource asked.progress asked status before after
+EndsOn (Some name) asked status before after =
+    ((status ≡ 3) × IsUntouched before.sink after.sink × IsWritten (unopened_line name) before.errors after.errors)
+    ⊎ EndsOnSource asked.progress asked status (from_file before) (from_file after)
+
+-- the same of files: of none the input is run on, and of several the links are joined, without workers
+abbrev pub EndsOnFiles : List (Option (List ℕ)) → Asked → ℕ → Standard → Standard → Type 0
+EndsOnFiles [] asked = EndsOn None asked
+EndsOnFiles (file ∷ []) asked = EndsOn file asked
+EndsOnFiles (file ∷ next ∷ files) asked = EndsOnSeveral (file ∷ next ∷ files) asked.report
+
+-- what is asked for was done
+abbrev pub Obeys : Asked → ℕ → Standard → Standard → Type 0
+Obeys asked = EndsOnFiles asked.files asked
+
+-- ---- by what the words ask for, the program's name first
+
+-- what lawful words ask for: where they don't say them, 2 workers and 64 shards
+abbrev pub asked_by : List (List ℕ) → Asked
+asked_by words = record {
+  workers = number_of (given words (codes "workers")) 2;
+  shards = number_of (given words (codes "shards")) 64;
+  plain = is_set words (codes "plain");
+  report = is_set words (codes "report");
+  progress = is_set words (codes "progress");
+  files = files_named words;
+}
+
+-- what lawful words ask for was done
+abbrev pub ObeysWords : List (List ℕ) → ℕ → Standard → Standard → Type 0
+ObeysWords words status before after = refusals words ≡ [] → Obeys (asked_by words) status before after
+
+-- words that ask for the help alone
+abbrev pub AskForHelp : List (List ℕ) → Type 0
+AskForHelp words = refusals words ≡ DisplayHelp ∷ []
+
+-- words that ask for the version alone
+abbrev pub AskForVersion : List (List ℕ) → Type 0
+AskForVersion words = refusals words ≡ DisplayVersion ∷ []
+
+-- words that are refused, and ask neither for the help nor for the version
+abbrev pub AreWrong : List (List ℕ) → Type 0
+AreWrong words = (refusals words ≢ []) × ((kind : ErrorKind) → IsAmong kind (refusals words) → IsMistake kind)
+
+-- the status of words that are refused: 2, or 4 where memory was wanting
+abbrev pub RefusesWords : ℕ → Type 0
+RefusesWords status = (status ≡ 2) ⊎ (status ≡ 4)
+
+-- what the help and the version do to the output: it took the text, or a part of it and then had a setback, or memory was wanting
+abbrev pub HelpEnds : ℕ → SinkState → SinkState → Type 0
+HelpEnds status before after = (text : List ℕ) × (((status ≡ 0) × Took 0 text before after)
+    ⊎ (((status ≡ 3) × Took 1 text before after) ⊎ ((status ≡ 4) × IsUntouched before after)))
+
+-- and words that are refused, whatever they ask for: as the help does, or as words that leave the output as it was
+abbrev pub EndsRefused : {O : Type 0} → (O → SinkState) → ℕ → O → O → Type 0
+EndsRefused sink_of status before after = HelpEnds status (sink_of before) (sink_of after) ⊎ (RefusesWords status × (after ≡ before))
