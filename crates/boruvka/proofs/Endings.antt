@@ -3,7 +3,7 @@ use Rattle.std.specs.Prelude.{Result, OnOk, IsSome, Bool, true, false, option_ma
 use Rattle.std.proofs.lemmas.List.{get_or-map, length-map}
 use Rattle.std.specs.String.{string_bytes}
 use Rattle.std.specs.Global.{Vec}
-use Rattle.std.proofs.Common.{◌≡◌, ◌≢◌, ◌≤◌, ℕ, ◌⊎◌, ◌∙◌, List, [], ◌∷◌, length, get_or, map, slice_get, All, Option, None, Some, inl, inr, Ok, Err, refl, sym, subst, arith, codes}
+use Rattle.std.proofs.Common.{◌≡◌, ◌≢◌, ◌≤◌, ℕ, ◌⊎◌, ◌∙◌, List, [], ◌∷◌, length, get_or, map, slice_get, All, Option, None, Some, inl, inr, Ok, Err, refl, subst, arith, codes}
 use Rattle.byte_streams.specs.Streams.{SourceState, SinkState, IsFlushed}
 use Rattle.byte_streams.proofs.Streaming.{gave_nothing, took_nothing}
 use Rattle.links.specs.declared.cuts.CutFault.TheVariants as cut
@@ -21,7 +21,7 @@ use Rattle.plain_run.specs.declared.report.Report.{Report}
 use Rattle.plain_run.specs.declared.fault.RunFault.{RunFault}
 use Rattle.plain_run.specs.declared.fault.RunFault.TheVariants as fault
 use Rattle.program_words.specs.Arguments.{given, number_of, is_set, files_named}
-use Rattle.program_words.specs.Messages.{IsWritten, fault_line, unopened_line}
+use Rattle.program_words.specs.Messages.{IsWritten, fault_line}
 use Rattle.program_words.specs.Statuses.{status_for}
 use Rattle.program_words.specs.declared.chosen.Options.{Options}
 use Rattle.boruvka.specs.Streams.{Standard, of_run}

@@ -1,14 +1,13 @@
 -- Several files, whose links are joined: one file after the other, and how the run ends.
-use Rattle.std.proofs.Common.{◌≡◌, ◌≢◌, ◌≤◌, ◌<◌, ◌+◌, ℕ, ◌⊎◌, ◌∙◌, List, [], ◌∷◌, ◌++◌, length, get_or, take, drop, map, All, Option, None, Some, Bool, true, false, inl, inr, Result, Ok, Err, refl, sym, ap, subst, arith}
+use Rattle.std.proofs.Common.{◌≡◌, ◌≤◌, ◌<◌, ◌+◌, ℕ, ◌⊎◌, ◌∙◌, List, [], ◌∷◌, ◌++◌, length, get_or, take, drop, map, All, Option, None, Some, Bool, true, false, inl, inr, Result, Ok, Err, refl, sym, ap, subst, arith}
 use Rattle.std.specs.Prelude.{Contains, IfOk, IsSome, is_some, not, ◌||◌, option_map}
 use Rattle.std.proofs.lemmas.List.{drop_more, get_or-map, get_or_append_left, length-append, length-map, length-take, take-append-drop, take_more}
 use Rattle.std.proofs.Math.Seq.{get_or-append_seam}
-use Rattle.std.specs.Global.{Vec}
-use Rattle.byte_streams.specs.Streams.{SourceState, SinkState, Gave, Took, IsFlushed}
+use Rattle.byte_streams.specs.Streams.{SourceState, SinkState, Gave}
 use Rattle.byte_streams.proofs.Streaming.{took_nothing}
 use Rattle.gr_text.specs.Graph.{GraphValue}
 use Rattle.gr_text.specs.declared.faults.ReadFault.TheVariants as read
-use Rattle.plain_run.specs.Parts.{Adds, ArePartsOf, HasOtherVertices, IsAdded, PartsValue, WritesForestOf, joined_graph}
+use Rattle.plain_run.specs.Parts.{Adds, ArePartsOf, PartsValue, WritesForestOf, joined_graph}
 use Rattle.plain_run.specs.declared.fault.PartFault.{PartFault}
 use Rattle.plain_run.specs.declared.fault.PartFault.TheVariants as part
 use Rattle.plain_run.specs.declared.fault.RunFault.{RunFault}

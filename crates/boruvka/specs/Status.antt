@@ -1,5 +1,5 @@
 -- How the program ends.
-use Rattle.std.specs.Prelude.{◌≡◌, ◌≢◌, ◌≤◌, ℕ, ◌⊎◌, List, [], length, All, Option, None, Bool, true, false, Result, Ok, Err}
+use Rattle.std.specs.Prelude.{◌≡◌, ◌≤◌, ℕ, ◌⊎◌, List, [], length, All, Option, None, Bool, true, false, Result, Ok, Err}
 use Rattle.std.specs.Global.{Vec}
 use Rattle.byte_streams.specs.Streams.{SourceState, SinkState, only_left, Took, HadNoSetback}
 use Rattle.wires.specs.declared.line.Line as Line
