@@ -9,6 +9,7 @@ import random
 import re
 import shutil
 import subprocess
+import unicodedata
 
 TESTS = os.path.dirname(os.path.dirname(os.path.realpath(__file__)))
 ROOT = os.path.dirname(TESTS)
@@ -85,6 +86,11 @@ def written(path, source):
     with open(path, "wb") as it:
         it.write(source)
     return path
+
+
+def escaped(name):
+    """A file's name as the program shows it: bytes of control characters in hex digits. Which these are is Unicode's table."""
+    return "".join("".join(map("\\x{:02x}".format, it.encode())) if unicodedata.category(it) == "Cc" else it for it in name)
 
 
 class Components:
