@@ -3,7 +3,7 @@
 
 usage: tests/soak.py [--minutes M] [--seed N] [--case I] [--jobs J] [--self-test] [PROGRAM]
 
-A case is a graph, a spelling of it, the program's words, and what fails in the run. There are five sorts:
+A case is a graph, a spelling of it, the program's words, and what fails in the run. There are six sorts:
 
     plain           by one thread: the forest's text, status 0, and the report where it was asked for
     workers         over workers: the same, the report's equations and rounds, and no worker lost; then by one thread
@@ -12,6 +12,8 @@ A case is a graph, a spelling of it, the program's words, and what fails in the 
     refused memory  allocations are refused (tests/refusing.c): the answer, or status 4 and its line, and nothing else
     malformed       a lawful text with bytes, fields, numbers or lines changed: its first fault, or its forest where
                     it is lawful still
+    several files   a graph's arcs in two files to ten, by one thread or more: their forest together, or the first of
+                    them that is at fault (malformed, of other vertices, not there) and how
 
 Forests come from Kruskal's algorithm over Python's own sort (tests/cases/running.py), faults from a judge that was
 written from docs/GR_FORMAT.md alone. A run of more than 60 s is a mismatch.
@@ -42,7 +44,7 @@ from collections import Counter
 sys.dont_write_bytecode = True
 
 from cases.running import SECONDS, Program, built, written
-from soaking.comparing import Limits, expect_right, found_by, runs_of, wrong_with
+from soaking.comparing import Limits, expect_right, files_written, found_by, runs_of, wrong_with
 from soaking.drawing import SORTS, drawn_case
 from soaking.planting import PLANTS
 
@@ -52,6 +54,8 @@ def kept(folder, seed, number, why, case, found):
     room = f"{folder}/case-{number}"
     os.makedirs(room, exist_ok=True)
     written(f"{room}/graph.gr", case.text)
+    if case.files:
+        files_written(f"{room}/files", case.files)
     written(f"{room}/words", f"{case.shown()}\n--seed {seed} --case {number}\n{why}\n".encode())
     for name, text in vars(found).items() if found else ():
         written(f"{room}/{name}", text if isinstance(text, bytes) else b"%d\n" % text)

@@ -1,11 +1,13 @@
 """Runs of the program, and what is wrong with what they gave."""
+import os
+import shutil
 import subprocess
 from dataclasses import dataclass, replace
 
 from cases.running import NO_MEMORY, SECONDS, Program, Report, expect, run, told_by, total_of, written
 from cases.sockets import NOTHING
 from cases.streams import LEAST_PIECE, READ_ROOM
-from soaking.judging import answer_broken_off, answer_to, rounds_of
+from soaking.judging import answer_broken_off, answer_to, answer_to_files, rounds_of
 
 
 class Limits:
@@ -29,8 +31,20 @@ class Found:
         return self.told.count(b"x")
 
 
+def files_written(room, files):
+    """An empty folder of this path, in which then those files are that have a text; standard input is none."""
+    shutil.rmtree(room, ignore_errors=True)
+    os.makedirs(room)
+    for name, text in files:
+        if name != "-" and text is not None:
+            written(f"{room}/{name}", text)
+    return room
+
+
 def found_by(room, case):
     """What the program did. (A FILE `-` is standard input.)"""
+    if case.files:
+        room = files_written(f"{room}/files", case.files)
     if case.given == "piped":
         return found_of(room, case, case.text)
     path = written(f"{room}/{case.given}", case.text)
@@ -111,7 +125,7 @@ def expect_right(case, found):
     elif case.library == "refusing" and found.failed and found.status == 4:
         expect((found.status, found.output, found.errors), 4, b"", NO_MEMORY)
     else:
-        expect_answer(case, found, answer_to(case.text))
+        expect_answer(case, found, answer_to_files(case.files) if case.files else answer_to(case.text))
 
 
 def runs_of(case):

@@ -8,7 +8,8 @@ from cases.calls import ERRORS
 from cases.sockets import NOTHING
 from soaking.judging import FIELD, LEAST_WEIGHT, MOST_ARCS, MOST_VERTICES, MOST_WEIGHT, SIGNED, Fault, judged, number_of
 
-SORTS = {"plain": 5, "workers": 4, "failing": 4, "refused memory": 3, "malformed": 8}  # and how often they come
+# and how often they come
+SORTS = {"plain": 5, "workers": 4, "failing": 4, "refused memory": 3, "malformed": 8, "several files": 5}
 FAR = 10**9
 MOST_WORKERS, MOST_SHARDS = 64, 4096
 PAGE = 4096
@@ -17,7 +18,7 @@ PAGE = 4096
 @dataclass
 class Case:
     sort: str
-    text: bytes
+    text: bytes  # of several files that of standard input
     words: list
     given: str  # how the text goes in: "piped" or "redirected" to standard input, or the name of a file
     plain: bool
@@ -26,6 +27,7 @@ class Case:
     report: bool
     library: str = ""
     fails: dict = field(default_factory=dict)
+    files: list = field(default_factory=list)  # of several files their names and texts, in order
 
     @property
     def is_named(self):
@@ -214,14 +216,72 @@ def within_memory(text):
         return text, 0
 
 
+# Several files
+
+NAMES = ["a.gr", "b.gr", "c.gr", "./d.gr", "a b.gr", "größe.gr", "\x1b[2K.gr", "\u0085\n.gr", "e: line 1.gr", "-"]
+
+
+def parts_of(draw, arcs):
+    """The arcs in 2 to 9 lists at random; some may be empty, and some arcs may be in two."""
+    parts = [[] for _ in range(draw.randint(2, 9))]
+    some = draw.sample(parts, draw.randint(1, len(parts)))
+    for arc in arcs:
+        draw.choice(some).append(arc)
+    for part in draw.sample(parts, draw.choice([0, 0, 1, 2])):
+        part += draw.sample(arcs, draw.randint(0, len(arcs)))
+    return parts
+
+
+def with_fault(draw, vertices, text):
+    """A text beside others of so many vertices, or None for no file: one that may be malformed, or of other vertices."""
+    kind = draw.choices(["changed", "other", "none"], [5, 4, 1])[0]
+    if kind == "changed":
+        return within_memory(changed(draw, text))[0]
+    if kind == "other":
+        other = draw.choice([0, vertices + 1, max(0, vertices - 1), draw.randint(0, 2000)])
+        return spelled(draw, other, drawn_arcs(draw, other, draw.randint(0, 9) if other else 0))
+    return None
+
+
+def drawn_files(draw):
+    """Two files to nine, each with its name: an arc list cut at random; in some cases files are at fault."""
+    vertices, count = drawn_size(draw, "several files")
+    parts = parts_of(draw, drawn_arcs(draw, vertices, count))
+    texts = [spelled(draw, vertices, it) for it in parts]
+    for text, part in zip(texts, parts):
+        if (judged(text).vertices, judged(text).arcs) != (vertices, part):
+            raise AssertionError(f"the judge reads another graph than was spelled: {text!r:.600}")
+    if draw.random() < 0.5:
+        for at in draw.sample(range(len(texts)), draw.choice([1, 1, 2])):
+            texts[at] = with_fault(draw, vertices, texts[at])
+    files = list(zip(draw.sample(NAMES, len(texts)), texts))
+    # the same file again, or standard input, which comes once
+    return files + [draw.choice(files)] * (draw.random() < 0.1)
+
+
+def drawn_several(draw):
+    """A case of several files, some of them by threads."""
+    files = [("-", text or b"") if name == "-" else (name, text) for name, text in drawn_files(draw)]
+    case = Case("several files", dict(files).get("-", b""), [], draw.choice(["piped", "redirected"]), True, 2, 64, draw.random() < 0.5, files=files)
+    groups = drawn_groups(draw, case)
+    if draw.random() < 0.4:
+        groups.append(["--threads", str(draw.choice([1, 2, 3, 8, 64]))])
+    # the names among the others, in their order
+    places = sorted(draw.randint(0, len(groups)) for _ in files)
+    for at, (name, _) in enumerate(files):
+        groups.insert(places[at] + at, [name])
+    case.words = sum(groups, [])
+    return case
+
+
 # Modes and failures
 
 MAKERS = ["socket", "bind", "listen", "getsockname", "setsockopt", "nodelay", "connect", "hangup", "getsockopt", "accept", "thread", "stranger"]
 STREAMS, SOCKETS = ["read", "write"], ["recv", "send"]
 
 
-def drawn_words(draw, case):
-    """The words of a case, in any order."""
+def drawn_groups(draw, case):
+    """The words of a case, those that belong together in a list, in any order."""
     groups = [["--plain"]] if case.plain else []
     if not case.plain and (case.workers, case.shards) == (2, 64):
         given = draw.choice([[], ["--workers"], ["--shards"]])
@@ -232,7 +292,7 @@ def drawn_words(draw, case):
             groups.append(draw.choice([[word, str(number)], [f"{word}={number}"]]))
     groups += [["--report"]] * case.report + [[case.given]] * case.is_named
     draw.shuffle(groups)
-    return sum(groups, [])
+    return groups
 
 
 def drawn_workers(draw):
@@ -277,6 +337,8 @@ def drawn_case(seed, number):
     """A case, by the seed and its number alone."""
     draw = random.Random(f"{seed} {number}")
     sort = draw.choices(list(SORTS), list(SORTS.values()))[0]
+    if sort == "several files":
+        return drawn_several(draw)
     text, vertices = drawn_text(draw, sort)
     often = {"plain": 1, "workers": 0, "malformed": 0.8}.get(sort, 0.4)
     is_plain = draw.random() < often or vertices > 2000
@@ -289,7 +351,7 @@ def drawn_case(seed, number):
     # more than a page may come through a pipe in pieces, and then nobody knows behind which a read fails
     if case.given == "piped" and case.fails.get("FAIL_CALL") == "read" and len(text) > PAGE:
         case.given = "redirected"
-    case.words = drawn_words(draw, case)
+    case.words = sum(drawn_groups(draw, case), [])
     return case
 
 

@@ -2,7 +2,7 @@
 import re
 from dataclasses import dataclass
 
-from cases.running import Components, forest_of, forest_text
+from cases.running import Components, escaped, forest_of, forest_text
 
 FIELD = re.compile(rb"[^ \t\r]+")
 DIGITS = re.compile(rb"[0-9]+")
@@ -108,9 +108,33 @@ def answer_to(text):
         graph = judged(text)
     except Fault as it:
         return refusal(f"line {it.line}: {it.kind}")
-    forest = forest_of(graph.vertices, graph.arcs)
-    links = sum(u != v for u, v, _ in graph.arcs)
-    return Answer(0, forest_text(graph.vertices, forest), b"", graph.vertices, links, forest)
+    return answer_of(graph.vertices, graph.arcs)
+
+
+def answer_of(vertices, arcs):
+    """What a run gives of a graph where nothing fails."""
+    forest = forest_of(vertices, arcs)
+    links = sum(u != v for u, v, _ in arcs)
+    return Answer(0, forest_text(vertices, forest), b"", vertices, links, forest)
+
+
+def answer_to_files(files):
+    """What a run gives of several files, each a name and a text, or None where there is no such file: the first that is at
+    fault is told. Standard input, which is `-`, comes once."""
+    vertices, arcs, names = None, [], []
+    for name, text in files:
+        if text is None or name == "-" and name in names:
+            return refusal(f"cannot open {escaped(name)}", 3)
+        names.append(name)
+        try:
+            graph = judged(text)
+        except Fault as it:
+            return refusal(f"{escaped(name)}: line {it.line}: {it.kind}")
+        if vertices not in (None, graph.vertices):
+            return refusal(f"{escaped(name)}: {graph.vertices} vertices in place of {vertices}")
+        vertices = graph.vertices
+        arcs += graph.arcs
+    return answer_of(vertices, arcs)
 
 
 def answer_broken_off(text):

@@ -3,9 +3,9 @@ import re
 import signal
 from dataclasses import replace
 
-from cases.running import NO_MEMORY
+from cases.running import NO_MEMORY, escaped
 from soaking.comparing import Found
-from soaking.judging import answer_to
+from soaking.judging import answer_to, answer_to_files
 
 PLANTS = {}
 
@@ -160,6 +160,38 @@ def a_round_past_the_bound(case, found):
 @plant
 def a_thread_that_was_not_joined(case, found):
     return replace(found, told=found.told + b"J") if case.library == "failing" else None
+
+
+@plant
+def a_file_left_out(case, found):
+    fewer = answer_to_files(case.files[:-1]) if case.files and not found.status else None
+    return replace(found, output=fewer.output) if fewer and fewer.output != found.output else None
+
+
+@plant
+def a_fault_without_its_file(case, found):
+    names = [f"boruvka: {escaped(name)}: ".encode() for name, _ in case.files]
+    lead = next((it for it in names if found.errors.startswith(it)), None)
+    return replace(found, errors=b"boruvka: " + found.errors[len(lead) :]) if lead else None
+
+
+@plant
+def a_fault_of_another_file(case, found):
+    names = [f"boruvka: {escaped(name)}: ".encode() for name, _ in case.files]
+    lead = next((it for it in names if found.errors.startswith(it)), None)
+    other = next((it for it in names if it != lead), None)
+    return replace(found, errors=other + found.errors[len(lead) :]) if lead and other else None
+
+
+@plant
+def vertices_exchanged(_case, found):
+    errors = re.sub(rb"(\d+)( vertices in place of )(\d+)", rb"\3\2\1", found.errors)
+    return replace(found, errors=errors) if errors != found.errors else None
+
+
+@plant
+def another_file_that_is_not_there(case, found):
+    return replace(found, errors=found.errors[:-1] + b"x\n") if case.files and found.status == 3 else None
 
 
 @plant
