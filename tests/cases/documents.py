@@ -10,7 +10,7 @@ import subprocess
 import sys
 
 from cases.embedding import libraries
-from cases.running import ROOT, SECONDS, Components, Program, case, expect, forest_of, ran, run
+from cases.running import ROOT, SECONDS, Components, Program, case, expect, forest_of, forest_text, ran, run
 
 sys.path.insert(0, f"{ROOT}/tools")
 
@@ -204,31 +204,66 @@ def the_ids_of_a_drawn_csv(room):
 
 
 @case
-def faults_of_a_file_in_parts(room):
-    """A part is refused as the program refuses it, and no forest is written."""
+def faults_of_a_graph_in_parts(room):
+    """What is wrong with the file is told before it is cut, or with its part, as the program tells it, and no forest is
+    written."""
     p, *arcs = "p sp 4 5", "a 1 2 3", "a 2 3 4", "a 3 4 1", "a 4 1 2", "a 1 3 9"
-    missing = "arcs or the problem line are missing\n"
+    problems = ["p sp 1O 5", "p sp 4 5x", "p sp 4", "p sp 4 5 0", "p edge 4 5", "p sp -4 5", "p sp 4.0 5", "p sp 0x4 5", "p sp four 5", "p sp 4 5e0", "p"]
     for room in awk_rooms(room):
-        [command] = recipe(room, "A file in parts")
-        command = command.replace("size=5", "size=2")
-        for rows, told in [
-            ([p, *arcs[:3], "a 4 1 x", arcs[4]], "boruvka: line 3: BadArc\n"),
-            ([p, *arcs[:2], "x", *arcs[2:]], "boruvka: line 4: UnknownLine\n"),
-            ([p, *arcs[:3], p, *arcs[3:]], "boruvka: line 3: SecondProblem\n"),
-            (["p sp 3 5", *arcs], "boruvka: line 2: EndOutOfRange\n"),
-            ([p, *arcs[:3]], missing),
-            ([p, *arcs[:4]], missing),
-            (["p sp 4 4", *arcs[:2]], missing),
-            ([], missing),
-            (["c no problem line"], missing),
+        cut, solved = (it.replace(".gr 5 &&", ".gr 3 &&") for it in recipe(room, "Parts of a large graph"))
+        # (three lines a part, to each a problem line is added)
+        for rows, part, told in [
+            ([p, *arcs[:3], "a 4 1 x", arcs[4]], "ab", "line 3: BadArc"),
+            ([p, *arcs[:3], "a 4 1 2 5", arcs[4]], "ab", "line 3: BadArc"),
+            ([p, *arcs[:2], "x", *arcs[2:]], "ab", "line 2: UnknownLine"),
+            ([p, *arcs[:3], "A 4 1 2", *arcs[3:]], "ab", "line 3: UnknownLine"),
+            (["p sp 3 5", *arcs[:2], "a 1 2 1", arcs[4], arcs[3]], "ab", "line 4: EndOutOfRange"),
+            (["p sp 4 0", "", "", "", "x"], "ab", "line 3: UnknownLine"),
+            *((rows, None, "arcs or the problem line are missing, or wrong") for rows in [
+                [p, *arcs[:3], p, *arcs[3:]], ["p sp 4 0", p, *arcs], [p, *arcs[:3]], [p, *arcs[:4]], [p, *arcs, arcs[0]],
+                [arcs[0], p, *arcs[1:]], [arcs[0], "p sp 4 4", *arcs[1:]], [], ["c no problem line"], arcs, *([it, *arcs] for it in problems),
+            ]),
         ]:
-            for name in glob.glob(f"{room}/part*.gr*"):
+            for name in glob.glob(f"{room}/part.*"):
                 os.remove(name)
             with open(f"{room}/examples/roads.gr", "w", encoding="utf-8") as it:
                 it.write("".join(f"{row}\n" for row in rows))
-            status, output = pasted(room, command)
-            if not status or sorted(set(output.splitlines(True))) != [told]:
-                raise AssertionError(f"{rows}: {(status, output)!r:.900}")
+            # with its part's name, and where the part is solved alone without it
+            wanted = [(cut, f"boruvka: part.{part}.gr: {told}\n"), (solved, f"boruvka: {told}\n")] if part else [(cut, f"{told}\n")]
+            for command, line in wanted:
+                status, output = pasted(room, command)
+                if not status or output != line:
+                    raise AssertionError(f"{command}    {rows}: wanted {line!r}, found {(status, output)!r:.900}")
+
+
+@case
+def a_graph_in_parts_is_the_same_graph(room):
+    """Drawn graphs, one with line ends of two bytes, in parts of some lines and of one, beside the reference."""
+    for room in awk_rooms(room):
+        recipe(room, "Parts of a large graph")
+        for seed, size, end in [(91, 7, "\n"), (92, 40, "\r\n"), (93, 1, "\n")]:
+            draw = random.Random(seed)
+            arcs = [(draw.randint(1, 30), draw.randint(1, 30), draw.randint(-20, 20)) for _ in range(150)]
+            rows = ["c drawn", "", "p sp 30 150", *(f"a {u} {v} {w}" for u, v, w in arcs)]
+            rows.insert(draw.randint(4, 150), "c p sp 3 3")
+            with open(f"{room}/drawn.gr", "w", encoding="utf-8", newline="") as it:
+                it.write("".join(f"{row}{end}" for row in rows))
+            for name in glob.glob(f"{room}/part.*"):
+                os.remove(name)
+            wanted = forest_text(30, forest_of(30, arcs)).decode()
+            if pasted(room, f"sh parts.sh drawn.gr {size} && boruvka --plain part.*.gr") != (0, wanted):
+                raise AssertionError(f"{size} lines a part: another forest")
+            # what is there isn't joined to another file's parts
+            if pasted(room, f"sh parts.sh drawn.gr {size}") != (1, "part.aa.gr is there\n"):
+                raise AssertionError("parts were written beside others")
+        # split has 676 names of two letters; past them it fails, and nothing is joined
+        for name in glob.glob(f"{room}/part.*"):
+            os.remove(name)
+        with open(f"{room}/drawn.gr", "w", encoding="utf-8") as it:
+            it.write("p sp 2 676\n" + "a 1 2 3\n" * 676)
+        status, output = pasted(room, "sh parts.sh drawn.gr 1 && boruvka --plain part.*.gr")
+        if not status or "p sp" in output:
+            raise AssertionError(f"677 parts: {(status, output)!r:.600}")
 
 
 @case
