@@ -271,7 +271,7 @@ def the_examples_of_the_manual_page(room):
     page = text_of("man/boruvka.1").replace("\\-", "-").replace("\\e", "\\")
     blocks = [it for it in re.findall(r"^\.EX\n(.*?)^\.EE$", page, re.M | re.S) if it.startswith("$ ")]
     count = expect_shown(room, [("console", it) for it in blocks])
-    if count != 3:
+    if count != 4:
         raise AssertionError(f"{count} examples were found")
 
 

@@ -379,6 +379,8 @@ def completions_of_bash(_room):
         (["--", "--"], []),
         ([""], []),
         (["net"], []),
+        (["--plain", "a.gr", "net"], []),
+        (["--plain", "a.gr", "b.gr", "--th"], ["--threads"]),
     ]:
         told = run([needs("bash"), "--norc", "--noprofile", "-c", script, "-", ROOT, "boruvka", *words], env=PLAIN)
         expect((told[0], b"", told[2]), 0, b"", b"")
@@ -422,6 +424,8 @@ def shown_by_zsh(room, line, wanted):
 @case
 def completions_of_zsh(room):
     needs("zsh")
+    for name in ["net.gr", "road.gr"]:
+        written(f"{room}/{name}", SMALL_NET)
     for line, wanted in [
         ("boruvka --", ["--workers", "--shards", "--plain", "--threads", "--report", "--progress", "--help", "--version", "0 to 64", "1 to 4096", "1 to 64"]),
         ("boruvka --plain -", ["--workers", "-V", "-h"]),
@@ -429,6 +433,8 @@ def completions_of_zsh(room):
         ("boruvka --workers=", ["16", "32", "64"]),
         ("boruvka --plain --threads ", ["16", "32", "64"]),
         ("boruvka --shards 1", ["16", "128", "1024"]),
+        (f"boruvka {room}/", ["net.gr", "road.gr"]),
+        (f"boruvka --plain {room}/a {room}/b {room}/", ["net.gr", "road.gr"]),
     ]:
         found = shown_by_zsh(room, line, wanted)
         is_so((line, [it for it in wanted if it not in found]), (line, []))
@@ -445,6 +451,7 @@ def completions_of_fish(room):
         ("boruvka --threads ", NUMBERS["--threads"]),
         ("boruvka --sh", ["--shards"]),
         ("boruvka net", ["net.gr"]),
+        ("boruvka --plain net.gr net", ["net.gr"]),
     ]:
         written(f"{room}/net.gr", SMALL_NET)
         words = [needs("fish"), "--no-config", "-c", f"source {shlex.quote(ROOT)}/{SHELLS['fish']}; complete -C {shlex.quote(line)}"]
