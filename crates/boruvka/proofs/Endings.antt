@@ -1,9 +1,8 @@
 -- What the program does, by what its words ask for.
-use Rattle.std.specs.Prelude.{Result, OnOk, IsSome, Bool, true, false, option_map}
-use Rattle.std.proofs.lemmas.List.{get_or-map, length-map}
+use Rattle.std.specs.Prelude.{Result, OnOk, Bool, true, false, option_map}
 use Rattle.std.specs.String.{string_bytes}
 use Rattle.std.specs.Global.{Vec}
-use Rattle.std.proofs.Common.{◌≡◌, ◌≢◌, ◌≤◌, ℕ, ◌⊎◌, ◌∙◌, List, [], ◌∷◌, length, get_or, map, slice_get, All, Option, None, Some, inl, inr, Ok, Err, refl, subst, arith, codes}
+use Rattle.std.proofs.Common.{◌≡◌, ◌≢◌, ◌≤◌, ℕ, ◌⊎◌, ◌∙◌, List, [], ◌∷◌, length, map, slice_get, All, Option, None, Some, inl, inr, Ok, Err, refl, subst, arith, codes}
 use Rattle.byte_streams.specs.Streams.{SourceState, SinkState, IsFlushed}
 use Rattle.byte_streams.proofs.Streaming.{gave_nothing, took_nothing}
 use Rattle.links.specs.declared.cuts.CutFault.TheVariants as cut
@@ -95,7 +94,7 @@ wants_memory_of : (files : List (Option (List ℕ))) (asked : Asked) (s : Source
     → EndsOnFiles files asked 4 (record { source = s; sink = a; errors = e }) (record { source = s; sink = a; errors = f })
 wants_memory_of [] asked s a e f text = wants_memory_on None asked s a e f text
 wants_memory_of (file ∷ []) asked s a e f text = wants_memory_on file asked s a e f text
-wants_memory_of (file ∷ next ∷ files) asked s a e f text = inr (inr (record { status_is = refl; nothing = took_nothing a; told = text }))
+wants_memory_of (file ∷ next ∷ files) asked s a e f text = inl (record { status_is = refl; unread = refl; nothing = took_nothing a; told = text })
 
 pub wants_memory_obeys : (asked : Asked) (s : SourceState) (a e f : SinkState) → IsWritten no_memory e f
     → Obeys asked 4 (record { source = s; sink = a; errors = e }) (record { source = s; sink = a; errors = f })
@@ -110,16 +109,6 @@ only_file (item ∷ []) name few is =
     let same : item ≡ Some name = cc in
     rw same refl
 only_file (item ∷ next ∷ items) name few is = absurd (omega arith)
-
--- files that have names have them under a function
-some_under : {F Y : Type 0} (f : F → Y) (o : Option F) → IsSome (option_map f o) → IsSome o
-some_under f None is = absurd cc
-some_under f (Some x) is = refl
-
-pub some_items : {F Y : Type 0} (f : F → Y) (items : List (Option F)) → All IsSome (map (option_map f) items) → All IsSome items
-some_items f items all = λ k d within.
-    some_under f (get_or items k d)
-    (subst IsSome (get_or-map (option_map f) items k d (option_map f d) within) (all k (option_map f d) (omega (arith, length-map items (option_map f)))))
 
 -- ---- lines
 

@@ -1,11 +1,12 @@
 -- Several files, whose links are joined: one file after the other, and how the run ends.
-use Rattle.std.proofs.Common.{◌≡◌, ◌≤◌, ◌<◌, ◌+◌, ℕ, ◌⊎◌, ◌∙◌, List, [], ◌∷◌, ◌++◌, length, get_or, take, drop, map, All, Option, None, Some, Bool, true, false, inl, inr, Result, Ok, Err, refl, sym, ap, subst, arith}
-use Rattle.std.specs.Prelude.{Contains, IfOk, IsSome, is_some, not, ◌||◌, option_map}
-use Rattle.std.proofs.lemmas.List.{drop_more, get_or-map, get_or_append_left, length-append, length-map, length-take, take-append-drop, take_more}
-use Rattle.std.proofs.Math.Seq.{get_or-append_seam}
+use Rattle.std.proofs.Common.{◌≡◌, ◌≢◌, ◌≤◌, ◌<◌, ◌+◌, ℕ, ◌⊎◌, ◌∙◌, List, [], ◌∷◌, ◌++◌, length, get_or, take, drop, map, All, Option, None, Some, Bool, true, false, inl, inr, Result, Ok, Err, refl, sym, ap, subst, arith}
+use Rattle.std.specs.Prelude.{IfOk, IsSome, is_some, not, ◌||◌, option_map}
+use Rattle.std.proofs.lemmas.List.{drop_more, get_or-map, length-map, length-take, take-append-drop, take_more}
+use Rattle.limits.specs.declared.TheConstants.{MAX_BYTES}
 use Rattle.byte_streams.specs.Streams.{SourceState, SinkState, Gave}
 use Rattle.byte_streams.proofs.Streaming.{took_nothing}
 use Rattle.gr_text.specs.Graph.{GraphValue}
+use Rattle.gr_text.specs.Sourced.{IsReadOf}
 use Rattle.gr_text.specs.declared.faults.ReadFault.TheVariants as read
 use Rattle.plain_run.specs.Parts.{Adds, ArePartsOf, PartsValue, WritesForestOf, joined_graph}
 use Rattle.plain_run.specs.declared.fault.PartFault.{PartFault}
@@ -13,98 +14,283 @@ use Rattle.plain_run.specs.declared.fault.PartFault.TheVariants as part
 use Rattle.plain_run.specs.declared.fault.RunFault.{RunFault}
 use Rattle.plain_run.specs.declared.fault.RunFault.TheVariants as fault
 use Rattle.plain_run.specs.declared.report.Report.{Report}
-use Rattle.boruvka.specs.Joined.{AddsFile, AddsFrom, joined_of, AreGraphsOf, AreJoined, EndsOnSeveral, IsGraphOf, StopsAt, StopsBehind, source_of, status_for_stop, stop_line}
 use Rattle.program_words.specs.Messages.{IsWritten}
-use Rattle.boruvka.specs.Status.{IsReported, IsUntouched, LeavesOutput, status_of_run}
-use Rattle.boruvka.specs.Streams.{Standard}
+use Rattle.boruvka.specs.Adding.{AddsFile, AddsFrom, AreAdded, AreJoined, joined_of, times}
+use Rattle.boruvka.specs.Joined.{EndsAtFile, EndsJoined, EndsOnSeveral, GiveGraphs, GivesGraph, StopsAfter, StopsAt, inputs, source_of, status_for_stop, stop_line}
+use Rattle.boruvka.specs.Status.{IsReported, IsUntouched, LeavesOutput, status_of_run, uncounted}
+use Rattle.boruvka.specs.Streams.{OnLeft, Standard, with_source}
 use Rattle.boruvka.specs.declared.joined.JoinFault.{JoinFault}
 use Rattle.boruvka.specs.declared.joined.JoinFault.TheVariants.{Unopened, Part}
 
--- one more file with its graph
-pub graphs_more : (input : SourceState) (files : List (Option (List ℕ))) (graphs : List GraphValue) (file : Option (List ℕ)) (graph : GraphValue)
-    → AreGraphsOf input files graphs → IsGraphOf input file graph → AreGraphsOf input (files ++ file ∷ []) (graphs ++ graph ∷ [])
-graphs_more input [] [] file graph each more = (more, tt)
-graphs_more input (f ∷ files) (g ∷ graphs) file graph (first, each) more = (first, graphs_more input files graphs file graph each more)
-graphs_more input [] (g ∷ graphs) file graph each more = absurd each
-graphs_more input (f ∷ files) [] file graph each more = absurd each
-
--- a file is the same source where the input wasn't read
-same_source : (was_read : Bool) (file : Option (List ℕ)) (s t : SourceState) → (file ≡ None → was_read ≡ false) → (was_read ≡ false → t ≡ s)
-    → source_of t file ≡ source_of s file
-same_source was_read None s t unread fresh = fresh (unread refl)
-same_source was_read (Some name) s t unread fresh = refl
-
--- a file that came to the parts has a graph, with which it stands for one more
-pub joined_more : (s t : SourceState) (before : List (Option (List ℕ))) (file : Option (List ℕ)) (was_read : Bool) (old new : PartsValue)
-    → (was_read ≡ false → t ≡ s)
-    → ((graphs : List GraphValue) × AreGraphsOf s before graphs × ArePartsOf graphs old)
-    → AddsFile t file was_read old (Ok new)
-    → (graphs : List GraphValue) × AreGraphsOf s (before ++ file ∷ []) graphs × ArePartsOf graphs new
-joined_more s t before file was_read old new fresh (graphs, each, parts) (unread, (left, added)) =
-    let source = same_source was_read file s t unread fresh in
-    let graph : IsGraphOf s file added.graph = record {
-      bytes = added.bytes;
-      left = left;
-      read = subst (λ (u : SourceState). Gave 0 1 added.bytes u left) source added.read;
-      means = added.file;
-    } in
-    (graphs ++ added.graph ∷ [], graphs_more s before graphs file added.graph each graph, added.parts graphs parts)
+-- ---- one more file
 
 -- what a source does to the parts, as a file does it
-pub adds_from : (s t : SourceState) (old : PartsValue) (added : Result PartsValue PartFault) → Adds old added s t → AddsFrom s old (joined_of added)
-adds_from s t old (Ok new) adds = (t, adds)
-adds_from s t old (Err why) adds = (t, adds)
+pub adds_from : (s t : SourceState) (old : PartsValue) (added : Result PartsValue PartFault) → Adds old added s t → AddsFrom s t old (joined_of added)
+adds_from s t old (Ok new) adds = adds
+adds_from s t old (Err why) adds = adds
 
-pub files_from : (n : ℕ) (added : Result PartsValue PartFault) → IfOk added (λ new. new.files ≡ n) → IfOk (joined_of added) (λ new. new.files ≡ n)
-files_from n (Ok new) is = is
-files_from n (Err why) is = tt
+pub adds_file : (file : Option (List ℕ)) (was_read : Bool) (before after : SourceState) (old : PartsValue) (added : Result PartsValue JoinFault)
+    → (file ≡ None → was_read ≡ false) → AddsFrom (source_of before file) (source_of after file) old added → AddsFile file was_read before after old added
+adds_file file was_read before after old (Ok new) unread adds = (unread, adds)
+adds_file file was_read before after old (Err Unopened) unread adds = absurd adds
+adds_file file was_read before after old (Err (Part why)) unread adds = (unread, adds)
 
-pub adds_file : (input : SourceState) (file : Option (List ℕ)) (was_read : Bool) (old : PartsValue) (added : Result PartsValue JoinFault)
-    → (file ≡ None → was_read ≡ false) → AddsFrom (source_of input file) old added → AddsFile input file was_read old added
-adds_file input file was_read old (Ok new) unread adds = (unread, adds)
-adds_file input file was_read old (Err Unopened) unread adds = absurd adds
-adds_file input file was_read old (Err (Part why)) unread adds = (unread, adds)
+-- how often the input is among the files and one more
+inputs_more : (files : List (Option (List ℕ))) (file : Option (List ℕ)) → inputs (files ++ file ∷ []) ≡ inputs files + inputs (file ∷ [])
+inputs_more [] None = refl
+inputs_more [] (Some name) = refl
+inputs_more (None ∷ files) file = omega (arith, inputs_more files file)
+inputs_more (Some name ∷ files) file = inputs_more files file
+
+-- files that aren't the input gave their graphs however that is left
+graphs_apart : (s t u : SourceState) (files : List (Option (List ℕ))) (graphs : List GraphValue) → inputs files ≡ 0 → GiveGraphs s t files graphs → GiveGraphs s u files graphs
+graphs_apart s t u [] [] none each = tt
+graphs_apart s t u (None ∷ files) (g ∷ graphs) none each = absurd (omega arith)
+graphs_apart s t u (Some name ∷ files) (g ∷ graphs) none (first, each) =
+    (record { bytes = first.bytes; read = first.read; means = first.means }, graphs_apart s t u files graphs none each)
+graphs_apart s t u [] (g ∷ graphs) none each = absurd each
+graphs_apart s t u (f ∷ files) [] none each = absurd each
+
+graphs_more : (s t : SourceState) (files : List (Option (List ℕ))) (graphs : List GraphValue) (file : Option (List ℕ)) (graph : GraphValue)
+    → GiveGraphs s t files graphs → GivesGraph s t file graph → GiveGraphs s t (files ++ file ∷ []) (graphs ++ graph ∷ [])
+graphs_more s t [] [] file graph each more = (more, tt)
+graphs_more s t (f ∷ files) (g ∷ graphs) file graph (first, each) more = (first, graphs_more s t files graphs file graph each more)
+graphs_more s t [] (g ∷ graphs) file graph each more = absurd each
+graphs_more s t (f ∷ files) [] file graph each more = absurd each
+
+-- how the input is left behind one more file: as before behind a FILE
+abbrev pub left_by : Option (List ℕ) → SourceState → SourceState → SourceState
+left_by None old new = new
+left_by (Some name) old new = old
+
+-- what is kept of the files: what they gave, and that the input is as it was where it isn't among them
+abbrev pub Keeps : SourceState → List (Option (List ℕ)) → Bool → PartsValue → SourceState → Type 0
+Keeps s before was_read parts left = (was_read ≡ false → left ≡ s) × AreJoined s left before parts
+
+-- a file that came to the parts
+step_ok : (s now new_left left : SourceState) (before : List (Option (List ℕ))) (file : Option (List ℕ)) (was_read : Bool) (old new : PartsValue)
+    → (was_read ≡ false → now ≡ s) → inputs before ≡ times was_read → Keeps s before was_read old left
+    → AddsFile file was_read now new_left old (Ok new) → AreJoined s (left_by file left new_left) (before ++ file ∷ []) new
+step_ok s now new_left left before None was_read old new fresh count (same, (graphs, each, parts)) (unread, added) =
+    let none : inputs before ≡ 0 = rw (unread refl) at count in
+    let graph : GivesGraph s new_left None added.graph = record {
+      bytes = added.bytes;
+      read = subst (λ (u : SourceState). Gave 0 1 added.bytes u new_left) (fresh (unread refl)) added.read;
+      means = added.file;
+    } in
+    (graphs ++ added.graph ∷ [], graphs_more s new_left before graphs None added.graph (graphs_apart s left new_left before graphs none each) graph, added.parts graphs parts)
+step_ok s now new_left left before (Some name) was_read old new fresh count (same, (graphs, each, parts)) (unread, added) =
+    let graph : GivesGraph s left (Some name) added.graph = record { bytes = added.bytes; read = added.read; means = added.file } in
+    (graphs ++ added.graph ∷ [], graphs_more s left before graphs (Some name) added.graph each graph, added.parts graphs parts)
+
+some_before : {X : Type 0} (xs : List X) (n : ℕ) → n ≡ length xs → 0 < n → xs ≢ []
+some_before xs n long some = λ none.
+    let zero : length xs ≡ 0 = ap length none in
+    absurd (omega arith)
 
 -- a file that isn't a part stops the run
-stops_behind : (s t : SourceState) (before : List (Option (List ℕ))) (file : Option (List ℕ)) (was_read : Bool) (old : PartsValue) (why : JoinFault)
-    → (was_read ≡ false → t ≡ s) → (was_read ≡ true → Contains before None) → old.files ≡ length before
-    → AddsFile t file was_read old (Err why) → StopsBehind s before old.vertices file why
-stops_behind s t before file was_read old Unopened fresh named count adds = λ is. named (adds is)
-stops_behind s t before file was_read old (Part (part.Read why)) fresh named count (unread, (left, adds)) =
-    (left, subst (λ (u : SourceState). Adds old (Err (part.Read why)) u left) (same_source was_read file s t unread fresh) adds)
-stops_behind s t before file was_read old (Part (part.OtherVertices other wanted)) fresh named count (unread, (left, adds)) =
-    let graph : IsGraphOf s file adds.graph = record {
+step_stops : (s now new_left left : SourceState) (before : List (Option (List ℕ))) (file : Option (List ℕ)) (was_read : Bool) (old : PartsValue) (why : PartFault)
+    → (was_read ≡ false → now ≡ s) → inputs before ≡ times was_read → old.files ≡ length before
+    → AddsFile file was_read now new_left old (Err (Part why)) → StopsAfter before old.vertices file (Part why) s (left_by file left new_left)
+step_stops s now new_left left before None was_read old (part.Read why) fresh count long (unread, adds) =
+    subst (λ (u : SourceState). IsReadOf MAX_BYTES (Err why) u new_left) (fresh (unread refl)) adds
+step_stops s now new_left left before (Some name) was_read old (part.Read why) fresh count long (unread, adds) = adds
+step_stops s now new_left left before None was_read old (part.OtherVertices other wanted) fresh count long (unread, adds) =
+    let graph : GivesGraph s new_left None adds.graph = record {
       bytes = adds.bytes;
-      left = left;
-      read = subst (λ (u : SourceState). Gave 0 1 adds.bytes u left) (same_source was_read file s t unread fresh) adds.read;
+      read = subst (λ (u : SourceState). Gave 0 1 adds.bytes u new_left) (fresh (unread refl)) adds.read;
       means = adds.file;
-    } in (
-      adds.graph,
-      graph,
-      adds.vertices_are,
-      adds.wanted_is,
-      adds.differ,
-      λ none.
-          let zero : length before ≡ 0 = ap length none in
-          let some = adds.some_before in
-          absurd (omega arith),
-    )
+    } in
+    (adds.graph, graph, adds.vertices_are, adds.wanted_is, adds.differ, some_before before old.files long adds.some_before)
+step_stops s now new_left left before (Some name) was_read old (part.OtherVertices other wanted) fresh count long (unread, adds) =
+    let graph : GivesGraph s left (Some name) adds.graph = record { bytes = adds.bytes; read = adds.read; means = adds.file } in
+    (adds.graph, graph, adds.vertices_are, adds.wanted_is, adds.differ, some_before before old.files long adds.some_before)
 
-pub stops_at : (s t : SourceState) (files before behind : List (Option (List ℕ))) (file : Option (List ℕ)) (was_read : Bool) (old : PartsValue) (why : JoinFault)
-    → files ≡ before ++ file ∷ behind → (was_read ≡ false → t ≡ s) → (was_read ≡ true → Contains before None) → old.files ≡ length before
-    → ((graphs : List GraphValue) × AreGraphsOf s before graphs × ArePartsOf graphs old)
-    → AddsFile t file was_read old (Err why) → StopsAt s files file why
-stops_at s t files before behind file was_read old why split fresh named count (graphs, each, parts) adds = record {
-  before = before;
+-- the graphs before a stop, however the input is left at it
+each_left : (s left new_left : SourceState) (before : List (Option (List ℕ))) (file : Option (List ℕ)) (was_read : Bool) (graphs : List GraphValue)
+    → inputs before ≡ times was_read → (file ≡ None → was_read ≡ false) → GiveGraphs s left before graphs → GiveGraphs s (left_by file left new_left) before graphs
+each_left s left new_left before None was_read graphs count unread each =
+    let none : inputs before ≡ 0 = rw (unread refl) at count in
+    graphs_apart s left new_left before graphs none each
+each_left s left new_left before (Some name) was_read graphs count unread each = each
+
+times_few : (was_read : Bool) → times was_read ≤ 1
+times_few true = omega arith
+times_few false = omega arith
+
+none_read : (was_read : Bool) → times was_read ≡ 0 → was_read ≡ false
+none_read true none = absurd (omega arith)
+none_read false none = refl
+
+left_unread : (s left new_left : SourceState) (before : List (Option (List ℕ))) (file : Option (List ℕ)) (was_read : Bool) → (was_read ≡ false → left ≡ s)
+    → inputs before ≡ times was_read → inputs (before ++ file ∷ []) ≡ 0 → left_by file left new_left ≡ s
+left_unread s left new_left before None was_read same count none = absurd (omega (arith, inputs_more before None))
+left_unread s left new_left before (Some name) was_read same count none =
+    let zero : times was_read ≡ 0 = omega (arith, count, inputs_more before (Some name)) in
+    same (none_read was_read zero)
+
+-- how the input is left at a stop
+abbrev stop_left : Option (List ℕ) → JoinFault → SourceState → SourceState → SourceState
+stop_left file Unopened old new = old
+stop_left file (Part why) old new = left_by file old new
+
+stops_at : (s now new_left left : SourceState) (files before behind : List (Option (List ℕ))) (file : Option (List ℕ)) (was_read : Bool) (old : PartsValue) (why : JoinFault)
+    → files ≡ before ++ file ∷ behind → (was_read ≡ false → now ≡ s) → inputs before ≡ times was_read → old.files ≡ length before
+    → Keeps s before was_read old left → AddsFile file was_read now new_left old (Err why) → StopsAt files file why s (stop_left file why left new_left)
+stops_at s now new_left left files before behind file was_read old Unopened split fresh count long (same, (graphs, each, parts)) (again, untouched) = record {
+  others = before;
   behind = behind;
   split = split;
   vertices = old.vertices;
   graphs = graphs;
-  parts = record { each = each; one_number = parts.one_number };
-  stops = stops_behind s t before file was_read old why fresh named count adds;
+  each = each;
+  one_number = parts.one_number;
+  once = (let few = times_few was_read in omega (arith, count, few));
+  unread = λ none. same (none_read was_read (omega (arith, none, count, inputs_more before file)));
+  stops = λ is. (let one : inputs before ≡ 1 = (rw (again is) at count) in omega (arith, one));
+}
+stops_at s now new_left left files before behind file was_read old (Part why) split fresh count long (same, (graphs, each, parts)) adds = record {
+  others = before;
+  behind = behind;
+  split = split;
+  vertices = old.vertices;
+  graphs = graphs;
+  each = each_left s left new_left before file was_read graphs count adds.0 each;
+  one_number = parts.one_number;
+  once = (let few = times_few was_read in omega (arith, count, few));
+  unread = left_unread s left new_left before file was_read same count;
+  stops = step_stops s now new_left left before file was_read old why fresh count long adds;
 }
 
+-- ---- where it is told how much was read, and where it isn't
+
+pub on_untold : {S : Type 0} (told : Bool) (R : S → Type 0) (left : S) → told ≡ false → R left → OnLeft told R left
+on_untold true R left is holds = absurd cc
+on_untold false R left is holds = holds
+
+pub on_told : {S : Type 0} (told : Bool) (R : S → Type 0) (left s : S) → told ≡ true → R s → OnLeft told R left
+on_told true R left s is holds = (s, holds)
+on_told false R left s is holds = absurd cc
+
+some_left : {S : Type 0} (told : Bool) (R : S → Type 0) (left : S) → OnLeft told R left → (s : S) × R s
+some_left true R left (s, holds) = (s, holds)
+some_left false R left holds = (left, holds)
+
+untold_left : {S : Type 0} (told : Bool) (R : S → Type 0) (left : S) → told ≡ false → OnLeft told R left → R left
+untold_left true R left is holds = absurd cc
+untold_left false R left is holds = holds
+
+pub map_left : (told : Bool) (R R' : SourceState → Type 0) (left : SourceState) → ((s : SourceState) → R s → R' s) → OnLeft told R left → OnLeft told R' left
+map_left true R R' left to (s, holds) = (s, to s holds)
+map_left false R R' left to holds = to left holds
+
+-- the same of a stream's state
+pub state_left : {S : Type 0} (told : Bool) (state : S → SourceState) (R : SourceState → Type 0) (left : S) → OnLeft told (λ s. R (state s)) left → OnLeft told R (state left)
+state_left true state R left (s, holds) = (state s, holds)
+state_left false state R left holds = holds
+
+-- a FILE that was opened is a source of which nothing is known, and leaves the input alone
+pub adds_named : {S J : Type 0} (told : Bool) (file : Option (List ℕ)) (name : List ℕ) (was_read : Bool) (before : SourceState) (state : S → SourceState) (left : S)
+    (old : PartsValue) (added : Result PartsValue JoinFault) (j : J) → file ≡ Some name → OnLeft told (λ (j : J). AddsFrom uncounted uncounted old added) j
+    → OnLeft told (λ s. AddsFile file was_read before (state s) old added) left
+adds_named true file name was_read before state left old added j is (k, adds) =
+    (left, rw is (adds_file (Some name) was_read before (state left) old added (λ none. absurd cc) adds))
+adds_named false file name was_read before state left old added j is adds =
+    rw is (adds_file (Some name) was_read before (state left) old added (λ none. absurd cc) adds)
+
+-- a file that can't be opened leaves the input alone
+pub unopened_left : {S : Type 0} (told : Bool) (file : Option (List ℕ)) (was_read : Bool) (state : S → SourceState) (left : S) (old : PartsValue)
+    → (file ≡ None → was_read ≡ true) → OnLeft told (λ s. AddsFile file was_read (state left) (state s) old (Err Unopened)) left
+unopened_left true file was_read state left old again = (left, (again, refl))
+unopened_left false file was_read state left old again = (again, refl)
+
+pub no_input : (file : Option (List ℕ)) (name : List ℕ) (was_read : Bool) → file ≡ Some name → file ≡ None → was_read ≡ true
+no_input None name was_read is none = absurd cc
+no_input (Some other) name was_read is none = absurd cc
+
+-- no file yet
+pub keeps_none : (tells : Bool) (s : SourceState) (parts : PartsValue) → ArePartsOf [] parts → OnLeft tells (Keeps s [] false parts) s
+keeps_none true s parts are = (s, ((λ unread. refl), ([], tt, are)))
+keeps_none false s parts are = ((λ unread. refl), ([], tt, are))
+
+-- how the input is left behind a file, where it was read or wasn't
+fresh_left : (was_read now_read : Bool) (file : Option (List ℕ)) (s left new_left : SourceState) → now_read ≡ (was_read || not (is_some file))
+    → (was_read ≡ false → left ≡ s) → now_read ≡ false → left_by file left new_left ≡ s
+fresh_left true now_read file s left new_left is same unread = absurd cc
+fresh_left false now_read None s left new_left is same unread = absurd cc
+fresh_left false now_read (Some name) s left new_left is same unread = same refl
+
+left_real : (file : Option (List ℕ)) (now real : SourceState) → (IsSome file → real ≡ now) → left_by file now real ≡ real
+left_real None now real leaves = refl
+left_real (Some name) now real leaves = sym (leaves refl)
+
+pub ok_left : (tells told : Bool) (s now real : SourceState) (before : List (Option (List ℕ))) (file : Option (List ℕ)) (was_read now_read : Bool) (old new : PartsValue)
+    → (tells ≡ false → told ≡ false) → now_read ≡ (was_read || not (is_some file)) → (IsSome file → real ≡ now) → (was_read ≡ false → now ≡ s)
+    → inputs before ≡ times was_read → OnLeft tells (Keeps s before was_read old) now
+    → OnLeft told (λ left. AddsFile file was_read now left old (Ok new)) real → OnLeft tells (Keeps s (before ++ file ∷ []) now_read new) real
+ok_left false told s now real before file was_read now_read old new off is leaves fresh count keeps adds =
+    let added = untold_left told (λ left. AddsFile file was_read now left old (Ok new)) real (off refl) adds in
+    subst (Keeps s (before ++ file ∷ []) now_read new) (left_real file now real leaves)
+    (fresh_left was_read now_read file s now real is fresh, step_ok s now real now before file was_read old new fresh count keeps added)
+ok_left true told s now real before file was_read now_read old new off is leaves fresh count (left, keeps) adds =
+    let (u, added) = some_left told (λ left. AddsFile file was_read now left old (Ok new)) real adds in
+    (left_by file left u, (fresh_left was_read now_read file s left u is keeps.0, step_ok s now u left before file was_read old new fresh count keeps added))
+
+stop_real : (file : Option (List ℕ)) (was_read : Bool) (old : PartsValue) (why : JoinFault) (now real : SourceState) → (IsSome file → real ≡ now)
+    → AddsFile file was_read now real old (Err why) → stop_left file why now real ≡ real
+stop_real file was_read old Unopened now real leaves (again, untouched) = sym untouched
+stop_real file was_read old (Part why) now real leaves adds = left_real file now real leaves
+
+pub stops_left : (tells told : Bool) (s now real : SourceState) (files before behind : List (Option (List ℕ))) (file : Option (List ℕ)) (was_read : Bool) (old : PartsValue)
+    (why : JoinFault) → (tells ≡ false → told ≡ false) → files ≡ before ++ file ∷ behind → (IsSome file → real ≡ now) → (was_read ≡ false → now ≡ s)
+    → inputs before ≡ times was_read → old.files ≡ length before → OnLeft tells (Keeps s before was_read old) now
+    → OnLeft told (λ left. AddsFile file was_read now left old (Err why)) real → OnLeft tells (StopsAt files file why s) real
+stops_left false told s now real files before behind file was_read old why off split leaves fresh count long keeps adds =
+    let adds_here = untold_left told (λ left. AddsFile file was_read now left old (Err why)) real (off refl) adds in
+    subst (StopsAt files file why s) (stop_real file was_read old why now real leaves adds_here)
+    (stops_at s now real now files before behind file was_read old why split fresh count long keeps adds_here)
+stops_left true told s now real files before behind file was_read old why off split leaves fresh count long (left, keeps) adds =
+    let (u, adds_so) = some_left told (λ left. AddsFile file was_read now left old (Err why)) real adds in
+    (stop_left file why left u, stops_at s now u left files before behind file was_read old why split fresh count long keeps adds_so)
+
+-- once all files were read
+pub added_left : (tells : Bool) (s real : SourceState) (files : List (Option (List ℕ))) (was_read : Bool) (parts : PartsValue) → inputs files ≡ times was_read
+    → OnLeft tells (Keeps s files was_read parts) real → OnLeft tells (λ left. AreAdded s left files parts) real
+added_left tells s real files was_read parts count keeps =
+    map_left tells (Keeps s files was_read parts) (λ left. AreAdded s left files parts) real
+    (λ left (same, joined). record {
+        joined = joined;
+        once = (let few = times_few was_read in omega (arith, count, few));
+        unread = λ none. same (none_read was_read (omega (arith, none, count)));
+    }) keeps
+
+pub inputs_step : (before : List (Option (List ℕ))) (file : Option (List ℕ)) (was_read now_read : Bool) → now_read ≡ (was_read || not (is_some file))
+    → inputs before ≡ times was_read → (file ≡ None → was_read ≡ false) → inputs (before ++ file ∷ []) ≡ times now_read
+inputs_step before None true now_read is count unread = absurd (let bad = unread refl in cc)
+inputs_step before None false now_read is count unread = rw is (omega (arith, inputs_more before None, count))
+inputs_step before (Some name) true now_read is count unread = rw is (omega (arith, inputs_more before (Some name), count))
+inputs_step before (Some name) false now_read is count unread = rw is (omega (arith, inputs_more before (Some name), count))
+
+-- a file that came to the parts was the input for the first time
+pub added_unread : (told : Bool) (file : Option (List ℕ)) (was_read : Bool) (now real : SourceState) (old new : PartsValue)
+    → OnLeft told (λ left. AddsFile file was_read now left old (Ok new)) real → file ≡ None → was_read ≡ false
+added_unread true file was_read now real old new (left, adds) = adds.0
+added_unread false file was_read now real old new adds = adds.0
+
 -- ---- place by place
+
+-- a file that has a name has it under a function
+pub is_some-under : {F Y : Type 0} (f : F → Y) (o : Option F) → is_some o ≡ is_some (option_map f o)
+is_some-under f None = refl
+is_some-under f (Some x) = refl
+
+pub some_under : {F Y : Type 0} (f : F → Y) (o : Option F) → IsSome (option_map f o) → IsSome o
+some_under f o some = is_some-under f o ∙ some
+
+pub some_items : {F Y : Type 0} (f : F → Y) (items : List (Option F)) → All IsSome (map (option_map f) items) → All IsSome items
+some_items f items all = λ k d within.
+    some_under f (get_or items k d)
+    (subst IsSome (get_or-map (option_map f) items k d (option_map f d) within) (all k (option_map f d) (omega (arith, length-map items (option_map f)))))
 
 module _ {X Y : Type 0} (f : X → Y) where
   long : (xs : List X) (i : ℕ) → i < length xs → i < length (map f xs)
@@ -126,24 +312,12 @@ module _ {X Y : Type 0} (f : X → Y) where
   pub length_before : (xs : List X) (i : ℕ) → i < length xs → length (take i (map f xs)) ≡ i
   length_before xs i within = omega (arith, length-take i (map f xs), long xs i within)
 
-contains_more : {Y : Type 0} (ys : List Y) (z y : Y) → Contains ys y → Contains (ys ++ z ∷ []) y
-contains_more ys z y (k, within, is) = (k, omega (arith, length-append ys (z ∷ [])), get_or_append_left ys (z ∷ []) y k within ∙ is)
-
-contains_last : {Y : Type 0} (ys : List Y) (z y : Y) → z ≡ y → Contains (ys ++ z ∷ []) y
-contains_last ys z y is = (length ys, omega (arith, length-append ys (z ∷ [])), get_or-append_seam ys z [] y ∙ is)
-
 -- the input behind one more file: as it was, where none of them is the input
 pub fresh_more : {F I : Type 0} (was_read now_read : Bool) (file : Option F) (s t u : I) → now_read ≡ (was_read || not (is_some file))
     → (was_read ≡ false → t ≡ s) → (IsSome file → u ≡ t) → now_read ≡ false → u ≡ s
 fresh_more true now_read file s t u is fresh leaves unread = absurd cc
 fresh_more false now_read (Some f) s t u is fresh leaves unread = leaves refl ∙ fresh refl
 fresh_more false now_read None s t u is fresh leaves unread = absurd cc
-
-pub named_more : {F Y : Type 0} (g : F → Y) (was_read now_read : Bool) (before : List (Option Y)) (file : Option F) → now_read ≡ (was_read || not (is_some file))
-    → (was_read ≡ true → Contains before None) → now_read ≡ true → Contains (before ++ option_map g file ∷ []) None
-named_more g true now_read before file is named read = contains_more before (option_map g file) None (named refl)
-named_more g false now_read before None is named read = contains_last before None None refl
-named_more g false now_read before (Some f) is named read = absurd cc
 
 pub unread_more : {F : Type 0} (was_read now_read : Bool) (file : Option F) → now_read ≡ (was_read || not (is_some file)) → was_read ≡ false → IsSome file
     → now_read ≡ false
@@ -195,39 +369,61 @@ forest_silent graph (Err (fault.Write n)) status a b is written silent = absurd 
 
 -- ---- the end
 
-pub joined_ends : (files : List (Option (List ℕ))) (wants : Bool) (status : ℕ) (before after : Standard) (parts : PartsValue) (result : Result Report RunFault)
-    → AreJoined before.source files parts → status ≡ status_of_run result
+ends_joined : (files : List (Option (List ℕ))) (wants : Bool) (status : ℕ) (before after : Standard) (parts : PartsValue) (result : Result Report RunFault) (left : SourceState)
+    → status ≡ status_of_run result → ((graphs : List GraphValue) → ArePartsOf graphs parts → WritesForestOf (joined_graph parts.vertices graphs) result before.sink after.sink)
+    → IsReported wants result before.errors after.errors → AreAdded before.source left files parts → EndsJoined files wants status before (with_source left after)
+ends_joined files wants status before after parts result left is written reported added =
+    let (graphs, each, are) = added.joined in
+    record {
+      vertices = parts.vertices;
+      graphs = graphs;
+      parts = record { each = each; one_number = are.one_number; once = added.once; unread = added.unread };
+      result = result;
+      status_is = is;
+      written = written graphs are;
+      reported = reported;
+    }
+
+pub joined_ends : (files : List (Option (List ℕ))) (tells wants : Bool) (status : ℕ) (before after : Standard) (parts : PartsValue) (result : Result Report RunFault)
+    → OnLeft tells (λ left. AreAdded before.source left files parts) after.source → status ≡ status_of_run result
     → ((graphs : List GraphValue) → ArePartsOf graphs parts → WritesForestOf (joined_graph parts.vertices graphs) result before.sink after.sink)
-    → IsReported wants result before.errors after.errors → EndsOnSeveral files wants status before after
-joined_ends files wants status before after parts result (graphs, each, are) is written reported = inl (record {
-  vertices = parts.vertices;
-  graphs = graphs;
-  parts = record { each = each; one_number = are.one_number };
-  result = result;
-  status_is = is;
-  written = written graphs are;
-  reported = reported;
-})
+    → IsReported wants result before.errors after.errors → EndsOnSeveral files tells wants status before after
+joined_ends files tells wants status before after parts result added is written reported =
+    map_left tells (λ left. AreAdded before.source left files parts)
+    (λ left. EndsJoined files wants status before (with_source left after) ⊎ EndsAtFile files status before (with_source left after)) after.source
+    (λ left here. inl (ends_joined files wants status before after parts result left is written reported here)) added
 
-pub stop_ends : (files : List (Option (List ℕ))) (wants : Bool) (status : ℕ) (before after : Standard) (file : Option (List ℕ)) (why : JoinFault)
-    → StopsAt before.source files file why → status ≡ status_for_stop why → after.sink ≡ before.sink
-    → IsWritten (stop_line file why) before.errors after.errors → EndsOnSeveral files wants status before after
-stop_ends files wants status before after file why stops is same told = inr (inl (record {
-  file = file;
-  why = why;
-  stops = stops;
-  status_is = is;
-  nothing = subst (IsUntouched before.sink) (sym same) (took_nothing before.sink);
-  told = told;
-}))
+pub stop_ends : (files : List (Option (List ℕ))) (tells wants : Bool) (status : ℕ) (before after : Standard) (file : Option (List ℕ)) (why : JoinFault)
+    → OnLeft tells (StopsAt files file why before.source) after.source → status ≡ status_for_stop why → after.sink ≡ before.sink
+    → IsWritten (stop_line file why) before.errors after.errors → EndsOnSeveral files tells wants status before after
+stop_ends files tells wants status before after file why stops is same told =
+    map_left tells (StopsAt files file why before.source)
+    (λ left. EndsJoined files wants status before (with_source left after) ⊎ EndsAtFile files status before (with_source left after)) after.source
+    (λ left here. inr (record {
+        file = file;
+        why = why;
+        stops = here;
+        status_is = is;
+        nothing = subst (IsUntouched before.sink) (sym same) (took_nothing before.sink);
+        told = told;
+    })) stops
 
-pub joined_bound : (input : SourceState) (files : List (Option (List ℕ))) (status : ℕ) (a b : SinkState) (parts : PartsValue) (result : Result Report RunFault)
-    → AreJoined input files parts → status ≡ status_of_run result
+graphs_of : (tells : Bool) (input real : SourceState) (files : List (Option (List ℕ))) (parts : PartsValue) → OnLeft tells (λ left. AreAdded input left files parts) real
+    → (graphs : List GraphValue) × ArePartsOf graphs parts
+graphs_of true input real files parts (left, added) = (let (graphs, each, are) = added.joined in (graphs, are))
+graphs_of false input real files parts added = (let (graphs, each, are) = added.joined in (graphs, are))
+
+pub joined_bound : (tells : Bool) (input real : SourceState) (files : List (Option (List ℕ))) (status : ℕ) (a b : SinkState) (parts : PartsValue) (result : Result Report RunFault)
+    → OnLeft tells (λ left. AreAdded input left files parts) real → status ≡ status_of_run result
     → ((graphs : List GraphValue) → ArePartsOf graphs parts → WritesForestOf (joined_graph parts.vertices graphs) result a b) → status ≤ 4
-joined_bound input files status a b parts result (graphs, each, are) is written = forest_bound (joined_graph parts.vertices graphs) result status a b is (written graphs are)
+joined_bound tells input real files status a b parts result added is written =
+    let (graphs, are) = graphs_of tells input real files parts added in
+    forest_bound (joined_graph parts.vertices graphs) result status a b is (written graphs are)
 
-pub joined_silent : (input : SourceState) (files : List (Option (List ℕ))) (status : ℕ) (a b : SinkState) (parts : PartsValue) (result : Result Report RunFault)
-    → AreJoined input files parts → status ≡ status_of_run result
+pub joined_silent : (tells : Bool) (input real : SourceState) (files : List (Option (List ℕ))) (status : ℕ) (a b : SinkState) (parts : PartsValue) (result : Result Report RunFault)
+    → OnLeft tells (λ left. AreAdded input left files parts) real → status ≡ status_of_run result
     → ((graphs : List GraphValue) → ArePartsOf graphs parts → WritesForestOf (joined_graph parts.vertices graphs) result a b)
     → LeavesOutput status → IsUntouched a b
-joined_silent input files status a b parts result (graphs, each, are) is written = forest_silent (joined_graph parts.vertices graphs) result status a b is (written graphs are)
+joined_silent tells input real files status a b parts result added is written =
+    let (graphs, are) = graphs_of tells input real files parts added in
+    forest_silent (joined_graph parts.vertices graphs) result status a b is (written graphs are)

@@ -5,12 +5,13 @@ use Rattle.byte_streams.specs.Streams.{SourceState, SinkState, Took}
 use Rattle.clap.specs.Words.{IsAmong}
 use Rattle.clap.specs.declared.error.kind.ErrorKind.{ErrorKind}
 use Rattle.clap.specs.declared.error.kind.ErrorKind.TheVariants.{DisplayHelp, DisplayVersion}
+use Rattle.plain_run.specs.declared.fault.RunFault.TheVariants as fault
 use Rattle.program_words.specs.Arguments.{refusals, given, files_named, number_of, is_set, IsMistake}
 use Rattle.program_words.specs.declared.chosen.Options.{Options}
-use Rattle.program_words.specs.Messages.{IsWritten, unopened_line}
+use Rattle.program_words.specs.Messages.{IsWritten, fault_line, unopened_line}
 use Rattle.boruvka.specs.Joined.{EndsOnSeveral}
 use Rattle.boruvka.specs.Status.{EndsOverWorkers, EndsWith, IsUntouched, KeepsStreams, uncounted}
-use Rattle.boruvka.specs.Streams.{Standard, Left}
+use Rattle.boruvka.specs.Streams.{Standard, Left, with_source}
 use Rattle.boruvka.specs.declared.standard.StandardStreams.{StandardStreams}
 
 -- what lawful words ask for: so many workers and shards, or no workers; with the report or without; on these files, each a FILE or the input
@@ -38,10 +39,6 @@ pub record KeepsAsked {I O E : Type 0} (sink_of : O → SinkState) (unflushed_of
   pub streams : KeepsStreams sink_of unflushed_of asked.report status before after
   pub plain_status : asked.plain ≡ true → status ≤ 4
 
--- the streams with another source
-abbrev pub with_source : SourceState → Standard → Standard
-with_source s all = record { source = s; sink = all.sink; errors = all.errors }
-
 -- the streams with such a source
 abbrev pub from_file : Standard → Standard
 from_file = with_source uncounted
@@ -64,11 +61,19 @@ EndsOn (Some name) asked status before after =
     ((status ≡ 3) × IsUntouched before.sink after.sink × IsWritten (unopened_line name) before.errors after.errors)
     ⊎ EndsOnSource asked.progress asked status (from_file before) (from_file after)
 
--- the same of files: of none the input is run on, and of several the links are joined, without workers
+-- memory was refused before anything was read: its line is written, and nothing else
+pub record EndsBefore (status : ℕ) (before after : Standard) : Type 0 where
+  pub status_is : status ≡ 4
+  pub unread : after.source ≡ before.source
+  pub nothing : IsUntouched before.sink after.sink
+  pub told : IsWritten (fault_line fault.Memory) before.errors after.errors
+
+-- the same of files: of none the input is run on, and of several the links are joined, without workers, if memory wasn't refused before
 abbrev pub EndsOnFiles : List (Option (List ℕ)) → Asked → ℕ → Standard → Standard → Type 0
 EndsOnFiles [] asked = EndsOn None asked
 EndsOnFiles (file ∷ []) asked = EndsOn file asked
-EndsOnFiles (file ∷ next ∷ files) asked = EndsOnSeveral (file ∷ next ∷ files) asked.report
+EndsOnFiles (file ∷ next ∷ files) asked = λ status before after.
+    EndsBefore status before after ⊎ EndsOnSeveral (file ∷ next ∷ files) asked.progress asked.report status before after
 
 -- what is asked for was done
 abbrev pub Obeys : Asked → ℕ → Standard → Standard → Type 0

@@ -1,3 +1,4 @@
+pub mod Adding
 pub mod Asked
 pub mod Joined
 pub mod Status

@@ -1,5 +1,5 @@
 -- The program's three streams, before a call and after it.
-use Rattle.std.specs.Prelude.{◌≡◌, ⊤, ℕ, List, Option}
+use Rattle.std.specs.Prelude.{◌≡◌, ⊤, ℕ, List, Option, Bool, true, false}
 use Rattle.std.specs.Borrow.{MutBor}
 use Rattle.byte_streams.specs.Streams.{SourceState, SinkState, IsFlushed}
 use Rattle.plain_run.specs.Outcomes.{Streams, streams}
@@ -67,3 +67,12 @@ SameInput before after = after.0.now ≡ before.input.now
 -- the errors weren't
 abbrev pub SameErrors : {I O E : Type 0} → StandardStreams I O E → Left I O E → Type 0
 SameErrors before after = after.1.1.0.now ≡ before.errors.now
+
+-- R of how a source was left: where it is told how much was read, nobody is told that, and so of some state
+abbrev pub OnLeft : {S : Type 0} → Bool → (S → Type 0) → S → Type 0
+OnLeft {S} true R left = (s : S) × R s
+OnLeft false R left = R left
+
+-- the streams with another source
+abbrev pub with_source : SourceState → Standard → Standard
+with_source s all = record { source = s; sink = all.sink; errors = all.errors }

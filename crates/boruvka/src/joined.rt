@@ -3,10 +3,11 @@ ghost use Rattle.std.specs.Prelude.{◌≡◌, ◌+◌, ◌<◌, ◌≤◌, ◌|
 ghost use Rattle.std.specs.String.{string_bytes};
 ghost use Rattle.plain_run.specs.declared.parts.TheConstants.{MAX_FILES};
 ghost use Rattle.program_words.specs.Messages.{IsWritten};
-ghost use Rattle.boruvka.specs.Joined.{AddsFile, AddsFrom, AreJoined, EndsOnSeveral, StopsAt, joined_of, status_for_stop, stop_line};
+ghost use Rattle.boruvka.specs.Adding.{AddsFile, AddsFrom, AreAdded, joined_of};
+ghost use Rattle.boruvka.specs.Joined.{EndsOnSeveral, StopsAt, status_for_stop, stop_line};
 ghost use Rattle.boruvka.specs.Joined.{name_of as the_name_of};
 ghost use Rattle.boruvka.specs.Status.{KeepsStreams};
-ghost use Rattle.boruvka.specs.Streams.{AreReady, OnStreams, SameInput};
+ghost use Rattle.boruvka.specs.Streams.{AreReady, OnLeft, OnStreams, SameInput};
 
 use crate::ends::write_end;
 use crate::progress::{Told, Watched};
@@ -49,7 +50,8 @@ fn add_source<C: Crew, I: Source, P: Sink>(
     requires source { I.can_read source.old }
     requires always { (sink : P) → P.can_write sink }
     requires room { parts.files < MAX_FILES }
-    ensures added { AddsFrom (I.state source.old) parts result }
+    ensures added { OnLeft told.old.is_wanted
+        (λ left. AddsFrom (I.state source.old) (I.state left) parts result) source.new }
     ensures files { IfOk result (λ more. more.files ≡ parts.files + 1) }
     ensures untold { told.old.is_wanted ≡ false → (progress.new ≡ progress.old) × (told.new.is_wanted ≡ false) }
 {
@@ -77,7 +79,9 @@ fn add_file<R: Files<File = File>, C: Crew, I: Source, P: Sink>(
     requires input { was_read ≡ false → I.can_read input.old }
     requires always { (sink : P) → P.can_write sink }
     requires room { parts.files < MAX_FILES }
-    ensures added { AddsFile (I.state input.old) (option_map string_bytes file.now) was_read parts result }
+    ensures added { OnLeft told.old.is_wanted
+        (λ left. AddsFile (option_map string_bytes file.now) was_read (I.state input.old) (I.state left) parts result)
+        input.new }
     ensures files { IfOk result (λ more. more.files ≡ parts.files + 1) }
     ensures leaves_input { IsSome file.now → input.new ≡ input.old }
     ensures untold { told.old.is_wanted ≡ false → (progress.new ≡ progress.old) × (told.new.is_wanted ≡ false) }
@@ -113,11 +117,11 @@ fn add_files<'a, R: Files<File = File> + Alloc<A = Global> + Threads + Sync, I: 
     requires input { I.can_read input.old }
     requires always { (sink : P) → P.can_write sink }
     requires few { length chosen.now.files.items ≤ MAX_FILES }
-    ensures joined { IfOk result (λ parts.
-        AreJoined (I.state input.old) (map (option_map string_bytes) chosen.now.files.items) parts) }
-    ensures stopped { IfErr result (λ stopped.
-        StopsAt (I.state input.old) (map (option_map string_bytes) chosen.now.files.items)
-        (option_map string_bytes stopped.0.now) stopped.1) }
+    ensures joined { IfOk result (λ parts. OnLeft chosen.now.progress (λ left.
+        AreAdded (I.state input.old) left (map (option_map string_bytes) chosen.now.files.items) parts) (I.state input.new)) }
+    ensures stopped { IfErr result (λ stopped. OnLeft chosen.now.progress (λ left.
+        StopsAt (map (option_map string_bytes) chosen.now.files.items) (option_map string_bytes stopped.0.now) stopped.1
+            (I.state input.old) left) (I.state input.new)) }
     ensures leaves_input { All IsSome chosen.now.files.items → input.new ≡ input.old }
     ensures untold { chosen.now.progress ≡ false → progress.new ≡ progress.old }
 {
@@ -181,11 +185,13 @@ pub fn run_joined<
     E: Sink,
     P: Sink,
 >(rt: &R, chosen: &Options, io: StandardStreams<I, O, E>, progress: &mut P) -> u8
+    requires several { 2 ≤ length chosen.now.files.items }
     requires few { length chosen.now.files.items ≤ MAX_FILES }
     requires streams { AreReady I.can_read O.can_write E.can_write io }
     requires always { (sink : P) → P.can_write sink }
     ensures ends { OnStreams I.state O.state E.state
-        (EndsOnSeveral (map (option_map string_bytes) chosen.now.files.items) chosen.now.report result) io.entry io.exit }
+        (EndsOnSeveral (map (option_map string_bytes) chosen.now.files.items) chosen.now.progress chosen.now.report result)
+        io.entry io.exit }
     ensures leaves_input { All IsSome chosen.now.files.items → SameInput io.entry io.exit }
     ensures kept { KeepsStreams O.state O.unflushed chosen.now.report result io.entry io.exit }
     ensures plain { result ≤ 4 }

@@ -3,7 +3,8 @@ use Rattle.std.specs.Prelude.{IsSome}
 use Rattle.std.specs.String.{string_bytes}
 use Rattle.clap.specs.Words.{kind_of}
 use Rattle.boruvka.specs.Asked.{asked_by}
-use Rattle.boruvka.proofs.Endings.{wants_memory_obeys, obeys_words, some_items}
+use Rattle.boruvka.proofs.Endings.{wants_memory_obeys, obeys_words}
+use Rattle.boruvka.proofs.Joining.{some_items}
 use Rattle.boruvka.proofs.command.command.Goals as goal
 
 pub returns-in-Err-Usage-clause-wrong : goal.returns-in-Err-Usage-clause-wrong

@@ -1,8 +1,11 @@
-use Rattle.std.specs.Prelude.{Contains}
-use Rattle.std.proofs.Common.{ℕ, List, Option, None, ap, map, sym, subst, option_map, take, drop, arith, ◌+◌, ◌∙◌}
+use Rattle.std.proofs.Common.{ℕ, List, Option, ap, map, sym, subst, option_map, take, drop, arith, refl, ◌+◌, ◌∙◌, ◌≡◌}
+use Rattle.std.proofs.lemmas.List.{length-map, take_all}
+use Rattle.std.specs.Prelude.{not, is_some, ◌||◌}
 use Rattle.std.specs.String.{string_bytes}
-use Rattle.boruvka.specs.Joined.{AreJoined, StopsAt}
-use Rattle.boruvka.proofs.Joining.{fresh_more, joined_more, length_before, named_more, some_here, split_at, stops_at, take_one, unread_more}
+use Rattle.boruvka.specs.Adding.{times}
+use Rattle.boruvka.specs.Joined.{StopsAt, inputs}
+use Rattle.boruvka.specs.Streams.{OnLeft}
+use Rattle.boruvka.proofs.Joining.{Keeps, added_left, added_unread, fresh_more, inputs_step, is_some-under, length_before, ok_left, some_here, some_under, split_at, state_left, stops_left, keeps_none, take_one, unread_more}
 use Rattle.boruvka.proofs.joined.add_files.Goals as goal
 
 pub returns-in-Err-clause-stopped : goal.returns-in-Err-clause-stopped
@@ -10,13 +13,16 @@ returns-in-Err-clause-stopped g c =
     let files = map (option_map string_bytes) c.as_slice-files.result.now in
     let i = c.loop-file.file-index in
     let loop = c.loop-file.invariant in
-    subst (λ (all : List (Option (List ℕ))). StopsAt (g.I.Source.state c.args.input.now) all (option_map string_bytes c.file-item.result) c.in-Err.fault)
+    subst (λ (all : List (Option (List ℕ))). OnLeft c.args.chosen.now.progress (StopsAt all (option_map string_bytes c.file-item.result) c.in-Err.fault (g.I.Source.state c.args.input.now)) (g.I.Source.state c.add_file.new.input))
     (ap (map (option_map string_bytes)) c.as_slice-files.ensures.value)
-    (stops_at (g.I.Source.state c.args.input.now) (g.I.Source.state c.loop-file.input) files (take i files) (drop (i + 1) files) (option_map string_bytes c.file-item.result)
-    c.loop-file.was_read c.loop-file.parts c.in-Err.fault
-    (split_at (option_map string_bytes) c.as_slice-files.result.now i c.file-item.result c.loop-file-test.true c.file-item.is)
-    (λ unread. ap g.I.Source.state (loop.fresh unread)) loop.named
-    (loop.count ∙ sym (length_before (option_map string_bytes) c.as_slice-files.result.now i c.loop-file-test.true)) loop.joined c.in-Err.ensures.added)
+    (stops_left c.args.chosen.now.progress _ (g.I.Source.state c.args.input.now) (g.I.Source.state c.loop-file.input) (g.I.Source.state c.add_file.new.input)
+        files (take i files) (drop (i + 1) files) (option_map string_bytes c.file-item.result) c.loop-file.was_read c.loop-file.parts c.in-Err.fault
+        (λ none. (loop.untold none).1)
+        (split_at (option_map string_bytes) c.as_slice-files.result.now i c.file-item.result c.loop-file-test.true c.file-item.is)
+        (λ some. ap g.I.Source.state (c.in-Err.ensures.leaves_input (some_under string_bytes c.file-item.result some)))
+        (λ unread. ap g.I.Source.state (loop.fresh unread)) loop.inputs
+        (loop.count ∙ sym (length_before (option_map string_bytes) c.as_slice-files.result.now i c.loop-file-test.true)) loop.keeps
+        (state_left c.loop-file.told.is_wanted g.I.Source.state _ c.add_file.new.input c.in-Err.ensures.added))
 
 pub loop-file-preserved : goal.loop-file-preserved
 loop-file-preserved g c =
@@ -24,14 +30,21 @@ loop-file-preserved g c =
     let i = c.loop-file.file-index in
     let loop = c.loop-file.invariant in
     let one = take_one (option_map string_bytes) c.as_slice-files.result.now i c.file-item.result c.loop-file-test.true c.file-item.is in
+    let reads = c.is_read_by-was_read.ensures ∙ ap (λ some. c.loop-file.was_read || not some) (is_some-under string_bytes c.file-item.result) in
     record {
       count = omega (arith, c.in-Ok.ensures.files, loop.count);
-      joined = subst (λ (all : List (Option (List ℕ))). AreJoined (g.I.Source.state c.args.input.now) all c.in-Ok.more) (sym one)
-          (joined_more (g.I.Source.state c.args.input.now) (g.I.Source.state c.loop-file.input) (take i files) (option_map string_bytes c.file-item.result)
-          c.loop-file.was_read c.loop-file.parts c.in-Ok.more (λ unread. ap g.I.Source.state (loop.fresh unread)) loop.joined c.in-Ok.ensures.added);
+      keeps = subst (λ (all : List (Option (List ℕ))). OnLeft c.args.chosen.now.progress (Keeps (g.I.Source.state c.args.input.now) all c.is_read_by-was_read.result c.in-Ok.more) (g.I.Source.state c.add_file.new.input)) (sym one)
+          (ok_left c.args.chosen.now.progress _ (g.I.Source.state c.args.input.now) (g.I.Source.state c.loop-file.input) (g.I.Source.state c.add_file.new.input)
+              (take i files) (option_map string_bytes c.file-item.result) c.loop-file.was_read c.is_read_by-was_read.result c.loop-file.parts c.in-Ok.more
+              (λ none. (loop.untold none).1) reads
+              (λ some. ap g.I.Source.state (c.in-Ok.ensures.leaves_input (some_under string_bytes c.file-item.result some)))
+              (λ unread. ap g.I.Source.state (loop.fresh unread)) loop.inputs loop.keeps
+              (state_left c.loop-file.told.is_wanted g.I.Source.state _ c.add_file.new.input c.in-Ok.ensures.added));
       fresh = fresh_more c.loop-file.was_read _ c.file-item.result _ _ _ c.is_read_by-was_read.ensures loop.fresh c.in-Ok.ensures.leaves_input;
-      named = λ read. subst (λ (all : List (Option (List ℕ))). Contains all None) (sym one)
-          (named_more string_bytes c.loop-file.was_read _ (take i files) c.file-item.result c.is_read_by-was_read.ensures loop.named read);
+      inputs = subst (λ (all : List (Option (List ℕ))). inputs all ≡ times c.is_read_by-was_read.result) (sym one)
+          (inputs_step (take i files) (option_map string_bytes c.file-item.result) c.loop-file.was_read c.is_read_by-was_read.result reads loop.inputs
+              (added_unread c.loop-file.told.is_wanted _ _ (g.I.Source.state c.loop-file.input) (g.I.Source.state c.add_file.new.input) _ _
+                  (state_left c.loop-file.told.is_wanted g.I.Source.state _ c.add_file.new.input c.in-Ok.ensures.added)));
       unread = λ all. unread_more c.loop-file.was_read _ c.file-item.result c.is_read_by-was_read.ensures (loop.unread all)
           (some_here c.as_slice-files.result.now i c.file-item.result all c.loop-file-test.true c.file-item.is);
       untold = λ none.
@@ -39,3 +52,23 @@ loop-file-preserved g c =
           let (still, stays) = c.in-Ok.ensures.untold off in
           (still ∙ same, stays);
     }
+
+pub loop-file-init : goal.loop-file-init
+loop-file-init g c = record {
+  count = c.new-parts.ensures.files;
+  keeps = keeps_none c.args.chosen.now.progress _ _ c.new-parts.ensures.none;
+  fresh = λ unread. refl;
+  inputs = refl;
+  unread = λ all. refl;
+  untold = λ none. (refl, c.new-told.ensures ∙ none);
+}
+
+pub returns-clause-joined : goal.returns-clause-joined
+returns-clause-joined g c =
+    let files = map (option_map string_bytes) c.as_slice-files.result.now in
+    let i = c.loop-file.file-index in
+    let whole = take_all i files (omega (arith, length-map c.as_slice-files.result.now (option_map string_bytes), c.loop-file-test.false)) ∙ ap (map (option_map string_bytes)) c.as_slice-files.ensures.value in
+    let loop = c.loop-file.invariant in
+    added_left c.args.chosen.now.progress _ _ (map (option_map string_bytes) c.args.chosen.now.files.items) c.loop-file.was_read c.loop-file.parts
+    (subst (λ (all : List (Option (List ℕ))). inputs all ≡ times c.loop-file.was_read) whole loop.inputs)
+    (subst (λ (all : List (Option (List ℕ))). OnLeft c.args.chosen.now.progress (Keeps (g.I.Source.state c.args.input.now) all c.loop-file.was_read c.loop-file.parts) (g.I.Source.state c.loop-file.input)) whole loop.keeps)

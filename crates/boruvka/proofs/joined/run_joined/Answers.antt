@@ -8,17 +8,17 @@ use Rattle.boruvka.proofs.joined.run_joined.Goals.{in-Ok, in-Err}
 pub returns-clause-ends : goal.returns-clause-ends
 returns-clause-ends g c = elim c.match-add_files.branch [
   | in-Ok w ↦ rw (w.output-is, w.errors-is, w.result-is)
-      (joined_ends _ _ _ _ _ w.in-Ok.parts w.write_threads-ended.result w.in-Ok.ensures.joined w.write_end.ensures.status w.write_threads-ended.ensures.written w.write_end.ensures.reported)
-  | in-Err w ↦ rw (w.output-is, w.errors-is, w.result-is) (stop_ends _ _ _ _ _ _ w.in-Err.fault w.in-Err.ensures.stopped w.write_stop.ensures.status refl w.write_stop.ensures.told)
+      (joined_ends _ _ _ _ _ _ w.in-Ok.parts w.write_threads-ended.result w.in-Ok.ensures.joined w.write_end.ensures.status w.write_threads-ended.ensures.written w.write_end.ensures.reported)
+  | in-Err w ↦ rw (w.output-is, w.errors-is, w.result-is) (stop_ends _ _ _ _ _ _ _ w.in-Err.fault w.in-Err.ensures.stopped w.write_stop.ensures.status refl w.write_stop.ensures.told)
 ]
 
 pub returns-clause-kept : goal.returns-clause-kept
 returns-clause-kept g c = elim c.match-add_files.branch [
   | in-Ok w ↦
-      let bound = joined_bound _ _ _ _ _ w.in-Ok.parts w.write_threads-ended.result w.in-Ok.ensures.joined w.write_end.ensures.status w.write_threads-ended.ensures.written in
+      let bound = joined_bound _ _ _ _ _ _ _ w.in-Ok.parts w.write_threads-ended.result w.in-Ok.ensures.joined w.write_end.ensures.status w.write_threads-ended.ensures.written in
       rw (w.output-is, w.errors-is, w.result-is) (record {
         few = omega (arith, bound);
-        silent = joined_silent _ _ _ _ _ w.in-Ok.parts w.write_threads-ended.result w.in-Ok.ensures.joined w.write_end.ensures.status w.write_threads-ended.ensures.written;
+        silent = joined_silent _ _ _ _ _ _ _ w.in-Ok.parts w.write_threads-ended.result w.in-Ok.ensures.joined w.write_end.ensures.status w.write_threads-ended.ensures.written;
         flushed = flushed_at_end w.write_threads-ended.result _ _ w.write_end.ensures.status w.write_threads-ended.ensures.flushed;
         quiet = w.write_end.ensures.quiet;
       })
