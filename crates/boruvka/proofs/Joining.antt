@@ -1,6 +1,6 @@
 -- Several files, whose links are joined: one file after the other, and how the run ends.
 use Rattle.std.proofs.Common.{◌≡◌, ◌≢◌, ◌≤◌, ◌<◌, ◌+◌, ℕ, ◌⊎◌, ◌∙◌, List, [], ◌∷◌, ◌++◌, length, get_or, take, drop, map, All, Option, None, Some, Bool, true, false, inl, inr, Result, Ok, Err, refl, sym, ap, subst, arith}
-use Rattle.std.specs.Prelude.{IfOk, IsSome, is_some, not, ◌||◌, option_map}
+use Rattle.std.specs.Prelude.{IsSome, is_some, not, ◌||◌, option_map}
 use Rattle.std.proofs.lemmas.List.{drop_more, get_or-map, length-map, length-take, take-append-drop, take_more}
 use Rattle.limits.specs.declared.TheConstants.{MAX_BYTES}
 use Rattle.byte_streams.specs.Streams.{SourceState, SinkState, Gave}
@@ -259,9 +259,9 @@ pub added_left : (tells : Bool) (s real : SourceState) (files : List (Option (Li
 added_left tells s real files was_read parts count keeps =
     map_left tells (Keeps s files was_read parts) (λ left. AreAdded s left files parts) real
     (λ left (same, joined). record {
-        joined = joined;
-        once = (let few = times_few was_read in omega (arith, count, few));
-        unread = λ none. same (none_read was_read (omega (arith, none, count)));
+      joined = joined;
+      once = (let few = times_few was_read in omega (arith, count, few));
+      unread = λ none. same (none_read was_read (omega (arith, none, count)));
     }) keeps
 
 pub inputs_step : (before : List (Option (List ℕ))) (file : Option (List ℕ)) (was_read now_read : Bool) → now_read ≡ (was_read || not (is_some file))
@@ -400,12 +400,12 @@ stop_ends files tells wants status before after file why stops is same told =
     map_left tells (StopsAt files file why before.source)
     (λ left. EndsJoined files wants status before (with_source left after) ⊎ EndsAtFile files status before (with_source left after)) after.source
     (λ left here. inr (record {
-        file = file;
-        why = why;
-        stops = here;
-        status_is = is;
-        nothing = subst (IsUntouched before.sink) (sym same) (took_nothing before.sink);
-        told = told;
+      file = file;
+      why = why;
+      stops = here;
+      status_is = is;
+      nothing = subst (IsUntouched before.sink) (sym same) (took_nothing before.sink);
+      told = told;
     })) stops
 
 graphs_of : (tells : Bool) (input real : SourceState) (files : List (Option (List ℕ))) (parts : PartsValue) → OnLeft tells (λ left. AreAdded input left files parts) real

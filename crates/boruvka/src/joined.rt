@@ -121,7 +121,7 @@ fn add_files<'a, R: Files<File = File> + Alloc<A = Global> + Threads + Sync, I: 
         AreAdded (I.state input.old) left (map (option_map string_bytes) chosen.now.files.items) parts) (I.state input.new)) }
     ensures stopped { IfErr result (λ stopped. OnLeft chosen.now.progress (λ left.
         StopsAt (map (option_map string_bytes) chosen.now.files.items) (option_map string_bytes stopped.0.now) stopped.1
-            (I.state input.old) left) (I.state input.new)) }
+        (I.state input.old) left) (I.state input.new)) }
     ensures leaves_input { All IsSome chosen.now.files.items → input.new ≡ input.old }
     ensures untold { chosen.now.progress ≡ false → progress.new ≡ progress.old }
 {
@@ -176,7 +176,8 @@ fn write_stop<E: Sink>(file: &Option<String>, fault: &JoinFault, errors: &mut E)
 
 /// Writes the text of the forest of all links of the files that the words name, and answers the status.
 ///
-/// They are read in their order, `None` is the input, and at the first that isn't a part nothing is written but why. No
+/// They are read in their order, `None` is the input, and at the first that isn't a part nothing is written but why. The sink
+/// that is told how much was read is taken to be ready at any time, since no call says how a file's reader left it. No
 /// worker is asked. `progress` is told how much was read of all, where the words ask for that.
 pub fn run_joined<
     R: Files<File = File> + Alloc<A = Global> + Threads + Sync,

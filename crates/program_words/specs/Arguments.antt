@@ -100,7 +100,7 @@ abbrev pub is_set : List (List ℕ) → List ℕ → Bool
 is_set words name = is_true (said words name)
 
 -- what is wrong with words that are right one by one, by whether they say how many threads there are, how many files they
--- name, and whether `--plain` is there: it lacks, though threads or several files ask for it, or the files are too many
+-- name, and whether `--plain` is there: it is missing where threads or several files need it, or there are too many files
 abbrev pub wrong_together : Bool → ℕ → Bool → Kinds
 wrong_together threads files plain = if (threads || nat_lt 1 files) && not plain then MissingRequiredArgument ∷ []
     else (if nat_lt MAX_FILES files then TooManyValues ∷ [] else [])

@@ -276,7 +276,7 @@ fn options_of<'a, S: AsStr>(alloc: Global, words: &'a [S]) -> Result<(Options, b
 /// What the words ask for, the program's name first.
 ///
 /// Words that the program doesn't take, those that ask for the help or the version, numbers past their ranges, threads or
-/// several files without `--plain`, and more than [`MAX_FILES`] files are `Usage`. A FILE of the name `-` is none. What each word means is clap's to say; it is asked for the
+/// several files without `--plain`, and more than [`MAX_FILES`] files are `Usage`. FILE `-` is standard input. What each word means is clap's to say; it is asked for the
 /// arguments above. In time and memory linear in the words.
 pub fn options<'a, S: AsStr>(alloc: Global, words: &'a [S]) -> Result<Options, OptionsFault>
     // Words are taken only where nothing is wrong with them, and each sets what it names.

@@ -22,7 +22,7 @@ pub struct Options {
     pub report: bool,
     /// Whether standard error is told how much was read.
     pub progress: bool,
-    /// The files that are read, at most [`MAX_FILES`](plain_run::MAX_FILES); `None` is standard input, as is no file at all.
+    /// The files that are read, at most [`MAX_FILES`](plain_run::MAX_FILES). `None` is standard input, which is read without a file too.
     pub files: Vec<Option<String>>,
 }
 

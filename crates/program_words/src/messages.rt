@@ -1,5 +1,5 @@
 //! Lines for the user on standard error, written without taking memory. A failed write is ignored.
-ghost use Rattle.std.specs.Prelude.{◌≡◌, ◌+◌, ◌≤◌, ◌++◌, length, OnOk, IfErr};
+ghost use Rattle.std.specs.Prelude.{◌+◌, ◌≤◌, ◌++◌, length, OnOk, IfErr};
 ghost use Rattle.program_words.specs.declared.escapes.TheConstants.{END_ROOM, NAMED_LINE_ROOM};
 ghost use Rattle.arrayvec.specs.ArrayString.{array_string_len};
 ghost use Rattle.byte_streams.specs.Streams.{Took, WentOut};
