@@ -53,22 +53,23 @@ abbrev pub EndsOnSource : Bool → Asked → ℕ → Standard → Standard → T
 EndsOnSource true asked status before after = (s : SourceState) × EndsAs asked.plain asked status before (with_source s after)
 EndsOnSource false asked status before after = EndsAs asked.plain asked status before after
 
--- what is done with a FILE: it can't be opened, whose line is written and nothing else, or it is run on, and nothing is known of
--- itself; without a FILE the input is run on
+-- what is done with a FILE: it can't be opened, whose line is written and nothing else, or it is run on, and nothing is
+-- known of what it has; without a FILE the input is run on
 abbrev pub EndsOn : Option (List ℕ) → Asked → ℕ → Standard → Standard → Type 0
 EndsOn None asked status before after = EndsOnSource asked.progress asked status before after
 EndsOn (Some name) asked status before after =
     ((status ≡ 3) × IsUntouched before.sink after.sink × IsWritten (unopened_line name) before.errors after.errors)
     ⊎ EndsOnSource asked.progress asked status (from_file before) (from_file after)
 
--- memory was refused before anything was read: its line is written, and nothing else
+-- memory was refused before a run began: the line that says so is written and nothing else, and the input is left alone
 pub record EndsBefore (status : ℕ) (before after : Standard) : Type 0 where
   pub status_is : status ≡ 4
   pub unread : after.source ≡ before.source
   pub nothing : IsUntouched before.sink after.sink
   pub told : IsWritten (fault_line fault.Memory) before.errors after.errors
 
--- the same of files: of none the input is run on, and of several the links are joined, without workers, if memory wasn't refused before
+-- what is done with files: without one the input is run on, and with one that file; of several the links are joined, without
+-- workers, if memory wasn't refused before
 abbrev pub EndsOnFiles : List (Option (List ℕ)) → Asked → ℕ → Standard → Standard → Type 0
 EndsOnFiles [] asked = EndsOn None asked
 EndsOnFiles (file ∷ []) asked = EndsOn file asked

@@ -39,7 +39,7 @@ GiveGraphs before after [] [] = ⊤
 GiveGraphs before after (file ∷ files) (graph ∷ graphs) = GivesGraph before after file graph × GiveGraphs before after files graphs
 GiveGraphs before after _ _ = ⊥
 
--- the files gave these graphs, each of so many vertices. The input is among them once at most, and only then it was read
+-- the files gave these graphs, each of so many vertices. The input is among them once at most, and else it is left as it was
 pub record AreParts (before after : SourceState) (files : List (Option (List ℕ))) (vertices : ℕ) (graphs : List GraphValue) : Type 0 where
   pub each : GiveGraphs before after files graphs
   pub one_number : All (λ graph. graph.vertices ≡ vertices) graphs
@@ -48,8 +48,8 @@ pub record AreParts (before after : SourceState) (files : List (Option (List ℕ
 
 -- ---- a file that is no part
 
--- why a file stops the run that comes after those: it can't be opened, as the input can't a second time; or it wasn't read,
--- or has another number of vertices than they have
+-- why a file stops the run that comes after those: it can't be opened, as the input can't a second time; or it wasn't read, or
+-- memory was refused for its links; or it has another number of vertices than they have
 abbrev pub StopsAfter : List (Option (List ℕ)) → ℕ → Option (List ℕ) → JoinFault → SourceState → SourceState → Type 0
 StopsAfter others vertices file Unopened before after = file ≡ None → 0 < inputs others
 StopsAfter others vertices file (Part (part.Read why)) before after = IsReadOf MAX_BYTES (Err why) (source_of before file) (source_of after file)
@@ -71,7 +71,7 @@ abbrev pub stop_line : Option (List ℕ) → JoinFault → List ℕ
 stop_line file Unopened = unopened_line (name_of file)
 stop_line file (Part why) = part_line (name_of file) why
 
--- this file stops the run, and those before it don't. The input was read only if it is one of them all
+-- this file stops the run, and those before it don't. The input is left as it was if it is none of these
 pub record StopsAt (files : List (Option (List ℕ))) (file : Option (List ℕ)) (why : JoinFault) (before after : SourceState) : Type 0 where
   pub others : List (Option (List ℕ))
   pub behind : List (Option (List ℕ))

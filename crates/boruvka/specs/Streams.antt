@@ -68,7 +68,7 @@ SameInput before after = after.0.now ≡ before.input.now
 abbrev pub SameErrors : {I O E : Type 0} → StandardStreams I O E → Left I O E → Type 0
 SameErrors before after = after.1.1.0.now ≡ before.errors.now
 
--- R of how a source was left: where it is told how much was read, nobody is told that, and so of some state
+-- R of how a source was left. Where it is told how much was read, that isn't known, and R is so of some state
 abbrev pub OnLeft : {S : Type 0} → Bool → (S → Type 0) → S → Type 0
 OnLeft {S} true R left = (s : S) × R s
 OnLeft false R left = R left

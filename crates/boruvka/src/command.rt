@@ -224,7 +224,7 @@ where
 
 /// Does what lawful words ask for, and answers the status.
 ///
-/// FILE is opened before the run begins; without FILE it reads the input. Of several files it joins the links. The forest
+/// One FILE is opened before the run begins; without FILE it reads the input. Of several files it joins the links. The forest
 /// goes to the output, and what went wrong to the errors, as does the report where it is asked for. `progress` is told how much was read,
 /// where that is asked for. With `--plain` it runs by up to as many
 /// threads as are asked for. Without it it starts the workers that are asked for, in threads of this process at the far

@@ -176,7 +176,7 @@ fn write_stop<E: Sink>(file: &Option<String>, fault: &JoinFault, errors: &mut E)
 
 /// Writes the text of the forest of all links of the files that the words name, and answers the status.
 ///
-/// They are read in their order, `None` is the input, and at the first that isn't a part nothing is written but why. The sink
+/// They are read in their order, `None` is the input, and at the first that isn't a part only why is told. The sink
 /// that is told how much was read is taken to be ready at any time, since no call says how a file's reader left it. No
 /// worker is asked. `progress` is told how much was read of all, where the words ask for that.
 pub fn run_joined<
