@@ -14,7 +14,7 @@ use Rattle.frames.specs.Lawful.{IsU32}
 use Rattle.frames.specs.Refusals.{IsListBegun}
 use Rattle.frames.specs.ReadFault.{IsCutShort}
 use Rattle.frames.specs.NextFrame.{BodyCame, IsBodyRefused, WantsLate, IsStopped}
-use Rattle.frames.specs.Pieces.{BytesCame, PushesOffers, OffersCame}
+use Rattle.frames.specs.Pieces.{BytesCame, SpellOffers, PushesOffers}
 use Rattle.frames.specs.declared.fault.FrameFault.{FrameFault}
 use Rattle.frames.specs.declared.fault.FrameFault.TheVariants.{BadField}
 use Rattle.frames.proofs.Texts.{FitsOffer, u32_length, offer_length, items_length}
@@ -34,27 +34,6 @@ pushed_offer new old before more component place bytes rest rest' rest'' is so_f
   offer_more (more ++ (component, place) ∷ []) more component place bytes rest rest' rest'' read first second refl,
   fits_more (more ++ (component, place) ∷ []) more component place fit this refl,
 )
-
--- ---- offers that came
-
-offers_length : (offers : List Offer) → length (flat_map offer_text offers) ≡ 8 * length offers
-offers_length offers = omega (arith, items_length offer_text 8 offer_length offers)
-
--- so many offers, and a piece with more of them
-pub offers_more : (n k : ℕ) (before after : List Offer) (piece : List ℕ) (x y z : SourceState) → length piece ≡ 8 * k → OffersCame n before x y → Gave 0 0 piece y z
-    → PushesOffers piece before after → OffersCame (n + k) after x z
-offers_more n k before after piece x y z count came behind pushed =
-    let text : flat_map offer_text after ≡ flat_map offer_text before ++ piece =
-    ap (flat_map offer_text) pushed.behind ∙ flat_map-append offer_text before pushed.more ∙ ap (λ (t : List ℕ). flat_map offer_text before ++ t) pushed.bytes_are in
-    record {
-      counted = omega (arith, offers_length pushed.more, ap length pushed.bytes_are, count, came.counted, ap length pushed.behind, length-append before pushed.more);
-      gave = subst (λ (t : List ℕ). Gave 0 0 t x z) (sym text) (gave_more 0 0 (flat_map offer_text before) piece x y z came.gave behind);
-      fit = subst (All FitsOffer) (sym pushed.behind) (All-append FitsOffer before pushed.more came.fit pushed.fit);
-    }
-
--- the bytes of the offers that came
-pub offers_bytes : (n : ℕ) (offers : List Offer) (x y : SourceState) → OffersCame n offers x y → length (flat_map offer_text offers) ≡ 8 * n
-offers_bytes n offers x y came = omega (arith, offers_length offers, came.counted)
 
 -- ---- the twelve bytes before the offers
 
@@ -85,17 +64,18 @@ module _ (r s c k : ℕ) (x y z : SourceState) (came : Gave 0 0 (u32_text r ++ (
     pub answer_late : (fault : FrameFault) → WantsLate fault 4 (12 + 8 * k) x
     answer_late fault = list_late 4 (12 + 8 * k) (8 * k) (u32_text r ++ (u32_text s ++ u32_text c)) long x y z came fault begun
 
-    module _ (wide_r : IsU32 r) (wide_s : IsU32 s) (pairs : List Offer) (behind : OffersCame k pairs y z) where
+    module _ (wide_r : IsU32 r) (wide_s : IsU32 s) (pairs : List Offer) (bytes : List ℕ) (count : length bytes ≡ 8 * k) (behind : Gave 0 0 bytes y z) (are : SpellOffers pairs bytes) where
       -- offers came
       pub answer_came : k ≤ 2 * MAX_SHARD_LINKS → (os : List Offer) → os ≡ pairs → AreOffers os → BodyCame (AnswerFrame (record { round = r; shard = s; offers = os })) 4 (12 + 8 * k) x z
       unfolding u32_text
       answer_came few os same ascending =
-          list_came 4 (12 + 8 * k) (8 * k) (u32_text r ++ (u32_text s ++ u32_text c)) long x y z came (AnswerFrame (record { round = r; shard = s; offers = os })) (flat_map offer_text pairs) (offers_bytes k pairs y z behind) behind.gave
-          (answer_found r s c (flat_map offer_text pairs) os wide_r wide_s (omega (arith, counted, few)) (omega (arith, ap length same, behind.counted, counted)) (ap (flat_map offer_text) same) (subst (All FitsOffer) (sym same) behind.fit) ascending)
+          let spelled : flat_map offer_text os ≡ bytes = ap (flat_map offer_text) same ∙ are.bytes_are in
+          list_came 4 (12 + 8 * k) (8 * k) (u32_text r ++ (u32_text s ++ u32_text c)) long x y z came (AnswerFrame (record { round = r; shard = s; offers = os })) bytes count behind
+          (answer_found r s c bytes os wide_r wide_s (omega (arith, counted, few)) (omega (arith, ap length spelled, items_length offer_text 8 offer_length os, count, counted)) spelled (subst (All FitsOffer) (sym same) are.fit) ascending)
 
       -- pairs came that are no offers
       pub no_answer_came : IsU32 c → (AreOffers pairs → ⊥) → IsBodyRefused BadField 4 (12 + 8 * k) x z
       unfolding u32_text
       no_answer_came wide_c never =
-          list_refused 4 (12 + 8 * k) (8 * k) (u32_text r ++ (u32_text s ++ u32_text c)) long x y z came BadField (flat_map offer_text pairs) (offers_bytes k pairs y z behind) behind.gave
-          (answer_unsorted r s c (flat_map offer_text pairs) pairs wide_r wide_s wide_c refl behind.fit never)
+          list_refused 4 (12 + 8 * k) (8 * k) (u32_text r ++ (u32_text s ++ u32_text c)) long x y z came BadField bytes count behind
+          (answer_unsorted r s c bytes pairs wide_r wide_s wide_c are.bytes_are are.fit never)

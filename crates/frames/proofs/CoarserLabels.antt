@@ -9,7 +9,7 @@ use Rattle.byte_streams.specs.Streams.{SourceState}
 use Rattle.frames.specs.FrameValue.{FrameValue, AskFrame}
 use Rattle.frames.specs.FrameText.{u32_text, kind_of, body_of}
 use Rattle.frames.specs.NextFrame.{AreCoarserUpTo, AreOthers, HearsMore, numbers_of_ask, BodyCame}
-use Rattle.frames.proofs.Texts.{u32_length, items_length}
+use Rattle.frames.proofs.Texts.{u32_length, three_length, items_length}
 use Rattle.frames.proofs.NextFrames.{bytes_of}
 
 -- the label of one of the first vertices, whatever stands behind them
@@ -164,17 +164,4 @@ pub other_length : (v : FrameValue) (kind len : ℕ) (s t : SourceState) (last :
 other_length v kind len s t last came never r sh labels is coarsens =
     let kind-is : 3 ≡ kind = ap kind_of (sym is) ∙ came.is.kind in
     let body-is : body_of (AskFrame r sh labels) ≡ came.body = ap body_of (sym is) ∙ came.is.body in
-    never (sym kind-is)
-    (omega (
-      arith,
-      came.counted,
-      ap length body-is,
-      coarsens.vertices,
-      u32_length r,
-      u32_length sh,
-      u32_length (length labels),
-      items_length u32_text 4 u32_length labels,
-      length-append (u32_text r) (u32_text sh ++ (u32_text (length labels) ++ flat_map u32_text labels)),
-      length-append (u32_text sh) (u32_text (length labels) ++ flat_map u32_text labels),
-      length-append (u32_text (length labels)) (flat_map u32_text labels),
-    ))
+    never (sym kind-is) (omega (arith, came.counted, ap length body-is, coarsens.vertices, three_length r sh (length labels) (flat_map u32_text labels), items_length u32_text 4 u32_length labels))

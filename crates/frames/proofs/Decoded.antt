@@ -16,7 +16,7 @@ use Rattle.frames.specs.Spellings.{spelled_in, size_in, kind_in, spelling_of, Sp
 use Rattle.frames.specs.declared.spelling.Spelling.{Spelling}
 use Rattle.frames.specs.declared.spelling.Spelling.TheVariants.{Narrow, Wide}
 use Rattle.frames.specs.declared.fault.FrameFault.TheVariants.{BadField}
-use Rattle.frames.proofs.Texts.{u16_length, u32_length, u16_prefix, u32_prefix, offer_length, items_length, items_same, offer_prefix, FitsOffer}
+use Rattle.frames.proofs.Texts.{u16_length, u32_length, three_length, u16_prefix, u32_prefix, offer_length, items_length, items_same, offer_prefix, FitsOffer}
 use Rattle.frames.proofs.OneText.{two_prefix, labels_fit, shard_kind}
 use Rattle.frames.proofs.Spelled.{length_in, counted_in, fit_of, text_in, spelling_by_kind, kind_by_spelling, spelled_same}
 
@@ -138,8 +138,7 @@ module _ (r s c : ℕ) (labels : List ℕ) where
 
   -- how many bytes the labels of a body of this length have
   pub labels_long : (body : List ℕ) → body ≡ u32_text r ++ (u32_text s ++ (u32_text c ++ labels)) → c ≡ length labels / 4 → IsWithItems 12 4 MAX_VERTICES (length body) → length labels ≡ 4 * c
-  labels_long body is counted (count, few, len) =
-      omega (arith, counted, len, ap length is, length-append (u32_text r) (u32_text s ++ (u32_text c ++ labels)), length-append (u32_text s) (u32_text c ++ labels), length-append (u32_text c) labels, u32_length r, u32_length s, u32_length c)
+  labels_long body is counted (count, few, len) = omega (arith, counted, len, ap length is, three_length r s c labels)
 
   pub ask_refused : IsU32 r → IsU32 s → IsU32 c → (s < MAX_SHARDS → length labels ≡ 4 * c → ⊥) → BodyRefused BadField 3 (u32_text r ++ (u32_text s ++ (u32_text c ++ labels)))
   ask_refused wide_r wide_s wide_c never = (

@@ -1,6 +1,7 @@
 -- Texts of lawful frames, joined together, read in one way.
 use Rattle.std.proofs.Common.{◌≡◌, ℕ, ◌<◌, ◌≤◌, List, [], ◌∷◌, ◌++◌, length, take, drop, refl, sym, ap, subst, ◌∙◌, ⊎_elim, append_assoc, append-nil, take-append-drop, arith}
 use Rattle.std.proofs.lemmas.Bool.{cases_lt}
+use Rattle.std.proofs.lemmas.Grind.{flat_map-append}
 use Rattle.std.proofs.lemmas.List.{length-append, take_at, take-append-le, append_cancel_left}
 use Rattle.frames.specs.FrameValue.{FrameValue}
 use Rattle.frames.specs.FrameText.{text_of}
@@ -12,8 +13,7 @@ use Rattle.frames.proofs.NeverRefused.{never_refused}
 use Rattle.frames.specs.FrameStream.{texts_of, AreLawful, BeginsNone, AreFramesOf, IsOfStream}
 
 pub texts-append : (fs gs : List FrameValue) → texts_of (fs ++ gs) ≡ texts_of fs ++ texts_of gs
-texts-append [] gs = refl
-texts-append (f ∷ fs) gs = ap (λ (t : List ℕ). text_of f ++ t) (texts-append fs gs) ∙ sym (append_assoc (text_of f) (texts_of fs) (texts_of gs))
+texts-append fs gs = flat_map-append text_of fs gs
 
 pub texts-one : (v : FrameValue) → texts_of (v ∷ []) ≡ text_of v
 texts-one v = append-nil (text_of v)
@@ -55,14 +55,6 @@ prefix_of_frames fs gs tail first second same =
 pub frames_of_texts : (fs : List FrameValue) → AreLawful fs → AreFramesOf (texts_of fs) fs
 frames_of_texts fs lawful = record { lawful = lawful; rest = []; split = sym (append-nil (texts_of fs)); no_more = none_begins_none }
 
-pub only_frames_of_texts : (fs gs : List FrameValue) → AreLawful fs → AreFramesOf (texts_of fs) gs → gs ≡ fs
-only_frames_of_texts fs gs lawful are =
-    let (hs, is, left) = prefix_frames fs gs [] are.rest lawful are.lawful are.no_more (append-nil (texts_of fs) ∙ are.split) in
-    is ∙ none_left fs hs are.rest left where
-      none_left : (fs hs : List FrameValue) (rest : List ℕ) → [] ≡ texts_of hs ++ rest → fs ++ hs ≡ fs
-      none_left fs [] rest none = append-nil fs
-      none_left fs (h ∷ hs) rest none = absurd (text_some h (texts_of hs ++ rest) (none ∙ append_assoc (text_of h) (texts_of hs) rest))
-
 -- the same frames stand in a stream however they are looked for
 pub same_frames : (stream : List ℕ) (fs gs : List FrameValue) → AreFramesOf stream fs → AreFramesOf stream gs → gs ≡ fs
 same_frames stream fs gs first second =
@@ -71,6 +63,9 @@ same_frames stream fs gs first second =
       no_more_of : (hs : List FrameValue) (rest own : List ℕ) → AreLawful hs → BeginsNone own → own ≡ texts_of hs ++ rest → fs ++ hs ≡ fs
       no_more_of [] rest own lawful none left = append-nil fs
       no_more_of (h ∷ hs) rest own lawful none left = absurd (none h (texts_of hs ++ rest) lawful.0 (left ∙ append_assoc (text_of h) (texts_of hs) rest))
+
+pub only_frames_of_texts : (fs gs : List FrameValue) → AreLawful fs → AreFramesOf (texts_of fs) gs → gs ≡ fs
+only_frames_of_texts fs gs lawful are = same_frames (texts_of fs) fs gs (frames_of_texts fs lawful) are
 
 -- a text that is no longer than a stream's prefix and begins the stream begins that prefix
 begins_prefix : (text prefix rest behind : List ℕ) → length text ≤ length prefix → prefix ++ rest ≡ text ++ behind

@@ -1,5 +1,5 @@
 -- What begins with a lawful frame's text is not refused.
-use Rattle.std.proofs.Common.{◌≡◌, ℕ, ◌+◌, List, [], ◌∷◌, ◌++◌, length, refl, sym, ap, subst, ◌∙◌, append_assoc, arith, inl, inr}
+use Rattle.std.proofs.Common.{◌≡◌, ℕ, ◌+◌, ◌*◌, List, [], ◌∷◌, ◌++◌, length, refl, sym, ap, subst, ◌∙◌, append_assoc, arith, inl, inr}
 use Rattle.std.specs.Int.{w16, from_be_bytes}
 use Rattle.std.specs.List.{flat_map}
 use Rattle.std.proofs.lemmas.Bool.{cases_Bool, cond-true, cond-false}
@@ -9,8 +9,9 @@ use Rattle.frames.specs.FrameValue.{FrameValue, HelloFrame, ShardFrame, AskFrame
 use Rattle.frames.specs.FrameText.{u16_text, u32_text, are_narrow, links_text, offer_text, kind_of, body_of, text_of}
 use Rattle.frames.specs.Lawful.{IsVersion, IsLawful}
 use Rattle.frames.specs.OneText.{IsNeverRefused}
-use Rattle.frames.specs.Refusals.{IsPossible, IsOtherVersion, kind_at}
-use Rattle.frames.proofs.Texts.{u16_length, u32_length, u16_again, offer_length, items_length, narrow_length, wide_length}
+use Rattle.limits.specs.declared.TheConstants.{MAX_SHARD_LINKS, MAX_VERTICES}
+use Rattle.frames.specs.Refusals.{IsWithItems, IsPossible, IsOtherVersion, kind_at}
+use Rattle.frames.proofs.Texts.{u16_length, u32_length, three_length, u16_again, offer_length, items_length, narrow_length, wide_length}
 use Rattle.frames.proofs.OneText.{body_short, shard_kind}
 use Rattle.frames.proofs.Streams.{whole_body}
 
@@ -18,66 +19,28 @@ shard_length : (n : ℕ) (ls : List Link) → length (body_of (ShardFrame n ls))
 shard_length n ls = omega (arith, length-append (u32_text n) (u32_text (length ls) ++ links_text ls), length-append (u32_text (length ls)) (links_text ls), u32_length n, u32_length (length ls))
 
 possible_of : (v : FrameValue) → IsLawful v → IsPossible (kind_of v) (length (body_of v))
-possible_of (HelloFrame v w) lawful = record {
-  known = record { from_one = omega arith; to_six = omega arith };
-  hello = λ e. omega (arith, length-append (u16_text v) (u32_text w), u16_length v, u32_length w);
-  shard = λ e. absurd (omega (arith, e));
-  ask = λ e. absurd (omega (arith, e));
-  answer = λ e. absurd (omega (arith, e));
-  fault = λ e. absurd (omega (arith, e));
-  wide = λ e. absurd (omega (arith, e));
-}
+possible_of (HelloFrame v w) lawful =
+    let long : length (body_of (HelloFrame v w)) ≡ 6 = omega (arith, length-append (u16_text v) (u32_text w), u16_length v, u32_length w) in
+    grind (arith, long)
 possible_of (ShardFrame n ls) lawful = elim (cases_Bool (are_narrow ls)) [
   | inl narrow ↦
       let kind : kind_of (ShardFrame n ls) ≡ 2 = cond-true (are_narrow ls) 2 6 narrow in
-      record {
-        known = record { from_one = omega (arith, kind); to_six = omega (arith, kind) };
-        hello = λ e. absurd (omega (arith, e, kind));
-        shard = λ e. (length ls, lawful.count, omega (arith, shard_length n ls, narrow_length ls narrow));
-        ask = λ e. absurd (omega (arith, e, kind));
-        answer = λ e. absurd (omega (arith, e, kind));
-        fault = λ e. absurd (omega (arith, e, kind));
-        wide = λ e. absurd (omega (arith, e, kind));
-      }
+      let items : IsWithItems 8 12 MAX_SHARD_LINKS (length (body_of (ShardFrame n ls))) = (length ls, lawful.count, omega (arith, shard_length n ls, narrow_length ls narrow)) in
+      grind (arith, kind, items)
   | inr wide ↦
       let kind : kind_of (ShardFrame n ls) ≡ 6 = cond-false (are_narrow ls) 2 6 wide in
-      record {
-        known = record { from_one = omega (arith, kind); to_six = omega (arith, kind) };
-        hello = λ e. absurd (omega (arith, e, kind));
-        shard = λ e. absurd (omega (arith, e, kind));
-        ask = λ e. absurd (omega (arith, e, kind));
-        answer = λ e. absurd (omega (arith, e, kind));
-        fault = λ e. absurd (omega (arith, e, kind));
-        wide = λ e. (length ls, lawful.count, omega (arith, shard_length n ls, wide_length ls wide));
-      }
+      let items : IsWithItems 8 16 MAX_SHARD_LINKS (length (body_of (ShardFrame n ls))) = (length ls, lawful.count, omega (arith, shard_length n ls, wide_length ls wide)) in
+      grind (arith, kind, items)
 ]
-possible_of (AskFrame r s ls) lawful = record {
-  known = record { from_one = omega arith; to_six = omega arith };
-  hello = λ e. absurd (omega (arith, e));
-  shard = λ e. absurd (omega (arith, e));
-  ask = λ e. (length ls, lawful.labels.few_vertices, omega (arith, length-append (u32_text r) (u32_text s ++ (u32_text (length ls) ++ flat_map u32_text ls)), length-append (u32_text s) (u32_text (length ls) ++ flat_map u32_text ls), length-append (u32_text (length ls)) (flat_map u32_text ls), u32_length r, u32_length s, u32_length (length ls), items_length u32_text 4 u32_length ls));
-  answer = λ e. absurd (omega (arith, e));
-  fault = λ e. absurd (omega (arith, e));
-  wide = λ e. absurd (omega (arith, e));
-}
-possible_of (AnswerFrame a) lawful = record {
-  known = record { from_one = omega arith; to_six = omega arith };
-  hello = λ e. absurd (omega (arith, e));
-  shard = λ e. absurd (omega (arith, e));
-  ask = λ e. absurd (omega (arith, e));
-  answer = λ e. (length a.offers, lawful.count, omega (arith, length-append (u32_text a.round) (u32_text a.shard ++ (u32_text (length a.offers) ++ flat_map offer_text a.offers)), length-append (u32_text a.shard) (u32_text (length a.offers) ++ flat_map offer_text a.offers), length-append (u32_text (length a.offers)) (flat_map offer_text a.offers), u32_length a.round, u32_length a.shard, u32_length (length a.offers), items_length offer_text 8 offer_length a.offers));
-  fault = λ e. absurd (omega (arith, e));
-  wide = λ e. absurd (omega (arith, e));
-}
-possible_of (FaultFrame r s c) lawful = record {
-  known = record { from_one = omega arith; to_six = omega arith };
-  hello = λ e. absurd (omega (arith, e));
-  shard = λ e. absurd (omega (arith, e));
-  ask = λ e. absurd (omega (arith, e));
-  answer = λ e. absurd (omega (arith, e));
-  fault = λ e. omega (arith, length-append (u32_text r) (u32_text s ++ c ∷ []), length-append (u32_text s) (c ∷ []), u32_length r, u32_length s);
-  wide = λ e. absurd (omega (arith, e));
-}
+possible_of (AskFrame r s ls) lawful =
+    let items : IsWithItems 12 4 MAX_VERTICES (length (body_of (AskFrame r s ls))) = (length ls, lawful.labels.few_vertices, omega (arith, three_length r s (length ls) (flat_map u32_text ls), items_length u32_text 4 u32_length ls)) in
+    grind (arith, items)
+possible_of (AnswerFrame a) lawful =
+    let items : IsWithItems 12 8 (2 * MAX_SHARD_LINKS) (length (body_of (AnswerFrame a))) = (length a.offers, lawful.count, omega (arith, three_length a.round a.shard (length a.offers) (flat_map offer_text a.offers), items_length offer_text 8 offer_length a.offers)) in
+    grind (arith, items)
+possible_of (FaultFrame r s c) lawful =
+    let long : length (body_of (FaultFrame r s c)) ≡ 9 = omega (arith, length-append (u32_text r) (u32_text s ++ c ∷ []), length-append (u32_text s) (c ∷ []), u32_length r, u32_length s) in
+    grind (arith, long)
 
 -- a lawful hello is of one of the versions
 lawful_version : (v : FrameValue) → IsLawful v → IsOtherVersion (kind_of v) (body_of v) → ⊥

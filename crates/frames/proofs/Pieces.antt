@@ -24,15 +24,7 @@ whole_came v kind len body s t counted gave is = record { body = body; counted =
 pub whole_refused : (fault : FrameFault) (kind len : ℕ) (body : List ℕ) (s t : SourceState) → length body ≡ len → Gave 0 0 body s t → BodyRefused fault kind body → IsBodyRefused fault kind len s t
 whole_refused fault kind len body s t counted gave refused = inr (record { body = body; counted = counted; gave = gave; refused = refused })
 
--- ---- bytes that are passed over
-
--- so many bytes, and more
-pub bytes_more : (m n : ℕ) (piece : List ℕ) (x y z : SourceState) → BytesCame m x y → length piece ≡ n → Gave 0 0 piece y z → BytesCame (m + n) x z
-bytes_more m n piece x y z came count behind = record {
-  bytes = came.bytes ++ piece;
-  counted = omega (arith, length-append came.bytes piece, came.counted, count);
-  gave = gave_more 0 0 came.bytes piece x y z came.gave behind;
-}
+-- ---- bytes of another count
 
 pub passed_so_many : (m n : ℕ) (x y : SourceState) → m ≡ n → BytesCame m x y → BytesCame n x y
 passed_so_many m n x y is came = subst (λ (k : ℕ). BytesCame k x y) is came
@@ -40,20 +32,8 @@ passed_so_many m n x y is came = subst (λ (k : ℕ). BytesCame k x y) is came
 pub unpassed_so_many : (fault : FrameFault) (m n : ℕ) (x y : SourceState) → m ≡ n → IsCutShort fault m x y → IsCutShort fault n x y
 unpassed_so_many fault m n x y is cut = subst (λ (k : ℕ). IsCutShort fault k x y) is cut
 
--- ---- a piece that was stopped
-
--- items of so many bytes each came before it
-pub stopped_later : (size n k count : ℕ) (fault : FrameFault) (bytes : List ℕ) (x y z : SourceState) → n + k ≤ count → length bytes ≡ size * n → Gave 0 0 bytes x y
-    → IsStopped fault (size * k) y z → IsStopped fault (size * count) x z
-stopped_later size n k count fault bytes x y z within counted came stopped =
-    let most : size * n + size * k ≤ size * count = subst (λ (m : ℕ). m ≤ size * count) (mul-add size n k) (mul-le-mul_left size within) in
-    record {
-      bytes = bytes ++ stopped.bytes;
-      gave = gave_more (failures_of fault) (ends_of fault) bytes stopped.bytes x y z came stopped.gave;
-      within = omega (arith, length-append bytes stopped.bytes, stopped.within, most, counted);
-      short = elim stopped.short [ inl memory ↦ inl memory | inr short ↦ inr (omega (arith, length-append bytes stopped.bytes, short, most, counted)) ];
-      cause = stopped.cause;
-    }
+pub stopped_so_many : (fault : FrameFault) (m n : ℕ) (x y : SourceState) → m ≡ n → IsStopped fault m x y → IsStopped fault n x y
+stopped_so_many fault m n x y is stopped = subst (λ (k : ℕ). IsStopped fault k x y) is stopped
 
 -- ---- fields, and the bytes of a list behind them
 

@@ -1,5 +1,5 @@
 -- A shard whose links come by pieces.
-use Rattle.std.proofs.Common.{◌≡◌, ◌≢◌, ℕ, ◌+◌, ◌-◌, ◌*◌, ◌/◌, ◌<◌, ◌≤◌, List, ◌++◌, length, Option, Some, None, Vec, sym, ap, subst, ◌∙◌, arith}
+use Rattle.std.proofs.Common.{◌≡◌, ◌≢◌, ℕ, ◌+◌, ◌-◌, ◌*◌, ◌/◌, ◌%◌, ◌<◌, ◌≤◌, List, ◌++◌, length, Option, Some, None, Vec, sym, ap, subst, ◌∙◌, arith}
 use Rattle.std.proofs.lemmas.List.{length-append}
 use Rattle.byte_streams.specs.Streams.{SourceState, Gave}
 use Rattle.byte_streams.proofs.Streaming.{gave_more}
@@ -12,7 +12,7 @@ use Rattle.frames.specs.Refusals.{IsPossible, AreNoLinks, IsListBegun}
 use Rattle.frames.specs.ReadFault.{IsCutShort}
 use Rattle.frames.specs.NextFrame.{BodyCame, IsBodyRefused, WantsLate, IsStopped}
 use Rattle.frames.specs.Pieces.{BytesCame}
-use Rattle.frames.specs.Spellings.{spelled_in, size_in, kind_in, spelling_of, Spells, Pushes, AreLinksIn, HearsLinks, LinksCame}
+use Rattle.frames.specs.Spellings.{spelled_in, size_in, kind_in, spelling_of, Spells, Pushes, AreLinksIn, HeardLinks}
 use Rattle.frames.specs.declared.spelling.Spelling.{Spelling}
 use Rattle.frames.specs.declared.spelling.Spelling.TheVariants.{Narrow, Wide}
 use Rattle.frames.specs.declared.fault.FrameFault.{FrameFault}
@@ -50,26 +50,28 @@ mul-add : (s : Spelling) (n k : ℕ) → size_in s * (n + k) ≡ size_in s * n +
 mul-add Narrow n k = omega arith
 mul-add Wide n k = omega arith
 
--- nothing more is heard once some link was refused
-pub hears_none : (A : Type 0) (s : Spelling) (piece : List ℕ) → HearsLinks {A = A} s piece None None
-hears_none A s piece bytes count counted none = none_before s bytes piece count counted none
+whole_pieces : (s : Spelling) (len : ℕ) → len % size_in s ≡ 0 → len ≡ size_in s * (len / size_in s)
+whole_pieces Narrow len whole = omega arith
+whole_pieces Wide len whole = omega arith
 
-pub hears_refused : {A : Type 0} (s : Spelling) (piece : List ℕ) (before : Vec Link A) → AreNoLinks (spelled_in s) piece → HearsLinks s piece (Some before) None
-hears_refused s piece before none bytes count counted are = none_behind_them s bytes piece count counted none
+module _ {A : Type 0} (s : Spelling) (bytes piece : List ℕ) (whole : length piece % size_in s ≡ 0) where
+  more : (before after : Option (Vec Link A)) (heard : HeardLinks s bytes before) → AreLinksIn s (bytes ++ piece) after → HeardLinks s (bytes ++ piece) after
+  more before after heard are = record {
+    count = heard.count + length piece / size_in s;
+    counted = omega (arith, length-append bytes piece, heard.counted, whole_pieces s (length piece) whole, mul-add s heard.count (length piece / size_in s));
+    are = are;
+  }
 
-pub hears_links : {A : Type 0} (s : Spelling) (piece : List ℕ) (before after : Vec Link A) → Pushes s piece before.items after.items → HearsLinks s piece (Some before) (Some after)
-hears_links s piece before after (more, is, spelled) bytes count counted are =
-    subst (λ (ls : List Link). Spells s ls (bytes ++ piece)) (sym is) (spells_more s before.items more bytes piece are spelled)
+  -- nothing more is heard once some link was refused
+  pub hears_none : HeardLinks {A = A} s bytes None → HeardLinks {A = A} s (bytes ++ piece) None
+  hears_none heard = more None None heard (none_before s bytes piece heard.count heard.counted heard.are)
 
--- so many links, and a piece with more of them
-pub came_more : {A : Type 0} (s : Spelling) (n k : ℕ) (before after : Option (Vec Link A)) (piece : List ℕ) (x y z : SourceState)
-    → length piece ≡ size_in s * k → LinksCame s n before x y → Gave 0 0 piece y z → HearsLinks s piece before after → LinksCame s (n + k) after x z
-came_more s n k before after piece x y z count came behind heard = record {
-  bytes = came.bytes ++ piece;
-  counted = omega (arith, length-append came.bytes piece, came.counted, count, mul-add s n k);
-  gave = gave_more 0 0 came.bytes piece x y z came.gave behind;
-  are = heard came.bytes n came.counted came.are;
-}
+  pub hears_refused : (before : Vec Link A) → AreNoLinks (spelled_in s) piece → HeardLinks s bytes (Some before) → HeardLinks {A = A} s (bytes ++ piece) None
+  hears_refused before none heard = more (Some before) None heard (none_behind_them s bytes piece heard.count heard.counted none)
+
+  pub hears_links : (before after : Vec Link A) → Pushes s piece before.items after.items → HeardLinks s bytes (Some before) → HeardLinks s (bytes ++ piece) (Some after)
+  hears_links before after (more_links, is, spelled) heard =
+      more (Some before) (Some after) heard (subst (λ (ls : List Link). Spells s ls (bytes ++ piece)) (sym is) (spells_more s before.items more_links bytes piece heard.are spelled))
 
 -- ---- the eight bytes before the links
 
@@ -100,30 +102,30 @@ module _ (s : Spelling) (n c k : ℕ) (x y z : SourceState) (came : Gave 0 0 (u3
     pub shard_late : (fault : FrameFault) → WantsLate fault (kind_in s) (8 + size_in s * k) x
     shard_late fault = list_late (kind_in s) (8 + size_in s * k) (size_in s * k) (u32_text n ++ u32_text c) long x y z came fault begun
 
-    module _ {A : Type 0} (links : Option (Vec Link A)) (behind : LinksCame s k links y z) where
+    module _ {A : Type 0} (links : Option (Vec Link A)) (bytes : List ℕ) (long_enough : length bytes ≡ size_in s * k) (behind : Gave 0 0 bytes y z) (heard : HeardLinks s bytes links) where
       -- links came, in their spelling
       pub shard_came : k ≤ MAX_SHARD_LINKS → (list : Vec Link A) (v : FrameValue) → links ≡ Some list → (v ≡ ShardFrame n list.items) × (spelling_of list.items ≡ s)
           → BodyCame v (kind_in s) (8 + size_in s * k) x z
       unfolding u32_text
       shard_came few list v is (same, spelling) =
-          let are : AreLinksIn s behind.bytes (Some list) = subst (AreLinksIn s behind.bytes) is behind.are in
+          let are : AreLinksIn s bytes (Some list) = subst (AreLinksIn s bytes) is heard.are in
           subst (λ (w : FrameValue). BodyCame w (kind_in s) (8 + size_in s * k) x z) (sym same)
-          (list_came (kind_in s) (8 + size_in s * k) (size_in s * k) (u32_text n ++ u32_text c) long x y z came (ShardFrame n list.items) behind.bytes behind.counted behind.gave
-          (shard_found s n c behind.bytes list.items low (omega (arith, counted, few)) (behind.counted ∙ ap (λ (m : ℕ). size_in s * m) (sym counted)) are.bytes_are spelling))
+          (list_came (kind_in s) (8 + size_in s * k) (size_in s * k) (u32_text n ++ u32_text c) long x y z came (ShardFrame n list.items) bytes long_enough behind
+          (shard_found s n c bytes list.items low (omega (arith, counted, few)) (long_enough ∙ ap (λ (m : ℕ). size_in s * m) (sym counted)) are.bytes_are spelling))
 
       module _ (wide_n : IsU32 n) (wide_c : IsU32 c) where
         -- links came in the other spelling
         pub no_shard_came : (list : Vec Link A) (fault : FrameFault) → links ≡ Some list → (fault ≡ BadField) × (spelling_of list.items ≢ s) → IsBodyRefused fault (kind_in s) (8 + size_in s * k) x z
         unfolding u32_text
         no_shard_came list fault is (bad, other) =
-            let are : AreLinksIn s behind.bytes (Some list) = subst (AreLinksIn s behind.bytes) is behind.are in
+            let are : AreLinksIn s bytes (Some list) = subst (AreLinksIn s bytes) is heard.are in
             subst (λ (f : FrameFault). IsBodyRefused f (kind_in s) (8 + size_in s * k) x z) (sym bad)
-            (list_refused (kind_in s) (8 + size_in s * k) (size_in s * k) (u32_text n ++ u32_text c) long x y z came BadField behind.bytes behind.counted behind.gave
-            (shard_of_another_kind s n c behind.bytes list.items wide_n wide_c are other))
+            (list_refused (kind_in s) (8 + size_in s * k) (size_in s * k) (u32_text n ++ u32_text c) long x y z came BadField bytes long_enough behind
+            (shard_of_another_kind s n c bytes list.items wide_n wide_c are other))
 
         -- no links came
         pub no_links_came : links ≡ None → IsBodyRefused BadField (kind_in s) (8 + size_in s * k) x z
         unfolding u32_text
         no_links_came is =
-            list_refused (kind_in s) (8 + size_in s * k) (size_in s * k) (u32_text n ++ u32_text c) long x y z came BadField behind.bytes behind.counted behind.gave
-            (shard_unlinked s n c behind.bytes wide_n wide_c (subst (AreLinksIn s behind.bytes) is behind.are))
+            list_refused (kind_in s) (8 + size_in s * k) (size_in s * k) (u32_text n ++ u32_text c) long x y z came BadField bytes long_enough behind
+            (shard_unlinked s n c bytes wide_n wide_c (subst (AreLinksIn s bytes) is heard.are))

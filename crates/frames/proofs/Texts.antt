@@ -34,6 +34,10 @@ pub u32_length : (n : ℕ) → length (u32_text n) ≡ 4
 unfolding u32_text
 u32_length n = refl
 
+-- three numbers, and what stands behind them
+pub three_length : (a b c : ℕ) (list : List ℕ) → length (u32_text a ++ (u32_text b ++ (u32_text c ++ list))) ≡ 12 + length list
+three_length a b c list = omega (arith, length-append (u32_text a) (u32_text b ++ (u32_text c ++ list)), length-append (u32_text b) (u32_text c ++ list), length-append (u32_text c) list, u32_length a, u32_length b, u32_length c)
+
 pub u16_again : (n : ℕ) → n < 2 ^ 16 → from_be_bytes w16 (u16_text n) ≡ n
 unfolding u16_text
 u16_again n lt = from_be_bytes-to_be_bytes_2 n lt

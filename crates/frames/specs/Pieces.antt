@@ -12,15 +12,18 @@ pub record BytesCame (count : ℕ) (before after : SourceState) : Type 0 where
   pub counted : length bytes ≡ count
   pub gave : Gave 0 0 bytes before after
 
--- behind the offers of before stand those that have these bytes
-pub record PushesOffers (bytes : List ℕ) (before after : List Offer) : Type 0 where
-  pub more : List Offer
-  pub behind : after ≡ before ++ more
-  pub bytes_are : flat_map offer_text more ≡ bytes
-  pub fit : All (λ o. IsU32 o.0 × IsU32 o.1) more
-
--- the bytes of so many offers came, and these are the offers, in whatever order
-pub record OffersCame (count : ℕ) (offers : List Offer) (before after : SourceState) : Type 0 where
-  pub counted : length offers ≡ count
-  pub gave : Gave 0 0 (flat_map offer_text offers) before after
+-- these pairs have these bytes, in whatever order
+pub record SpellOffers (offers : List Offer) (bytes : List ℕ) : Type 0 where
+  pub bytes_are : flat_map offer_text offers ≡ bytes
   pub fit : All (λ o. IsU32 o.0 × IsU32 o.1) offers
+
+-- behind the pairs of before stand those that have these bytes
+abbrev pub PushesOffers : List ℕ → List Offer → List Offer → Type 0
+PushesOffers bytes before after = (more : List Offer) × (after ≡ before ++ more) × SpellOffers more bytes
+
+-- so many bytes came, and a list heard them
+pub record ListCame {L : Type 0} (Heard : L → List ℕ → Type 0) (len : ℕ) (list : L) (before after : SourceState) : Type 0 where
+  pub bytes : List ℕ
+  pub counted : length bytes ≡ len
+  pub gave : Gave 0 0 bytes before after
+  pub heard : Heard list bytes

@@ -1,7 +1,6 @@
 -- The two spellings of a shard's links, and lists of links as they come in one.
 use Rattle.std.specs.Prelude.{◌≡◌, ℕ, ◌*◌, ⊤, if◌then◌else◌, IsTrue, List, ◌++◌, length, Option, Some, None, Vec}
 use Rattle.std.specs.List.{flat_map}
-use Rattle.byte_streams.specs.Streams.{SourceState, Gave}
 use Rattle.links.specs.declared.links.Link.{Link}
 use Rattle.frames.specs.FrameText.{are_narrow, link_text, wide_link_text}
 use Rattle.frames.specs.Refusals.{AreNoLinks}
@@ -46,14 +45,8 @@ abbrev pub AreLinksIn : {A : Type 0} → Spelling → List ℕ → Option (Vec L
 AreLinksIn s bytes (Some links) = Spells s links.items bytes
 AreLinksIn s bytes None = AreNoLinks (spelled_in s) bytes
 
--- behind the bytes that came so far, of whole links or of none, these were heard too
-abbrev pub HearsLinks : {A : Type 0} → Spelling → List ℕ → Option (Vec Link A) → Option (Vec Link A) → Type 0
-HearsLinks s piece before after =
-    (bytes : List ℕ) (count : ℕ) → length bytes ≡ size_in s * count → AreLinksIn s bytes before → AreLinksIn s (bytes ++ piece) after
-
--- the bytes of so many links came, and these are the links; or none, where no links have them
-pub record LinksCame {A : Type 0} (s : Spelling) (count : ℕ) (links : Option (Vec Link A)) (before after : SourceState) : Type 0 where
-  pub bytes : List ℕ
+-- bytes of so many links came, and these are the links; or none, where no links have them
+pub record HeardLinks {A : Type 0} (s : Spelling) (bytes : List ℕ) (links : Option (Vec Link A)) : Type 0 where
+  pub count : ℕ
   pub counted : length bytes ≡ size_in s * count
-  pub gave : Gave 0 0 bytes before after
   pub are : AreLinksIn s bytes links

@@ -1,19 +1,20 @@
 //! Answers from a stream: the offers come by pieces through one buffer, and are pushed into the list that the answer owns.
 //! So the bytes of an answer are never stored, and those of a piece become offers while the next ones are on their way.
-ghost use Rattle.std.specs.Prelude.{◌≡◌, ◌+◌, ◌*◌, ◌≤◌, length, IfOk, IfErr, OnOk};
+ghost use Rattle.std.specs.Prelude.{◌≡◌, ◌+◌, ◌*◌, ◌%◌, ◌≤◌, IfOk, IfErr};
 ghost use Rattle.frames.specs.FrameValue.{value_of};
-ghost use Rattle.frames.specs.NextFrame.{BodyCame, IsBodyRefused, WantsLate, IsStopped};
-ghost use Rattle.frames.specs.Pieces.{PushesOffers, OffersCame};
-ghost use Rattle.frames.specs.Sources.{KeepsSource, FillsPiece};
+ghost use Rattle.frames.specs.NextFrame.{BodyCame, IsBodyRefused, WantsLate};
+ghost use Rattle.frames.specs.Pieces.{SpellOffers};
+ghost use Rattle.frames.specs.Sources.{KeepsSource};
 
-use crate::bodies::{PIECE, pass_over, read_bytes, read_three};
+use crate::bodies::{PIECE, read_three};
 use crate::fault::FrameFault;
 use crate::frame::Frame;
 use crate::items::push_offers;
+use crate::list_reader::{Hears, pass_over, read_list};
 use byte_streams::Source;
 use limits::MAX_SHARD_LINKS;
 use links::{Answer, Offers};
-use std::alloc::Allocator;
+use std::alloc::{AllocError, Allocator};
 
 // The answer whose head came, with a length for so many offers. Its count is judged first; where it is refused, the rest
 // is taken all the same, and not kept: a stream may end in it. That the components ascend is judged once all came.
@@ -32,12 +33,13 @@ pub(crate) fn read_answer<A: Allocator, S: Source>(
     ensures kept { KeepsSource S.Source result source.old source.new }
 {
     let (round, shard, count) = read_three(source)?;
-    let mut buffer = [0; PIECE];
     if count as usize != most {
-        pass_over(source, 8 * most, &mut buffer)?;
+        pass_over(source, 8 * most)?;
         return Err(FrameFault::BadField);
     }
-    let pairs = read_pairs(alloc, source, most, &mut buffer)?;
+    let mut pairs = Vec::new(alloc);
+    read_list(source, &mut pairs, 8 * most)?;
+    pairs.shrink_to_fit();
     match Offers::of_pairs(pairs) {
         Some(offers) => Ok(Frame::Answer(Answer {
             round,
@@ -48,50 +50,21 @@ pub(crate) fn read_answer<A: Allocator, S: Source>(
     }
 }
 
-// The next pairs of a stream, in whatever order.
-fn read_pairs<A: Allocator, S: Source>(
-    alloc: A,
-    source: &mut S,
-    count: usize,
-    buffer: &mut [u8],
-) -> Result<Vec<(u32, u32), A>, FrameFault>
-    requires room { length buffer.old ≡ PIECE }
-    requires few { count ≤ 2 * MAX_SHARD_LINKS }
-    requires can { S.can_read source.old }
-    ensures came { IfOk result
-        (λ pairs. OffersCame count pairs.items (S.state source.old) (S.state source.new)) }
-    ensures stopped { IfErr result
-        (λ fault. IsStopped fault (8 * count) (S.state source.old) (S.state source.new)) }
-    ensures kept { KeepsSource S.Source result source.old source.new }
-{
-    let mut pairs = Vec::new(alloc);
-    let mut came = 0;
-    while came < count {
-        let more = (count - came).min(PIECE / 8);
-        let piece = &mut buffer[..8 * more];
-        read_piece(source, &mut pairs, more, piece)?;
-        came += more;
-    }
-    pairs.shrink_to_fit();
-    Ok(pairs)
-}
+// The pairs hear their bytes, in whatever order.
+impl<A: Allocator> Hears for Vec<(u32, u32), A> {
+    ghost heard = { λ _ pairs bytes. SpellOffers pairs.items bytes };
 
-// Reads the bytes of so many pairs, behind those that came before. Room for the pairs is taken before they come.
-fn read_piece<A: Allocator, S: Source>(
-    source: &mut S,
-    pairs: &mut Vec<(u32, u32), A>,
-    count: usize,
-    piece: &mut [u8],
-) -> Result<(), FrameFault>
-    requires whole { length piece.old ≡ 8 * count }
-    requires can { S.can_read source.old }
-    ensures filled { FillsPiece S.Source result piece.old piece.new source.old source.new }
-    ensures pushed { OnOk result (PushesOffers piece.new pairs.old.items pairs.new.items) }
-    ensures stopped { IfErr result
-        (λ fault. IsStopped fault (8 * count) (S.state source.old) (S.state source.new)) }
-{
-    pairs.reserve(count)?;
-    read_bytes(source, piece)?;
-    push_offers(pairs, piece)?;
-    Ok(())
+    ghost awaits = { λ _ left. left % 8 ≡ 0 };
+
+    fn piece_of(&self, left: usize) -> usize {
+        left.min(PIECE)
+    }
+
+    fn make_room(&mut self, bytes: usize) -> Result<(), AllocError> {
+        self.reserve(bytes / 8)
+    }
+
+    fn hear(&mut self, piece: &[u8]) -> Result<(), AllocError> {
+        push_offers(self, piece)
+    }
 }

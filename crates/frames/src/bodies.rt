@@ -1,7 +1,6 @@
 //! Bodies from a stream, as bytes.
 ghost use Rattle.std.specs.Prelude.{◌≡◌, ◌≢◌, ◌++◌, ◌+◌, ◌<◌, ◌^◌, length, IfOk, IfErr, OnOk, vec_len};
 ghost use Rattle.byte_streams.specs.Streams.{Gave};
-ghost use Rattle.frames.specs.Pieces.{BytesCame};
 ghost use Rattle.frames.specs.FrameText.{u32_text};
 ghost use Rattle.frames.specs.Lawful.{IsU32};
 ghost use Rattle.frames.specs.ReadFault.{IsCutShort, GrowsBy};
@@ -108,27 +107,4 @@ pub(crate) fn read_three<S: Source>(source: &mut S) -> Result<(u32, u32, u32), F
     let (second, rest) = split_u32(rest);
     let (third, _) = split_u32(rest);
     Ok((first, second, third))
-}
-
-// Takes so many bytes, and keeps none.
-pub(crate) fn pass_over<S: Source>(
-    source: &mut S,
-    len: usize,
-    buffer: &mut [u8],
-) -> Result<(), FrameFault>
-    requires room { length buffer.old ≡ PIECE }
-    requires can { S.can_read source.old }
-    ensures came { OnOk result (BytesCame len (S.state source.old) (S.state source.new)) }
-    ensures short { IfErr result
-        (λ fault. IsCutShort fault len (S.state source.old) (S.state source.new)) }
-    ensures takes_none { IfErr result (λ fault. fault ≢ Memory) }
-    ensures kept { KeepsSource S.Source result source.old source.new }
-{
-    let mut came = 0;
-    while came < len {
-        let count = (len - came).min(PIECE);
-        read_bytes(source, &mut buffer[..count])?;
-        came += count;
-    }
-    Ok(())
 }

@@ -39,6 +39,7 @@ mod head;
 mod items;
 mod lawful;
 pub mod laws;
+mod list_reader;
 mod next_frame;
 mod shard_reader;
 mod spelling;

@@ -17,12 +17,13 @@ ghost use Rattle.frames.specs.NextFrame.{next_value, SaysCoarser, AreCoarserUpTo
 ghost use Rattle.frames.specs.Sources.{KeepsSource};
 ghost use Rattle.frames.specs.declared.fault.FrameFault.TheVariants.{BadField};
 
-use crate::bodies::{PIECE, pass_over, read_bytes, read_three};
+use crate::bodies::{PIECE, read_bytes, read_three};
 use crate::fault::FrameFault;
 use crate::frame::Frame;
 use crate::frame_reader::{read_head, read_rest};
 use crate::head::Head;
 use crate::items::spells;
+use crate::list_reader::pass_over;
 use byte_streams::Source;
 use limits::MAX_SHARDS;
 use links::Labels;
@@ -115,11 +116,11 @@ fn read_ask<A: Allocator + Copy, S: Source>(
     ensures kept { KeepsSource S.Source result source.old source.new }
 {
     let (round, shard, count) = read_three(source)?;
-    let mut buffer = [0; PIECE];
     if shard as usize >= MAX_SHARDS || count as usize != last.len() {
-        pass_over(source, 4 * last.len(), &mut buffer)?;
+        pass_over(source, 4 * last.len())?;
         return Err(FrameFault::BadField);
     }
+    let mut buffer = [0; PIECE];
     let heard = read_numbers(alloc, source, last, &mut buffer)?;
     ask_of(round, shard, last, heard)
 }

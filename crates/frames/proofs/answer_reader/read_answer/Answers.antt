@@ -1,4 +1,4 @@
-use Rattle.std.proofs.Common.{None, refl, sym, subst}
+use Rattle.std.proofs.Common.{◌≡◌, None, refl, sym, subst, rules}
 use Rattle.std.proofs.lemmas.Result.{err_from_is_err_and}
 use Rattle.byte_streams.specs.Streams.{only_left}
 use Rattle.links.specs.Offers.{AreOffers}
@@ -25,24 +25,28 @@ returns-then-count-most-clause-refused g c =
     let (wide_r, wide_s, wide_c) = c.in_ok-round.ensures.fit in
     answer_unlawful c.in_ok-round.round c.in_ok-round.shard c.in_ok-round.count c.args.most _ _ _ c.in_ok-round.ensures.came wide_r wide_s wide_c c.in_ok-pass_over.ensures.came (λ counted. c.if-count-most.true counted)
 
-pub returns-in_err-pairs-clause-refused : goal.returns-in_err-pairs-clause-refused
-returns-in_err-pairs-clause-refused g c =
-    let p = err_from_is_err_and c.from_residual-in_err-pairs.result c.from_residual-in_err-pairs.ensures.1 in
-    rw (p.1, p.2) (answer_stopped c.in_ok-round.round c.in_ok-round.shard c.in_ok-round.count c.args.most _ _ _ c.in_ok-round.ensures.came c.if-count-most.false _ c.in_err-pairs.ensures.stopped)
+pub returns-in_err-read_list-clause-refused : goal.returns-in_err-read_list-clause-refused
+returns-in_err-read_list-clause-refused g c =
+    let p = err_from_is_err_and c.from_residual-in_err-read_list.result c.from_residual-in_err-read_list.ensures.1 in
+    rw (p.1, p.2) (answer_stopped c.in_ok-round.round c.in_ok-round.shard c.in_ok-round.count c.args.most _ _ _ c.in_ok-round.ensures.came c.if-count-most.false _ c.in_err-read_list.ensures.stopped)
 
-pub returns-in_err-pairs-clause-late : goal.returns-in_err-pairs-clause-late
-returns-in_err-pairs-clause-late g c =
-    let p = err_from_is_err_and c.from_residual-in_err-pairs.result c.from_residual-in_err-pairs.ensures.1 in
+pub returns-in_err-read_list-clause-late : goal.returns-in_err-read_list-clause-late
+returns-in_err-read_list-clause-late g c =
+    let p = err_from_is_err_and c.from_residual-in_err-read_list.result c.from_residual-in_err-read_list.ensures.1 in
     rw (p.1, p.2) (answer_late c.in_ok-round.round c.in_ok-round.shard c.in_ok-round.count c.args.most _ _ (only_left None) c.in_ok-round.ensures.came c.if-count-most.false _)
 
 pub returns-in-Some-clause-came : goal.returns-in-Some-clause-came
 returns-in-Some-clause-came g c =
     let (wide_r, wide_s, wide_c) = c.in_ok-round.ensures.fit in
-    answer_came c.in_ok-round.round c.in_ok-round.shard c.in_ok-round.count c.args.most _ _ _ c.in_ok-round.ensures.came c.if-count-most.false wide_r wide_s c.in_ok-pairs.pairs.items c.in_ok-pairs.ensures.came
-    c.requires.few _ c.in-Some.ensures.same_pairs (subst AreOffers (sym c.in-Some.ensures.same_pairs) (c.in-Some.ensures.exactly_ascending.0 refl))
+    let list = c.in_ok-read_list.ensures.came in
+    let same = c.in-Some.ensures.same_pairs in
+    answer_came c.in_ok-round.round c.in_ok-round.shard c.in_ok-round.count c.args.most _ _ _ c.in_ok-round.ensures.came c.if-count-most.false wide_r wide_s c.read_list.new.list.items list.bytes list.counted list.gave list.heard
+    c.requires.few _ (search rules) (subst AreOffers (sym same) (c.in-Some.ensures.exactly_ascending.0 refl))
 
 pub returns-in-None-clause-refused : goal.returns-in-None-clause-refused
 returns-in-None-clause-refused g c =
     let (wide_r, wide_s, wide_c) = c.in_ok-round.ensures.fit in
-    no_answer_came c.in_ok-round.round c.in_ok-round.shard c.in_ok-round.count c.args.most _ _ _ c.in_ok-round.ensures.came c.if-count-most.false wide_r wide_s c.in_ok-pairs.pairs.items c.in_ok-pairs.ensures.came
-    wide_c (λ are. let no = c.in-None.ensures.exactly_ascending.1 are in cc)
+    let list = c.in_ok-read_list.ensures.came in
+    let kept : c.shrink_to_fit.new.self.items ≡ c.read_list.new.list.items = search rules in
+    no_answer_came c.in_ok-round.round c.in_ok-round.shard c.in_ok-round.count c.args.most _ _ _ c.in_ok-round.ensures.came c.if-count-most.false wide_r wide_s c.read_list.new.list.items list.bytes list.counted list.gave list.heard
+    wide_c (λ are. let no = c.in-None.ensures.exactly_ascending.1 (subst AreOffers (sym kept) are) in cc)

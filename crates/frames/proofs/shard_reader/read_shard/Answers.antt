@@ -1,8 +1,10 @@
-use Rattle.std.proofs.Common.{None, arith}
+use Rattle.std.proofs.Common.{None, ◌∙◌, subst, arith}
 use Rattle.std.proofs.lemmas.Result.{IfOk-weaker, IfErr-weaker, err_from_is_err_and}
 use Rattle.byte_streams.specs.Streams.{only_left}
 use Rattle.frames.specs.FrameValue.{value_of}
-use Rattle.frames.proofs.Pieces.{passed_so_many, unpassed_so_many}
+use Rattle.frames.specs.Spellings.{HeardLinks}
+use Rattle.frames.specs.declared.spelling.Spelling.{Spelling}
+use Rattle.frames.proofs.Pieces.{passed_so_many, unpassed_so_many, stopped_so_many}
 use Rattle.frames.proofs.ShardPieces.{shard_unlawful, shard_unpassed, shard_stopped, shard_late, shard_came, no_shard_came, no_links_came}
 use Rattle.frames.proofs.shard_reader.read_shard.Goals.{then-number-ge-MAX_SHARDS-via-then-number-ge-MAX_SHARDS, then-number-ge-MAX_SHARDS-via-else-number-ge-MAX_SHARDS+then-count-most}
 use Rattle.frames.proofs.shard_reader.read_shard.Goals as goal
@@ -28,33 +30,39 @@ returns-then-number-ge-MAX_SHARDS-clause-refused g c =
     (passed_so_many _ _ _ _ c.bytes_of.ensures c.in_ok-pass_over.ensures.came)
     (λ low counted. elim c.then-number-ge-MAX_SHARDS.branch [ then-number-ge-MAX_SHARDS-via-then-number-ge-MAX_SHARDS w ↦ omega arith | then-number-ge-MAX_SHARDS-via-else-number-ge-MAX_SHARDS+then-count-most w ↦ w.if-count-most.true counted ])
 
-pub returns-in_err-links-clause-refused : goal.returns-in_err-links-clause-refused
-returns-in_err-links-clause-refused g c =
-    let p = err_from_is_err_and c.from_residual-in_err-links.result c.from_residual-in_err-links.ensures.1 in
-    rw (p.1, p.2) (shard_stopped c.args.spelling c.in_ok-number.number c.in_ok-number.count c.args.most _ _ _ c.in_ok-number.ensures.came c.if-number-ge-MAX_SHARDS.false c.if-count-most.false _ c.in_err-links.ensures.stopped)
+pub returns-in_err-read_list-clause-refused : goal.returns-in_err-read_list-clause-refused
+returns-in_err-read_list-clause-refused g c =
+    let p = err_from_is_err_and c.from_residual-in_err-read_list.result c.from_residual-in_err-read_list.ensures.1 in
+    rw (p.1, p.2) (shard_stopped c.args.spelling c.in_ok-number.number c.in_ok-number.count c.args.most _ _ _ c.in_ok-number.ensures.came c.if-number-ge-MAX_SHARDS.false c.if-count-most.false _ (stopped_so_many _ _ _ _ _ c.bytes_of-2.ensures c.in_err-read_list.ensures.stopped))
 
-pub returns-in_err-links-clause-late : goal.returns-in_err-links-clause-late
-returns-in_err-links-clause-late g c =
-    let p = err_from_is_err_and c.from_residual-in_err-links.result c.from_residual-in_err-links.ensures.1 in
+pub returns-in_err-read_list-clause-late : goal.returns-in_err-read_list-clause-late
+returns-in_err-read_list-clause-late g c =
+    let p = err_from_is_err_and c.from_residual-in_err-read_list.result c.from_residual-in_err-read_list.ensures.1 in
     rw (p.1, p.2) (shard_late c.args.spelling c.in_ok-number.number c.in_ok-number.count c.args.most _ _ (only_left None) c.in_ok-number.ensures.came c.if-number-ge-MAX_SHARDS.false c.if-count-most.false _)
 
 pub returns-in-Some-clause-came : goal.returns-in-Some-clause-came
 returns-in-Some-clause-came g c =
+    let list = c.in_ok-read_list.ensures.came in
+    let heard = subst (λ (s : Spelling). HeardLinks s list.bytes c.read_list.new.list.links) list.heard.0 list.heard.1 in
     IfOk-weaker _ _ _
     (λ f is.
     shard_came c.args.spelling c.in_ok-number.number c.in_ok-number.count c.args.most _ _ _ c.in_ok-number.ensures.came c.if-number-ge-MAX_SHARDS.false c.if-count-most.false
-    _ c.in_ok-links.ensures.came c.requires.few c.in-Some.links (value_of f) c.in-Some.is is)
+    _ list.bytes (list.counted ∙ c.bytes_of-2.ensures) list.gave heard c.requires.few c.in-Some.links (value_of f) c.in-Some.is is)
     c.shard_of.ensures.frame
 
 pub returns-in-Some-clause-refused : goal.returns-in-Some-clause-refused
 returns-in-Some-clause-refused g c =
+    let list = c.in_ok-read_list.ensures.came in
+    let heard = subst (λ (s : Spelling). HeardLinks s list.bytes c.read_list.new.list.links) list.heard.0 list.heard.1 in
     IfErr-weaker _ _ _
     (λ fault is.
     no_shard_came c.args.spelling c.in_ok-number.number c.in_ok-number.count c.args.most _ _ _ c.in_ok-number.ensures.came c.if-number-ge-MAX_SHARDS.false c.if-count-most.false
-    _ c.in_ok-links.ensures.came c.in_ok-number.ensures.fit.0 c.in_ok-number.ensures.fit.1 c.in-Some.links fault c.in-Some.is is)
+    _ list.bytes (list.counted ∙ c.bytes_of-2.ensures) list.gave heard c.in_ok-number.ensures.fit.0 c.in_ok-number.ensures.fit.1 c.in-Some.links fault c.in-Some.is is)
     c.shard_of.ensures.refused
 
 pub returns-in-None-clause-refused : goal.returns-in-None-clause-refused
 returns-in-None-clause-refused g c =
+    let list = c.in_ok-read_list.ensures.came in
+    let heard = subst (λ (s : Spelling). HeardLinks s list.bytes c.read_list.new.list.links) list.heard.0 list.heard.1 in
     no_links_came c.args.spelling c.in_ok-number.number c.in_ok-number.count c.args.most _ _ _ c.in_ok-number.ensures.came c.if-number-ge-MAX_SHARDS.false c.if-count-most.false
-    _ c.in_ok-links.ensures.came c.in_ok-number.ensures.fit.0 c.in_ok-number.ensures.fit.1 c.in-None.is
+    _ list.bytes (list.counted ∙ c.bytes_of-2.ensures) list.gave heard c.in_ok-number.ensures.fit.0 c.in_ok-number.ensures.fit.1 c.in-None.is
