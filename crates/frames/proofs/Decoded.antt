@@ -117,11 +117,6 @@ module _ (s : Spelling) (n c : ℕ) (links : List ℕ) where
 
 -- ---- an ask
 
--- three fields, and the list behind them
-pub three_split : (body rest rest' list : List ℕ) (r s c : ℕ) → body ≡ u32_text r ++ rest → rest ≡ u32_text s ++ rest' → rest' ≡ u32_text c ++ list
-    → body ≡ u32_text r ++ (u32_text s ++ (u32_text c ++ list))
-three_split body rest rest' list r s c first second third = first ∙ ap (λ (t : List ℕ). u32_text r ++ t) (second ∙ ap (λ (t : List ℕ). u32_text s ++ t) third)
-
 module _ (r s c : ℕ) (labels : List ℕ) where
   ask_parts : (v : FrameValue) → IsU32 r → IsU32 s → IsU32 c → IsFrameOf v 3 (u32_text r ++ (u32_text s ++ (u32_text c ++ labels)))
       → (ls : List ℕ) × AreLabels ls × (length ls ≡ c) × (s < MAX_SHARDS) × (flat_map u32_text ls ≡ labels)
@@ -135,10 +130,6 @@ module _ (r s c : ℕ) (labels : List ℕ) where
   -- an ask's body, with these fields before its labels
   pub ask_begun : s < MAX_SHARDS → length labels ≡ 4 * c → IsListBegun 3 (u32_text r ++ (u32_text s ++ (u32_text c ++ labels)))
   ask_begun low long = inr (inr (inl (refl, record { round = r; shard = s; count = c; labels = labels; split = refl; in_range = low; counted = long })))
-
-  -- how many bytes the labels of a body of this length have
-  pub labels_long : (body : List ℕ) → body ≡ u32_text r ++ (u32_text s ++ (u32_text c ++ labels)) → c ≡ length labels / 4 → IsWithItems 12 4 MAX_VERTICES (length body) → length labels ≡ 4 * c
-  labels_long body is counted (count, few, len) = omega (arith, counted, len, ap length is, three_length r s c labels)
 
   pub ask_refused : IsU32 r → IsU32 s → IsU32 c → (s < MAX_SHARDS → length labels ≡ 4 * c → ⊥) → BodyRefused BadField 3 (u32_text r ++ (u32_text s ++ (u32_text c ++ labels)))
   ask_refused wide_r wide_s wide_c never = (

@@ -15,14 +15,14 @@ use Rattle.frames.specs.FrameText.{u32_text, text_of}
 use Rattle.frames.specs.Lawful.{IsU32, IsLawful}
 use Rattle.frames.specs.Refusals.{IsPossible}
 use Rattle.frames.specs.ReadFault.{IsReadRefused, IsCutShort}
-use Rattle.frames.specs.NextFrame.{next_value, IsAskUnder, BodyCame, IsBodyRefused, IsStopped}
+use Rattle.frames.specs.NextFrame.{next_value, IsAskUnder, BodyCame, IsBodyRefused, WantsLate, IsStopped}
 use Rattle.frames.specs.Pieces.{BytesCame}
 use Rattle.frames.specs.declared.next_frame.NextFrame.{NextFrame}
 use Rattle.frames.specs.declared.fault.FrameFault.{FrameFault}
 use Rattle.frames.specs.declared.fault.FrameFault.TheVariants.{BadField, Memory}
 use Rattle.frames.proofs.Streams.{frame_gave, cut_more, cut_refused, body_refused}
 use Rattle.frames.proofs.Texts.{u32_length, items_length}
-use Rattle.frames.proofs.Pieces.{list_came, list_refused, list_cut, list_stopped}
+use Rattle.frames.proofs.Pieces.{list_came, list_refused, list_cut, list_stopped, list_late}
 use Rattle.frames.proofs.Decoded.{ask_refused, ask_begun, ask_found, ask_unlabelled}
 
 -- ---- a head and what came behind it
@@ -121,13 +121,19 @@ module _ (r s c n : ℕ) (x y z : SourceState) (came : Gave 0 0 (u32_text r ++ (
         list_stopped 3 (12 + 4 * n) (4 * n) (u32_text r ++ (u32_text s ++ u32_text c)) long x y z came fault stopped
         (λ labels count. ask_begun r s c labels low (omega (arith, counted, count)))
 
+    pub ask_late : (fault : FrameFault) → WantsLate fault 3 (12 + 4 * n) x
+    unfolding u32_text
+    ask_late fault = list_late 3 (12 + 4 * n) (4 * n) (u32_text r ++ (u32_text s ++ u32_text c)) long x y z came fault (λ labels count. ask_begun r s c labels low (omega (arith, counted, count)))
+
     module _ (wide_r : IsU32 r) (ls : List ℕ) (count : length ls ≡ n) (behind : Gave 0 0 (flat_map u32_text ls) y z) where
-      pub ask_read : {A : Type 0} (last : List ℕ) (next : NextFrame A) → IsAskUnder last r s ls next → BodyCame (next_value last next) 3 (12 + 4 * n) x z
+      pub ask_came : AreLabels ls → BodyCame (AskFrame r s ls) 3 (12 + 4 * n) x z
       unfolding u32_text
-      ask_read last next is =
-          subst (λ (w : FrameValue). BodyCame w 3 (12 + 4 * n) x z) (sym is.value)
-          (list_came 3 (12 + 4 * n) (4 * n) (u32_text r ++ (u32_text s ++ u32_text c)) long x y z came (AskFrame r s ls) (flat_map u32_text ls) (omega (arith, bytes_of ls, count)) behind
-          (ask_found r s c (flat_map u32_text ls) ls wide_r low (omega (arith, counted, count)) refl is.labels))
+      ask_came are =
+          list_came 3 (12 + 4 * n) (4 * n) (u32_text r ++ (u32_text s ++ u32_text c)) long x y z came (AskFrame r s ls) (flat_map u32_text ls) (omega (arith, bytes_of ls, count)) behind
+          (ask_found r s c (flat_map u32_text ls) ls wide_r low (omega (arith, counted, count)) refl are)
+
+      pub ask_read : {A : Type 0} (last : List ℕ) (next : NextFrame A) → IsAskUnder last r s ls next → BodyCame (next_value last next) 3 (12 + 4 * n) x z
+      ask_read last next is = subst (λ (w : FrameValue). BodyCame w 3 (12 + 4 * n) x z) (sym is.value) (ask_came is.labels)
 
       pub no_ask_read : IsU32 s → IsU32 c → (fault : FrameFault) → All IsU32 ls → (fault ≡ BadField) × ¬ AreLabels ls → IsBodyRefused fault 3 (12 + 4 * n) x z
       unfolding u32_text

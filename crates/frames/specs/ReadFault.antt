@@ -39,11 +39,6 @@ pub record IsCutShort (fault : FrameFault) (len : ℕ) (before after : SourceSta
   pub short : length bytes < len
   pub cause : CutsShort fault
 
--- so many bytes came, and stand behind those of before
-abbrev pub GrowsBy : ℕ → List ℕ → List ℕ → SourceState → SourceState → Type 0
-GrowsBy count old new before after =
-    (piece : List ℕ) × (length piece ≡ count) × (new ≡ old ++ piece) × Gave 0 0 piece before after
-
 -- Where all is known that a source has left, a refusal is one of all of it, unless a read failed or memory was wanting.
 abbrev pub RefusalIsOfTheStream : Type 0
 RefusalIsOfTheStream = (fault : FrameFault) (before after : SourceState) → IsOfStream fault → IsReadRefused fault before after

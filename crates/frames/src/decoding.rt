@@ -1,24 +1,22 @@
 //! Frames from bytes.
 ghost use Rattle.std.specs.Prelude.{◌≡◌, length, IfOk, IfErr};
 ghost use Rattle.frames.specs.FrameValue.{value_of};
-ghost use Rattle.frames.specs.Refusals.{IsPossible, IsWithItems, IsFrameOf, BodyRefused};
+ghost use Rattle.frames.specs.Refusals.{IsPossible, IsFrameOf, BodyRefused};
 
 use crate::fault::FrameFault;
 use crate::fields::{split_u16, split_u32};
 use crate::frame::{Frame, VERSION};
 use crate::frame_reader::read_listed;
 use crate::head::Head;
-use crate::items::numbers_of;
-use limits::{MAX_SHARDS, MAX_VERTICES, MAX_WORKERS};
-use links::Labels;
+use limits::MAX_WORKERS;
 use std::alloc::Allocator;
 
 /// The frame of a head and its body.
 ///
 /// `BadVersion` where it is a hello of another version than 1 and 2, else `BadField` where no lawful frame
 /// has this body. So is a shard of kind 6 whose weights all fit 32 bits, since such a shard has kind 2. One list
-/// is made beside the body's bytes, and looked at once more; a hello and a fault take no memory. Links and offers are read
-/// as [`read_frame`](crate::read_frame) reads them, with its room. `Memory` where that list's growth was refused, which is
+/// is made beside the body's bytes, as [`read_frame`](crate::read_frame) makes it, with its room; a hello and a fault take
+/// no memory. `Memory` where that list's growth was refused, which is
 /// asked for only once the fields before the list were found lawful.
 pub fn decode_body<A: Allocator>(alloc: A, head: Head, body: &[u8]) -> Result<Frame<A>, FrameFault>
     requires length { length body.now ≡ head.length }
@@ -28,7 +26,6 @@ pub fn decode_body<A: Allocator>(alloc: A, head: Head, body: &[u8]) -> Result<Fr
 {
     match head.kind {
         1 => decode_hello(body),
-        3 => decode_ask(alloc, body),
         5 => decode_fault(body),
         _ => {
             let mut source = body;
@@ -51,28 +48,6 @@ fn decode_hello<A: Allocator>(body: &[u8]) -> Result<Frame<A>, FrameFault>
         return Err(FrameFault::BadField);
     }
     Ok(Frame::Hello { version, worker })
-}
-
-fn decode_ask<A: Allocator>(alloc: A, body: &[u8]) -> Result<Frame<A>, FrameFault>
-    requires { IsWithItems 12 4 MAX_VERTICES (length body.now) }
-    ensures frame { IfOk result (λ f. IsFrameOf (value_of f) 3 body.now) }
-    ensures refused { IfErr result (λ fault. BodyRefused fault 3 body.now) }
-{
-    let (round, rest) = split_u32(body);
-    let (shard, rest) = split_u32(rest);
-    let (count, rest) = split_u32(rest);
-    if shard as usize >= MAX_SHARDS || count as usize != rest.len() / 4 {
-        return Err(FrameFault::BadField);
-    }
-    let numbers = numbers_of(alloc, rest)?;
-    match Labels::of_list(numbers) {
-        Some(labels) => Ok(Frame::Ask {
-            round,
-            shard,
-            labels,
-        }),
-        None => Err(FrameFault::BadField),
-    }
 }
 
 fn decode_fault<A: Allocator>(body: &[u8]) -> Result<Frame<A>, FrameFault>

@@ -10,7 +10,8 @@ ghost use Rattle.frames.specs.NextFrame.{BodyCame, IsBodyRefused, WantsLate};
 ghost use Rattle.frames.specs.Sources.{KeepsSource};
 
 use crate::answer_reader::read_answer;
-use crate::bodies::read_body;
+use crate::ask_reader::read_whole_ask;
+use crate::bodies::read_bytes;
 use crate::decoding::decode_body;
 use crate::fault::FrameFault;
 use crate::frame::Frame;
@@ -26,18 +27,16 @@ use std::alloc::Allocator;
 /// frame, `Device` where a read failed; else the fault of the head or of the body. After a fault no
 /// more of the stream was taken than the frame.
 ///
-/// Of a shard the list of its links alone is kept, and of an answer that of its offers. They are made of the bytes as these
-/// come, at most 65,536 at a time through one buffer on the stack, and no body is stored. Room for the items of a piece is
-/// taken before it comes: a head that announces more than the stream has costs at most 87,376 bytes at first for a shard,
-/// and 65,536 for an answer, however little comes; once a whole piece came, at most three times what came, and four times
-/// that while the list moves to a larger block, for an answer twice and three times. Where the fields before the list are
-/// refused, or a link, the rest of the frame is taken all the same, without memory; that the components of an answer
-/// ascend is judged in one look once all of them came.
+/// Of a shard the list of its links alone is kept, of an ask that of its labels, and of an answer that of its offers. They
+/// are made of the bytes as these come, at most 65,536 at a time through one buffer on the stack, and no body is stored.
+/// Room for the items of a piece is taken before it comes: a head that announces more than the stream has costs at most
+/// 87,376 bytes at first for a shard, and 65,536 for an ask or an answer, however little comes; once a whole piece came, at
+/// most three times what came, and four times that while the list moves to a larger block, for an ask or an answer twice and
+/// three times. Where the fields before the list are refused, or a link, the rest of the frame is taken all the same,
+/// without memory; that numbers are labels, or that the components of an answer ascend, is judged in one look once all of
+/// them came. A hello and a fault take no memory.
 ///
-/// Of another frame the body grows by pieces of at most 65,536 bytes, and its list is made of it: at most 65,536 bytes at
-/// first; once a whole piece came, at most twice what came, and three times that while it moves.
-///
-/// `Memory` where a growth was refused, or the list made of a body.
+/// `Memory` where a growth was refused.
 pub fn read_frame<A: Allocator + Copy, S: Source>(
     alloc: A,
     source: &mut S,
@@ -73,14 +72,16 @@ pub(crate) fn read_rest<A: Allocator + Copy, S: Source>(
         (λ fault. IsBodyRefused fault head.kind head.length (S.state source.old) (S.state source.new)) }
     ensures kept { KeepsSource S.Source result source.old source.new }
 {
-    if matches!(head.kind, 2 | 4 | 6) {
+    if !matches!(head.kind, 1 | 5) {
         return read_listed(alloc, source, head);
     }
-    let body = read_body(alloc, source, head.length)?;
-    decode_body(alloc, head, body.as_slice())
+    let mut fields = [0; 9];
+    let body = &mut fields[..head.length as usize];
+    read_bytes(source, body)?;
+    decode_body(alloc, head, body)
 }
 
-// The shard or the answer whose head came.
+// The shard, the ask or the answer whose head came.
 pub(crate) fn read_listed<A: Allocator, S: Source>(
     alloc: A,
     source: &mut S,
@@ -88,7 +89,7 @@ pub(crate) fn read_listed<A: Allocator, S: Source>(
 ) -> Result<Frame<A>, FrameFault>
     requires can { S.can_read source.old }
     requires possible { IsPossible head.kind head.length }
-    requires listed { (head.kind ≢ 1) × (head.kind ≢ 3) × (head.kind ≢ 5) }
+    requires listed { (head.kind ≢ 1) × (head.kind ≢ 5) }
     ensures came { IfOk result
         (λ f. BodyCame (value_of f) head.kind head.length (S.state source.old) (S.state source.new)) }
     ensures refused { IfErr result
@@ -96,6 +97,9 @@ pub(crate) fn read_listed<A: Allocator, S: Source>(
     ensures late { IfErr result (λ fault. WantsLate fault head.kind head.length (S.state source.old)) }
     ensures kept { KeepsSource S.Source result source.old source.new }
 {
+    if head.kind == 3 {
+        return read_whole_ask(alloc, source, (head.length as usize - 12) / 4);
+    }
     match Spelling::of_kind(head.kind) {
         Some(spelling) => {
             let most = spelling.links_in(head.length as usize - 8);

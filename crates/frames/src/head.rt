@@ -51,6 +51,7 @@ fn is_possible(kind: u8, length: u32) -> bool
 }
 
 // Whether the length is that of `fixed` bytes and at most `most` items of `item` bytes each.
+#[tactic(auto, using(crate::proofs::Lengths::items_iff))]
 fn is_with_items(fixed: u32, item: u32, most: u32, length: u32) -> bool
     requires { 0 < item }
     ensures { IsTrue result ↔ IsWithItems fixed item most length }

@@ -145,26 +145,6 @@ fn offer_bytes(offer: (u32, u32)) -> [u8; 8]
     [c0, c1, c2, c3, p0, p1, p2, p3]
 }
 
-// The numbers whose bytes these are.
-pub(crate) fn numbers_of<A: Allocator>(alloc: A, bytes: &[u8]) -> Result<Vec<u32, A>, AllocError>
-    requires { length bytes.now % 4 ≡ 0 }
-    ensures spelled { IfOk result (λ numbers. flat_map u32_text numbers.items ≡ bytes.now) }
-    ensures fit { IfOk result (λ numbers. All IsU32 numbers.items) }
-{
-    let (cells, _) = bytes.as_chunks::<4>();
-    let numbers = numbers_in(alloc, cells)?;
-    Ok(numbers)
-}
-
-fn numbers_in<A: Allocator>(alloc: A, cells: &[[u8; 4]]) -> Result<Vec<u32, A>, AllocError>
-    ensures { IfOk result (λ numbers. numbers.items ≡ map (from_be_bytes w32) cells.now) }
-{
-    cells
-        .iter()
-        .map(|cell| u32::from_be_bytes(*cell))
-        .collect(alloc)
-}
-
 // Whether these are the bytes of the numbers. It looks at all of them, so that they are compared many at a time.
 pub(crate) fn spells(bytes: &[u8], numbers: &[u32]) -> bool
     ensures { IsTrue result ↔ (flat_map u32_text numbers.now ≡ bytes.now) }

@@ -12,12 +12,14 @@ pub fn this_version_is_two()
 {}
 
 /// Each lawful frame has one text, and no frame's text begins another's.
+#[tactic(auto, using(crate::proofs::OneText::one_text))]
 pub fn each_has_one_text()
     ensures { EachHasOneText }
 {}
 
 /// What begins with a lawful frame's text is refused by none of the refusals of a stream, so that
 /// [`crate::read_frame`] answers that frame, unless a read fails or memory is wanting.
+#[tactic(auto, using(crate::proofs::NeverRefused::never_refused))]
 pub fn lawful_text_is_never_refused()
     ensures { IsNeverRefused }
 {}

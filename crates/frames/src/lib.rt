@@ -28,6 +28,7 @@
 #![tactic(auto)]
 
 mod answer_reader;
+mod ask_reader;
 mod bodies;
 mod decoding;
 mod encoding;

@@ -40,7 +40,8 @@ pub(crate) trait Hears {
 
     // Hears the next bytes.
     fn hear(&mut self, piece: &[u8]) -> Result<(), AllocError>
-        requires { awaits self.old (length piece.now) }
+        requires awaits { awaits self.old (length piece.now) }
+        requires fits { length piece.now ≤ 65536 }
         ensures heard { OnOk result
             ((first : Self) (bytes : List ℕ) → heard first self.old bytes → heard first self.new (bytes ++ piece.now)) }
         ensures awaits { OnOk result ((left : ℕ) → awaits self.old (length piece.now + left) → awaits self.new left) }

@@ -294,7 +294,10 @@ fn hear_piece<A: Allocator>(
 }
 
 // Puts the numbers of these bytes at the end.
-fn push_numbers<A: Allocator>(numbers: &mut Vec<u32, A>, piece: &[u8]) -> Result<(), AllocError>
+pub(crate) fn push_numbers<A: Allocator>(
+    numbers: &mut Vec<u32, A>,
+    piece: &[u8],
+) -> Result<(), AllocError>
     requires whole { length piece.now % 4 ≡ 0 }
     requires fits { length piece.now ≤ PIECE }
     ensures { OnOk result ((more : List ℕ) × (numbers.new.items ≡ numbers.old.items ++ more)

@@ -1,5 +1,4 @@
-// Frames that are read from bytes: the body's block, and the list that is made of it; of a shard and of an answer the
-// list's alone. Frames that are written: the text's one block.
+// Frames that are read from bytes: their list's blocks. Frames that are written: the text's one block.
 use super::same::expect_same;
 use super::sizes::frame_bytes;
 use frames::{FrameFault, decode_body, decode_head, encode, encode_ask, read_frame};
@@ -91,30 +90,15 @@ fn a_frame_keeps_its_list_alone(rt: HostRuntime) {
     expect_blocks(&rt, rt.alloc(), &FAULT, 0);
 }
 
-// Each allocation of a frame refused in turn: the fault is want of memory, and nothing lives.
+// Each allocation of an ask of two pieces refused in turn: the fault is want of memory, and nothing lives.
 #[test]
 fn what_came_before_a_refusal_is_dropped(rt: HostRuntime) {
+    let labels = Labels::apart(rt.alloc(), 20_000).expect(&rt, "memory");
+    let ask = encode_ask(rt.alloc(), 1, 0, &labels).expect(&rt, "memory");
     for number in 1..3u64 {
         let memory = Refusing::new(rt.alloc(), Refusals::since(number));
         let expected = (Some(FrameFault::Memory), number - 1, 0);
-        expect_same(&rt, refused(&memory, &ASK), expected);
-    }
-}
-
-// A head promises 2^28 bytes and more, and few come. The body is given room for one piece of 65,536 bytes before any
-// has come, and then a new block, twice as large, only once that one is full.
-#[test]
-fn a_body_is_given_room_as_it_comes(rt: HostRuntime) {
-    for (pieces, blocks) in [(0, 1), (1, 2), (2, 3), (3, 3), (4, 4), (7, 4), (8, 5)] {
-        let mut bytes = Vec::from_slice(rt.alloc(), &[3, 16, 0, 0, 12]).expect(&rt, "memory");
-        bytes.resize(6 + 65_536 * pieces, 0).expect(&rt, "memory");
-        let memory = Refusing::new(rt.alloc(), Refusals::none());
-        let found = refused(&memory, bytes.as_slice());
-        expect_same(
-            &rt,
-            (pieces, found),
-            (pieces, (Some(FrameFault::Torn), blocks, 0)),
-        );
+        expect_same(&rt, refused(&memory, ask.as_slice()), expected);
     }
 }
 
@@ -147,6 +131,19 @@ fn links_are_given_room_as_they_come(rt: HostRuntime) {
     for (pieces, blocks) in [(0, 1), (1, 2), (2, 3), (3, 3), (4, 4), (7, 4), (8, 5)] {
         expect_given(&rt, rt.alloc(), &head, &link, pieces * 5_461, blocks);
         expect_given(&rt, rt.alloc(), &head, &[0; 12], pieces * 5_461, 1);
+    }
+}
+
+// The labels of an ask likewise, 16,384 a piece, whether they are labels or not; and none where the count isn't theirs.
+#[test]
+fn labels_are_given_room_as_they_come(rt: HostRuntime) {
+    let head = [3, 16, 0, 0, 12, 0, 0, 0, 1, 0, 0, 0, 0, 4, 0, 0, 0];
+    let mut other = head;
+    other[16] = 1;
+    let label = [0, 0, 0, 1];
+    for (pieces, blocks) in [(0, 1), (1, 2), (2, 3), (3, 3), (4, 4), (7, 4), (8, 5)] {
+        expect_given(&rt, rt.alloc(), &head, &label, pieces * 16_384, blocks);
+        expect_given(&rt, rt.alloc(), &other, &label, pieces * 16_384, 0);
     }
 }
 
@@ -221,16 +218,16 @@ fn expect_one_block(rt: &impl Abort, alloc: Global, bytes: &[u8], listed: u32) {
     expect_same(rt, memory.given(), 1 + u64::from(listed));
 }
 
-// Labels have one block of their size. A list that comes by pieces has room for more at first, and then a block of its size.
+// A list that comes by pieces has room for more at first, and then a block of its size.
 #[test]
 fn a_text_is_given_one_block(rt: HostRuntime) {
     let labels = Labels::apart(rt.alloc(), 20_000).expect(&rt, "memory");
     let long = encode_ask(rt.alloc(), 1, 0, &labels).expect(&rt, "memory");
     for (bytes, listed) in [
         (SHARD.as_slice(), 2),
-        (&ASK, 1),
+        (&ASK, 2),
         (&ANSWER, 2),
-        (long.as_slice(), 1),
+        (long.as_slice(), 3),
     ] {
         expect_one_block(&rt, rt.alloc(), bytes, listed);
     }

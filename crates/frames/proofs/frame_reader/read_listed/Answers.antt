@@ -4,9 +4,6 @@ use Rattle.frames.specs.FrameValue.{value_of}
 use Rattle.frames.proofs.ShardPieces.{says_links, came_by_head, refused_by_head, late_by_head}
 use Rattle.frames.proofs.frame_reader.read_listed.Goals as goal
 
-pub overflow_sub-head : goal.overflow_sub-head
-overflow_sub-head g c = (says_links c.in-Some.spelling c.args.head.kind c.args.head.length _ c.in-Some.ensures.shard c.requires.possible refl).fields
-
 pub read_shard-requires-clause-few : goal.read_shard-requires-clause-few
 read_shard-requires-clause-few g c = (says_links c.in-Some.spelling c.args.head.kind c.args.head.length _ c.in-Some.ensures.shard c.requires.possible c.links_in-most.ensures).few
 
