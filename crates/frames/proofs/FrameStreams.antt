@@ -7,7 +7,6 @@ use Rattle.frames.specs.FrameValue.{FrameValue}
 use Rattle.frames.specs.FrameText.{text_of}
 use Rattle.frames.specs.Refusals.{StreamRefused}
 use Rattle.frames.specs.declared.fault.FrameFault.{FrameFault}
-use Rattle.frames.specs.declared.fault.FrameFault.TheVariants.{BadKind, BadLength, BadField, BadVersion, Ended, Torn, Device, Memory}
 use Rattle.frames.proofs.OneText.{one_text}
 use Rattle.frames.proofs.NeverRefused.{never_refused}
 use Rattle.frames.specs.FrameStream.{texts_of, AreLawful, BeginsNone, AreFramesOf, IsOfStream}
@@ -121,11 +120,4 @@ prefix_has_prefix_frames prefix rest all are = prefix_frames_exist prefix rest a
 
 -- what a reader refuses, where neither a read failed nor memory was wanting, begins with no lawful frame
 pub refused_begins_none : (fault : FrameFault) (bytes : List ℕ) → IsOfStream fault → StreamRefused fault bytes → BeginsNone bytes
-refused_begins_none Ended bytes of_stream refused v m is at = (never_refused v m is).ended (subst (StreamRefused Ended) at refused)
-refused_begins_none Torn bytes of_stream refused v m is at = (never_refused v m is).torn (subst (StreamRefused Torn) at refused)
-refused_begins_none BadKind bytes of_stream refused v m is at = (never_refused v m is).kind (subst (StreamRefused BadKind) at refused)
-refused_begins_none BadLength bytes of_stream refused v m is at = (never_refused v m is).length (subst (StreamRefused BadLength) at refused)
-refused_begins_none BadField bytes of_stream refused v m is at = (never_refused v m is).field (subst (StreamRefused BadField) at refused)
-refused_begins_none BadVersion bytes of_stream refused v m is at = (never_refused v m is).version (subst (StreamRefused BadVersion) at refused)
-refused_begins_none Device bytes of_stream refused v m is at = of_stream
-refused_begins_none Memory bytes of_stream refused v m is at = of_stream
+refused_begins_none fault bytes of_stream refused v m is at = never_refused v m fault is of_stream (subst (StreamRefused fault) at refused)

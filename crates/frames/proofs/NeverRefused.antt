@@ -10,7 +10,10 @@ use Rattle.frames.specs.FrameText.{u16_text, u32_text, are_narrow, links_text, o
 use Rattle.frames.specs.Lawful.{IsVersion, IsLawful}
 use Rattle.frames.specs.OneText.{IsNeverRefused}
 use Rattle.limits.specs.declared.TheConstants.{MAX_SHARD_LINKS, MAX_VERTICES}
-use Rattle.frames.specs.Refusals.{IsWithItems, IsPossible, IsOtherVersion, kind_at}
+use Rattle.frames.specs.Refusals.{IsWithItems, IsPossible, IsOtherVersion, HasBody, StreamRefused, kind_at, body_at}
+use Rattle.frames.specs.FrameStream.{IsOfStream}
+use Rattle.frames.specs.declared.fault.FrameFault.{FrameFault}
+use Rattle.frames.specs.declared.fault.FrameFault.TheVariants.{BadKind, BadLength, BadField, BadVersion, Ended, Torn}
 use Rattle.frames.proofs.Texts.{u16_length, u32_length, three_length, u16_again, offer_length, items_length, narrow_length, wide_length}
 use Rattle.frames.proofs.OneText.{body_short, shard_kind}
 use Rattle.frames.proofs.Streams.{whole_body}
@@ -49,16 +52,20 @@ lawful_version (HelloFrame v w) lawful other =
 lawful_version (ShardFrame n ls) lawful other = shard_kind 1 n ls (omega arith) (omega arith) other.0
 lawful_version v lawful other = omega (arith, other.0)
 
+module _ (v : FrameValue) (rest : List ℕ) (lawful : IsLawful v) where
+  whole : HasBody (text_of v ++ rest) × (kind_at (text_of v ++ rest) ≡ kind_of v) × (body_at (text_of v ++ rest) ≡ body_of v)
+  whole =
+      whole_body (kind_of v) (length (body_of v)) (text_of v ++ rest) (body_of v) rest (body_short v lawful) (possible_of v lawful) refl
+      (append_assoc (kind_of v ∷ u32_text (length (body_of v))) (body_of v) rest)
+
+  unrefused : (fault : FrameFault) → IsOfStream fault → StreamRefused fault (text_of v ++ rest) → ⊥
+  unrefused Ended of_stream none = cc
+  unrefused Torn of_stream torn = elim torn [ inl short ↦ omega (arith, short.1, whole.0.0.0) | inr short ↦ omega (arith, short.1, whole.0.1) ]
+  unrefused BadKind of_stream bad = bad.1 whole.0.0.1.known
+  unrefused BadLength of_stream bad = bad.1.1 whole.0.0.1
+  unrefused BadVersion of_stream bad = lawful_version v lawful (subst (λ (k : ℕ). IsOtherVersion k (body_of v)) whole.1 (subst (IsOtherVersion (kind_at (text_of v ++ rest))) whole.2 bad.1))
+  unrefused BadField of_stream bad = bad.1.1 v (record { lawful = lawful; kind = sym whole.1; body = sym whole.2 })
+  unrefused _ of_stream bad = of_stream
+
 pub never_refused : IsNeverRefused
-never_refused v rest lawful =
-    let possible = possible_of v lawful in
-    let regrouped : text_of v ++ rest ≡ (kind_of v ∷ u32_text (length (body_of v))) ++ (body_of v ++ rest) = append_assoc (kind_of v ∷ u32_text (length (body_of v))) (body_of v) rest in
-    let whole = whole_body (kind_of v) (length (body_of v)) (text_of v ++ rest) (body_of v) rest (body_short v lawful) possible refl regrouped in
-    record {
-      ended = λ none. cc;
-      torn = λ torn. elim torn [ inl short ↦ omega (arith, short.1, whole.0.0.0) | inr short ↦ omega (arith, short.1, whole.0.1) ];
-      kind = λ bad. bad.1 possible.known;
-      length = λ bad. bad.1.1 whole.0.0.1;
-      version = λ bad. lawful_version v lawful (subst (λ (k : ℕ). IsOtherVersion k (body_of v)) whole.1 (subst (IsOtherVersion (kind_at (text_of v ++ rest))) whole.2 bad.1));
-      field = λ bad. bad.1.1 v (record { lawful = lawful; kind = sym whole.1; body = sym whole.2 });
-    }
+never_refused v rest fault lawful = unrefused v rest lawful fault
