@@ -1,4 +1,4 @@
-//! Bodies from a stream, as bytes.
+//! Bytes of a body from a stream, and the numbers with which it begins.
 ghost use Rattle.std.specs.Prelude.{◌≢◌, ◌++◌, length, IfOk, IfErr, OnOk};
 ghost use Rattle.byte_streams.specs.Streams.{Gave};
 ghost use Rattle.frames.specs.FrameText.{u32_text};
@@ -11,7 +11,7 @@ use crate::fault::FrameFault;
 use crate::fields::split_u32;
 use byte_streams::{FillFault, Source, fill};
 
-// How many bytes come at a time: a body grows by at most so many, once those before them have come.
+// How many bytes of a list come at a time: it is given room for at most so many, once those before them have come.
 pub(crate) const PIECE: usize = 65_536;
 
 // The next bytes of a body, as many as there is room for.

@@ -23,8 +23,9 @@
 //!
 //! Where to start a change: the grammar stands in `specs/FrameText`, what is lawful in `specs/Lawful`, and
 //! the refusals with their order in `specs/Refusals`. `fields` and `items` have one function a field and list,
-//! `encoding` and `decoding` one for each kind; `frame_reader` reads a frame, `shard_reader` a shard by pieces
-//! (`specs/Spellings`), `answer_reader` an answer (`specs/Pieces`), `next_frame` an ask (`specs/NextFrame`).
+//! `encoding` and `decoding` one for each kind; `frame_reader` reads a frame, `list_reader` any list by pieces, for
+//! `shard_reader` (`specs/Spellings`), `answer_reader` (`specs/Pieces`) and `ask_reader`; `next_frame` reads an ask behind
+//! another one (`specs/NextFrame`).
 #![tactic(auto)]
 
 mod answer_reader;

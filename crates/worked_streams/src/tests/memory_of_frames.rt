@@ -63,7 +63,14 @@ fn a_refused_body_is_dropped(rt: HostRuntime) {
     expect_nothing_lives(&rt, rt.alloc(), &SHARD_WITH_A_LOOP, bad);
     expect_nothing_lives(&rt, rt.alloc(), &ASK_WITHOUT_LABELS, bad);
     expect_nothing_lives(&rt, rt.alloc(), &ANSWER_THAT_DESCENDS, bad);
-    expect_nothing_lives(&rt, rt.alloc(), &FAULT_WITH_CODE_4, bad);
+}
+
+// A fault's fields take no memory.
+#[test]
+fn a_refused_fault_takes_no_memory(rt: HostRuntime) {
+    let memory = Refusing::new(rt.alloc(), Refusals::none());
+    let expected = (Some(FrameFault::BadField), 0, 0);
+    expect_same(&rt, refused(&memory, &FAULT_WITH_CODE_4), expected);
 }
 
 #[test]
