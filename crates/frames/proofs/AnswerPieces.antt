@@ -2,10 +2,7 @@
 use Rattle.std.proofs.Common.{◌≡◌, ℕ, ◌+◌, ◌*◌, ◌≤◌, List, [], ◌∷◌, ◌++◌, length, All, refl, sym, ap, subst, ◌∙◌, append_assoc, arith}
 use Rattle.std.specs.List.{flat_map}
 use Rattle.std.proofs.lemmas.List.{length-append}
-use Rattle.std.proofs.lemmas.List.Elements.{All-append}
-use Rattle.std.proofs.lemmas.Grind.{flat_map-append}
 use Rattle.byte_streams.specs.Streams.{SourceState, Gave}
-use Rattle.byte_streams.proofs.Streaming.{gave_more}
 use Rattle.limits.specs.declared.TheConstants.{MAX_SHARD_LINKS}
 use Rattle.links.specs.Offers.{Offer, AreOffers}
 use Rattle.frames.specs.FrameValue.{AnswerFrame}
@@ -14,7 +11,7 @@ use Rattle.frames.specs.Lawful.{IsU32}
 use Rattle.frames.specs.Refusals.{IsListBegun}
 use Rattle.frames.specs.ReadFault.{IsCutShort}
 use Rattle.frames.specs.NextFrame.{BodyCame, IsBodyRefused, WantsLate, IsStopped}
-use Rattle.frames.specs.Pieces.{BytesCame, SpellOffers, PushesOffers}
+use Rattle.frames.specs.Pieces.{BytesCame, SpellOffers}
 use Rattle.frames.specs.declared.fault.FrameFault.{FrameFault}
 use Rattle.frames.specs.declared.fault.FrameFault.TheVariants.{BadField}
 use Rattle.frames.proofs.Texts.{FitsOffer, u32_length, offer_length, items_length}

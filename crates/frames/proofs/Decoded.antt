@@ -1,22 +1,22 @@
 -- What the fields of a body say of the frames that have it.
-use Rattle.std.proofs.Common.{◌≡◌, ℕ, ◌*◌, ◌/◌, ◌<◌, ◌≤◌, ◌≢◌, List, [], ◌∷◌, ◌++◌, length, take, get_or, All, refl, sym, ap, subst, ◌∙◌, append-nil, arith, inl, inr}
+use Rattle.std.proofs.Common.{◌≡◌, ℕ, ◌*◌, ◌<◌, ◌≤◌, ◌≢◌, List, [], ◌∷◌, ◌++◌, length, take, get_or, All, refl, sym, ap, subst, ◌∙◌, append-nil, arith, inl, inr}
 use Rattle.std.specs.Int.{w16, from_be_bytes}
 use Rattle.std.specs.List.{flat_map, AllByRecursion}
 use Rattle.std.proofs.lemmas.List.{length-append, nil_from_length}
 use Rattle.std.proofs.lemmas.List.Elements.{recursion_from_All}
-use Rattle.limits.specs.declared.TheConstants.{MAX_SHARDS, MAX_SHARD_LINKS, MAX_VERTICES, MAX_WORKERS}
+use Rattle.limits.specs.declared.TheConstants.{MAX_SHARDS, MAX_SHARD_LINKS, MAX_WORKERS}
 use Rattle.links.specs.declared.links.Link.{Link}
 use Rattle.links.specs.Labels.{AreLabels}
 use Rattle.links.specs.Offers.{Offer, AreOffers}
 use Rattle.frames.specs.FrameValue.{FrameValue, HelloFrame, ShardFrame, AskFrame, AnswerFrame, FaultFrame}
 use Rattle.frames.specs.FrameText.{u16_text, u32_text, links_text, offer_text}
 use Rattle.frames.specs.Lawful.{IsU32, IsVersion, IsShard}
-use Rattle.frames.specs.Refusals.{IsWithItems, IsOtherVersion, IsFrameOf, ShardBegun, IsListBegun, BodyRefused, AreNoLinks}
+use Rattle.frames.specs.Refusals.{IsOtherVersion, IsFrameOf, ShardBegun, IsListBegun, BodyRefused, AreNoLinks}
 use Rattle.frames.specs.Spellings.{spelled_in, size_in, kind_in, spelling_of, Spells}
 use Rattle.frames.specs.declared.spelling.Spelling.{Spelling}
 use Rattle.frames.specs.declared.spelling.Spelling.TheVariants.{Narrow, Wide}
 use Rattle.frames.specs.declared.fault.FrameFault.TheVariants.{BadField}
-use Rattle.frames.proofs.Texts.{u16_length, u32_length, three_length, u16_prefix, u32_prefix, offer_length, items_length, items_same, offer_prefix, FitsOffer}
+use Rattle.frames.proofs.Texts.{u16_length, u32_length, u16_prefix, u32_prefix, offer_length, items_length, items_same, offer_prefix, FitsOffer}
 use Rattle.frames.proofs.OneText.{two_prefix, labels_fit, shard_kind}
 use Rattle.frames.proofs.Spelled.{length_in, counted_in, fit_of, text_in, spelling_by_kind, kind_by_spelling, spelled_same}
 

@@ -2,7 +2,6 @@
 use Rattle.std.proofs.Common.{◌≡◌, ◌≢◌, ℕ, ◌+◌, ◌-◌, ◌*◌, ◌/◌, ◌%◌, ◌<◌, ◌≤◌, List, ◌++◌, length, Option, Some, None, Vec, sym, ap, subst, ◌∙◌, arith}
 use Rattle.std.proofs.lemmas.List.{length-append}
 use Rattle.byte_streams.specs.Streams.{SourceState, Gave}
-use Rattle.byte_streams.proofs.Streaming.{gave_more}
 use Rattle.limits.specs.declared.TheConstants.{MAX_SHARDS, MAX_SHARD_LINKS}
 use Rattle.links.specs.declared.links.Link.{Link}
 use Rattle.frames.specs.FrameValue.{FrameValue, ShardFrame}

@@ -1,5 +1,5 @@
 -- What a read of a frame that failed says of the stream.
-use Rattle.std.specs.Prelude.{◌≡◌, ℕ, ◌+◌, ◌<◌, ◌≤◌, ◌⊎◌, List, ◌++◌, length, IfSome}
+use Rattle.std.specs.Prelude.{◌≡◌, ℕ, ◌+◌, ◌<◌, ◌≤◌, ◌⊎◌, List, length, IfSome}
 use Rattle.byte_streams.specs.Streams.{SourceState, Gave}
 use Rattle.frames.specs.Refusals.{HasGoodHead, StreamRefused, length_at}
 use Rattle.frames.specs.FrameStream.{IsOfStream}

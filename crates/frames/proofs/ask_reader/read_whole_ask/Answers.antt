@@ -1,4 +1,4 @@
-use Rattle.std.proofs.Common.{◌≡◌, ◌*◌, ℕ, List, None, length, ap, sym, refl, subst, arith, rules}
+use Rattle.std.proofs.Common.{◌≡◌, ℕ, List, None, length, ap, sym, refl, subst, arith, rules}
 use Rattle.std.specs.List.{flat_map}
 use Rattle.std.proofs.lemmas.Result.{err_from_is_err_and}
 use Rattle.byte_streams.specs.Streams.{only_left, Gave}

@@ -1,4 +1,3 @@
-use Rattle.std.proofs.Common.{refl}
 use Rattle.std.proofs.lemmas.Result.{IfOk-weaker, IfErr-weaker}
 use Rattle.frames.specs.FrameValue.{value_of}
 use Rattle.frames.proofs.ShardPieces.{says_links, came_by_head, refused_by_head, late_by_head}
