@@ -31,6 +31,7 @@ pub(crate) fn read_bytes<S: Source>(source: &mut S, bytes: &mut [u8]) -> Result<
 }
 
 // Two numbers of four bytes, with which a body begins.
+#[tactic(auto, using(crate::proofs::Pieces::two_came))]
 pub(crate) fn read_two<S: Source>(source: &mut S) -> Result<(u32, u32), FrameFault>
     requires { S.can_read source.old }
     ensures came { IfOk result
@@ -49,6 +50,7 @@ pub(crate) fn read_two<S: Source>(source: &mut S) -> Result<(u32, u32), FrameFau
 }
 
 // Three numbers of four bytes, with which a body begins.
+#[tactic(auto, using(crate::proofs::Pieces::three_came))]
 pub(crate) fn read_three<S: Source>(source: &mut S) -> Result<(u32, u32, u32), FrameFault>
     requires { S.can_read source.old }
     ensures came { IfOk result

@@ -34,6 +34,7 @@ pub fn decode_body<A: Allocator>(alloc: A, head: Head, body: &[u8]) -> Result<Fr
     }
 }
 
+#[tactic(auto, using(crate::proofs::Decoded::hello_found, crate::proofs::Decoded::hello_refused))]
 fn decode_hello<A: Allocator>(body: &[u8]) -> Result<Frame<A>, FrameFault>
     requires { length body.now ≡ 6 }
     ensures frame { IfOk result (λ f. IsFrameOf (value_of f) 1 body.now) }

@@ -16,6 +16,7 @@ pub struct Head {
 
 /// The head that the first five bytes of a frame say. `BadKind` where the kind isn't 1 to 6, else
 /// `BadLength` where no body of that kind has that length. It takes no memory.
+#[tactic(auto, using(crate::proofs::Streams::head_split))]
 pub fn decode_head(bytes: &[u8; 5]) -> Result<Head, FrameFault>
     ensures kind { IfOk result (λ head. head.kind ≡ kind_at bytes.now) }
     ensures length { IfOk result (λ head. head.length ≡ length_at bytes.now) }
