@@ -1,18 +1,55 @@
--- How bytes that wait in memory are handed to a sink.
-use Rattle.std.specs.Prelude.{◌≡◌, ℕ, ◌+◌, ◌≤◌, List, ◌++◌, length, take}
-use Rattle.byte_streams.specs.Streams.{SinkState, Took}
+-- How the bytes and lines of a text are handed to a sink, part by part.
+use Rattle.std.specs.Prelude.{◌≡◌, ℕ, ◌+◌, ◌*◌, ◌<◌, ◌≤◌, List, [], ◌∷◌, ◌++◌, length, take, drop, Result, IsOk, IfOk, IfErr, OnOk}
+use Rattle.std.specs.List.{flat_map}
+use Rattle.byte_streams.specs.Streams.{SinkState, Took, HadNoSetback}
+use Rattle.links.specs.declared.links.Link.{Link}
+use Rattle.gr_text.specs.ForestText.{link_line}
 use Rattle.gr_text.specs.Written.{written_count}
+use Rattle.gr_text.specs.declared.parallel_writer.TheConstants.{PART_ROOM}
+use Rattle.gr_text.specs.declared.spelled.SpelledLines.{SpelledLines}
+use Rattle.gr_text.specs.declared.writer.WriteFault.{WriteFault}
 
--- of the bytes that waited, a prefix went to the sink and was counted, and the others still wait
-pub record HandsOn (count total : ℕ) (waited waiting : List ℕ) (before after : SinkState) : Type 0 where
-  pub out : List ℕ
-  pub took : Took 0 out before after
-  pub counted : total ≡ written_count (count + length out)
-  pub split : waited ≡ out ++ waiting
+-- these bytes went to the sink and were counted, behind `count` others
+pub record HandsOn (count total : ℕ) (bytes : List ℕ) (before after : SinkState) : Type 0 where
+  pub took : Took 0 bytes before after
+  pub counted : total ≡ written_count (count + length bytes)
 
--- of the bytes that waited, a prefix went to the sink and was counted, and then came a setback
-pub record HandsPrefix (count total : ℕ) (waited : List ℕ) (before after : SinkState) : Type 0 where
+-- a prefix of these bytes went to the sink and was counted, and then came a setback
+pub record HandsPrefix (count total : ℕ) (bytes : List ℕ) (before after : SinkState) : Type 0 where
   pub sent : ℕ
-  pub within : sent ≤ length waited
+  pub within : sent ≤ length bytes
   pub counted : total ≡ written_count (count + sent)
-  pub took : Took 1 (take sent waited) before after
+  pub took : Took 1 (take sent bytes) before after
+
+-- a call that answered this handed these bytes to a sink, which can be written again if `ready`
+pub record HandsOut (count : ℕ) (bytes : List ℕ) (result : Result ℕ WriteFault) (before after : SinkState) (ready : Type 0) : Type 0 where
+  pub whole : IfOk result (λ total. HandsOn count total bytes before after)
+  pub part : IfErr result (λ fault. HandsPrefix count fault.written bytes before after)
+  pub ends_ok : HadNoSetback before after → IsOk result
+  pub again : OnOk result ready
+
+-- a call that answered this handed the lines of the first of these links to a sink, of one at the least
+pub record PutsLines (count : ℕ) (links : List Link) (result : Result (ℕ × ℕ) WriteFault) (before after : SinkState) (ready : Type 0) : Type 0 where
+  pub some : IfOk result (λ put. (0 < put.1) × (put.1 ≤ length links))
+  pub whole : IfOk result (λ put. HandsOn count put.0 (flat_map link_line (take put.1 links)) before after)
+  pub part : IfErr result (λ fault. HandsPrefix count fault.written (flat_map link_line links) before after)
+  pub ends_ok : HadNoSetback before after → IsOk result
+  pub again : OnOk result ready
+
+-- a room begins with the lines of the first of these links, of as many as fit
+pub record AreSpelled (links : List Link) (spelled : SpelledLines) (room : List ℕ) : Type 0 where
+  pub within : spelled.links ≤ length links
+  pub fit : spelled.bytes ≤ length room
+  pub short : spelled.bytes ≤ spelled.links * 64
+  pub full : spelled.links < length links → length room < spelled.bytes + 64
+  pub lines : take spelled.bytes room ≡ flat_map link_line (take spelled.links links)
+
+-- a part's room begins with so many bytes, the lines of all of these links
+pub record IsPart (links : List Link) (bytes : ℕ) (room : List ℕ) : Type 0 where
+  pub fit : bytes ≤ PART_ROOM
+  pub lines : take bytes room ≡ flat_map link_line links
+
+-- the text of the parts in a room, each of which has so many bytes
+abbrev pub text_of_parts : List ℕ → List ℕ → List ℕ
+text_of_parts [] room = []
+text_of_parts (bytes ∷ others) room = take bytes room ++ text_of_parts others (drop PART_ROOM room)

@@ -1,6 +1,7 @@
 -- How much went out of a text.
-use Rattle.std.specs.Prelude.{◌≡◌, ℕ, ◌-◌, ◌^◌, ◌≤◌, min, List, length, take}
-use Rattle.byte_streams.specs.Streams.{SinkState, Took}
+use Rattle.std.specs.Prelude.{◌≡◌, ℕ, ◌-◌, ◌^◌, ◌≤◌, min, List, length, take, Option, Result, IsOk, IfOk, IfErr, OnOk}
+use Rattle.byte_streams.specs.Streams.{SinkState, Took, HadNoSetback, IsFlushed}
+use Rattle.gr_text.specs.declared.writer.WriteFault.{WriteFault}
 
 -- the count that is given of so many bytes: their number, or 2^64 - 1 where it is larger
 abbrev pub written_count : ℕ → ℕ
@@ -12,3 +13,16 @@ pub record PrefixWentOut (written : ℕ) (text : List ℕ) (before after : SinkS
   pub within : count ≤ length text
   pub counted : written ≡ written_count count
   pub took : Took 1 (take count text) before after
+
+-- a writer of this text that answered this did so to a sink, in which these bytes wait for a flush, and which can be written
+-- again if `ready`
+pub record WritesText (text : List ℕ) (result : Result ℕ WriteFault) (before after : SinkState) (unflushed : Option (List ℕ)) (ready : Type 0) : Type 0 where
+  -- at the end the sink has taken exactly the whole text, and none of its bytes waits for a flush
+  pub whole : OnOk result (Took 0 text before after)
+  pub count : IfOk result (λ written. written ≡ written_count (length text))
+  pub flushed : OnOk result (IsFlushed unflushed)
+  -- at a fault it has taken a prefix of the text, of as many bytes as the fault counts, and had a setback
+  pub part : IfErr result (λ fault. PrefixWentOut fault.written text before after)
+  -- a sink that has no setback takes the text
+  pub ends_ok : HadNoSetback before after → IsOk result
+  pub again : OnOk result ready

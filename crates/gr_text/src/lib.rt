@@ -6,8 +6,8 @@
 //! lines --verdicts/lines_so_far--> graph
 //! links --keep, after each piece--> fewer links that stand for them
 //! pieces --feeders--> whole arc lines --parallel, by threads--> parts --arc_lines--> links
-//! forest --spelled--> lines --piece--> 8 KiB --writer--> sink
-//! forest --spelled, by threads--> text_parts of 8,192 lines --parallel_writer--> sink
+//! forest --spelled--> lines --writer--> 8 KiB --> sink
+//! forest --spelled, by threads--> lines --parallel_writer--> parts of 8,192 lines --> sink
 //! ```
 //!
 //! What it promises:
@@ -38,12 +38,10 @@ mod parallel;
 mod parallel_writer;
 mod parsing;
 mod partial_line;
-mod piece;
 mod reader;
 mod sizes;
 mod sourced;
 mod spelled;
-mod text_parts;
 mod usual_line;
 mod verdicts;
 mod words;

@@ -1,85 +1,133 @@
-//! The writer of a forest's text by several threads: they spell its lines, and the caller's thread writes them.
-ghost use Rattle.std.specs.Prelude.{◌≡◌, ◌<◌, [], length, IsOk, IfOk, IfErr, OnOk};
-ghost use Rattle.std.specs.List.{flat_map};
-ghost use Rattle.byte_streams.specs.Streams.{Took, HadNoSetback, IsFlushed};
-ghost use Rattle.gr_text.specs.ForestText.{forest_text};
-ghost use Rattle.gr_text.specs.Handing.{HandsOn, HandsPrefix};
-ghost use Rattle.gr_text.specs.Written.{written_count, PrefixWentOut};
+//! The writer of a forest's text by several threads: they spell parts of its lines, and the caller's thread writes them.
+ghost use Rattle.std.specs.Prelude.{◌≡◌, ◌*◌, ◌≤◌, ◌<◌, IfOk, length};
+ghost use Rattle.std.specs.List.{flat_map, AllByRecursion};
+ghost use denote.Param.Send.{IsSync};
+ghost use Rattle.gr_text.specs.ForestText.{forest_text, link_line};
+ghost use Rattle.gr_text.specs.Handing.{HandsOut, IsPart, text_of_parts};
+ghost use Rattle.gr_text.specs.Written.{WritesText};
+ghost use Rattle.gr_text.specs.declared.parallel_writer.TheConstants.{PART_ROOM};
 
-use crate::spelled::Spelled;
-use crate::text_parts::{PART_LINKS, TextPart, spell_parts, text_parts};
-use crate::writer::{WriteFault, hand_out, write_forest};
-use byte_streams::{Failed, Sink};
-use links::Forest;
-use std::alloc::Allocator;
-use std::thread::Threads;
+use crate::spelled::{SPELLED_ROOM, spell_lines};
+use crate::writer::{PutLines, WriteFault, hand_out, write_forest, write_lines};
+use byte_streams::Sink;
+use links::{Forest, Link};
+use std::alloc::{AllocError, Allocator};
+use std::thread::{Threads, join_mut};
 
-// Hands the bytes of the parts to the sink in their order, as the next part of a text of which `written` bytes went out
-// before.
-fn hand_parts<W: Sink, A: Allocator>(
-    sink: &mut W,
-    written: u64,
-    parts: &[TextPart<A>],
-) -> Result<u64, WriteFault>
-    requires { W.can_write sink.old }
+// How many links have their lines in one part, at the most.
+const PART_LINKS: usize = 8192;
 
-    ensures whole { IfOk result (λ total. HandsOn written total (flat_map (λ part. part) parts.now) []
-        (W.state sink.old) (W.state sink.new)) }
-    ensures part { IfErr result (λ fault. HandsPrefix written fault.written (flat_map (λ part. part) parts.now)
-        (W.state sink.old) (W.state sink.new)) }
-    ensures ends_ok { HadNoSetback (W.state sink.old) (W.state sink.new) → IsOk result }
-    ensures again { OnOk result (W.can_write sink.new) }
+// The room for a part.
+const PART_ROOM: usize = PART_LINKS * SPELLED_ROOM;
+
+// Puts the lines of these links into a part's room, and answers how many bytes they are.
+fn spell_part(links: &[Link], room: &mut [u8], bytes: &mut usize)
+    requires few { length links.now ≤ PART_LINKS }
+    requires room { length room.old ≡ PART_ROOM }
+    ensures { IsPart links.now bytes.new room.new }
 {
-    let mut total = written;
-    for part in parts {
-        total = hand_out(sink, total, part.as_slice())?;
-    }
-    Ok(total)
+    *bytes = spell_lines(links, room).bytes;
 }
 
-// Writes the text of a forest, as many of its lines at a time as these parts have room for.
-fn write_by_parts<R: Threads + Sync, W: Sink, A: Allocator + Send>(
-    rt: &R,
-    parts: &mut [TextPart<A>],
+// Puts the lines of these links into parts, one behind the other, each by a thread of its own if one can be made, the last
+// by this one; and how many bytes each part has.
+#[cycle(parts)]
+fn spell_parts<R: Threads + Sync>(rt: &R, links: &[Link], room: &mut [u8], bytes: &mut [usize])
+    requires few { length links.now ≤ length bytes.old * PART_LINKS }
+    requires room { length room.old ≡ length bytes.old * PART_ROOM }
+    ensures fit { AllByRecursion (λ part. part ≤ PART_ROOM) bytes.new }
+    ensures text { text_of_parts bytes.new room.new ≡ flat_map link_line links.now }
+{
+    let Some((of_one, of_others)) = bytes.split_first_mut() else {
+        return;
+    };
+    let (one, others) = room.split_at_mut(PART_ROOM);
+    let (first, later) = links.split_at(links.len().min(PART_LINKS));
+    if of_others.is_empty() {
+        spell_part(first, one, of_one);
+        return;
+    }
+    let mut spell_one = ||
+        requires { (length first.now ≤ PART_LINKS) × (length one.now ≡ PART_ROOM) }
+        ensures { IsPart first.entry.now of_one.exit.now one.exit.now }
+    { spell_part(first, one, of_one) };
+    let mut spell_others = ||
+        requires { IsSync R.row × (length later.now ≤ length of_others.now * PART_LINKS) × (length others.now ≡ length of_others.now * PART_ROOM) }
+        ensures { AllByRecursion (λ part. part ≤ PART_ROOM) of_others.exit.now × (text_of_parts of_others.exit.now others.exit.now ≡ flat_map link_line later.entry.now) }
+    { spell_parts(rt, later, others, of_others) };
+    join_mut(rt, &mut spell_one, &mut spell_others);
+}
+
+// Hands the text of the parts to the sink, as the next part of a text of which `written` bytes went out before.
+fn hand_parts<W: Sink>(
     sink: &mut W,
-    n: u32,
-    forest: &Forest<A>,
+    written: u64,
+    room: &[u8],
+    bytes: &[usize],
 ) -> Result<u64, WriteFault>
     requires can { W.can_write sink.old }
-    requires some { 0 < length parts.old }
-
-    ensures whole { OnOk result
-        (Took 0 (forest_text n forest.now) (W.state sink.old) (W.state sink.new)) }
-    ensures count { IfOk result (λ written. written ≡ written_count (length (forest_text n forest.now))) }
-    ensures flushed { OnOk result (IsFlushed (W.unflushed sink.new)) }
-    ensures part { IfErr result (λ fault. PrefixWentOut fault.written (forest_text n forest.now)
-        (W.state sink.old) (W.state sink.new)) }
-    ensures ends_ok { HadNoSetback (W.state sink.old) (W.state sink.new) → IsOk result }
-    ensures again { OnOk result (W.can_write sink.new) }
+    requires room { length room.now ≡ length bytes.now * PART_ROOM }
+    requires fit { AllByRecursion (λ part. part ≤ PART_ROOM) bytes.now }
+    ensures { HandsOut written (text_of_parts bytes.now room.now) result
+        (W.state sink.old) (W.state sink.new) (W.can_write sink.new) }
 {
-    let links = forest.links();
-    let most = parts.len().saturating_mul(PART_LINKS);
-    let mut written = hand_out(sink, 0, Spelled::header(n, links.len()).as_slice())?;
-    let mut done = 0;
-    while done < links.len() {
-        let next = done + most.min(links.len() - done);
-        spell_parts(rt, &links[done..next], parts);
-        written = hand_parts(sink, written, parts)?;
-        done = next;
+    let Some((&of_one, of_others)) = bytes.split_first() else {
+        return Ok(written);
+    };
+    let (text, _free) = room.split_at(of_one);
+    let total = hand_out(sink, written, text)?;
+    let (_one, others) = room.split_at(PART_ROOM);
+    hand_parts(sink, total, others, of_others)
+}
+
+// Threads spell parts.
+#[derive(Drop)]
+struct Parts<'a, R, A: Allocator> {
+    rt: &'a R,
+    room: Vec<u8, A>,
+    bytes: Vec<usize, A>,
+}
+
+impl<'a, R: Threads + Sync, A: Allocator> PutLines for Parts<'a, R, A> {
+    ghost ready = { λ p. IsSync R.row × (0 < length p.bytes.items) × (length p.room.items ≡ length p.bytes.items * PART_ROOM) };
+
+    fn put_lines<W: Sink>(
+        &mut self,
+        sink: &mut W,
+        written: u64,
+        links: &[Link],
+    ) -> Result<(u64, usize), WriteFault> {
+        let count = links.len().min(self.bytes.len() * PART_LINKS);
+        let room = self.room.as_mut_slice();
+        let bytes = self.bytes.as_mut_slice();
+        spell_parts(self.rt, &links[..count], room, bytes);
+        let total = hand_parts(sink, written, room, bytes)?;
+        Ok((total, count))
     }
-    match sink.flush() {
-        Ok(()) => Ok(written),
-        Err(Failed) => Err(WriteFault { written }),
-    }
+}
+
+// Room for so many parts.
+fn room_for_parts<R: Threads + Sync, A: Allocator + Copy>(
+    rt: &R,
+    alloc: A,
+    count: usize,
+) -> Result<Parts<R, A>, AllocError>
+    ensures { IfOk result (λ parts. (length parts.bytes.items ≡ count) × (length parts.room.items ≡ count * PART_ROOM)) }
+{
+    let Some(all) = count.checked_mul(PART_ROOM) else {
+        return Err(AllocError);
+    };
+    let room = vec![in alloc; 0; all]?;
+    let bytes = vec![in alloc; 0; count]?;
+    Ok(Parts { rt, room, bytes })
 }
 
 /// Writes the text of a forest of `n` vertices by up to so many threads, as [`write_forest`] does by one.
 ///
 /// The threads spell the lines of 8,192 links each, at a time, and then the caller's thread writes them in their order.
-/// Each thread takes 512 KiB on the heap, of which lines of usual lengths use a third. A forest of fewer than 16,384 links
-/// is written by one thread, and so is any forest where the memory is refused. The sink is called about once for the lines
-/// of 8,192 links.
-pub fn write_forest_par<R: Threads + Sync, W: Sink, A: Allocator + Copy + Send + Sync>(
+/// Each thread takes 512 KiB on the heap. A forest of fewer than 16,384 links is written by one thread, and so is any forest
+/// if the memory is refused. Behind the first line the sink is called about once for the lines of 8,192 links.
+pub fn write_forest_par<R: Threads + Sync, W: Sink, A: Allocator + Copy>(
     rt: &R,
     threads: usize,
     alloc: A,
@@ -89,27 +137,14 @@ pub fn write_forest_par<R: Threads + Sync, W: Sink, A: Allocator + Copy + Send +
 ) -> Result<u64, WriteFault>
     requires { W.can_write sink.old }
 
-    // At the end the sink has taken exactly the whole text.
-    ensures whole { OnOk result
-        (Took 0 (forest_text n forest.now) (W.state sink.old) (W.state sink.new)) }
-    ensures count { IfOk result (λ written. written ≡ written_count (length (forest_text n forest.now))) }
-
-    // None of its bytes waits for a flush then.
-    ensures flushed { OnOk result (IsFlushed (W.unflushed sink.new)) }
-
-    // At a fault it has taken a prefix of the text, of as many bytes as the fault counts, and had a setback.
-    ensures part { IfErr result (λ fault. PrefixWentOut fault.written (forest_text n forest.now)
-        (W.state sink.old) (W.state sink.new)) }
-
-    // A sink that has no setback takes the text.
-    ensures ends_ok { HadNoSetback (W.state sink.old) (W.state sink.new) → IsOk result }
-
-    ensures again { OnOk result (W.can_write sink.new) }
+    // The sink has taken exactly the whole text, or at a fault as many of its first bytes as the fault counts.
+    ensures { WritesText (forest_text n forest.now) result (W.state sink.old) (W.state sink.new)
+        (W.unflushed sink.new) (W.can_write sink.new) }
 {
     let count = threads.min(forest.links().len() / PART_LINKS);
     if count > 1 {
-        if let Ok(mut parts) = text_parts(alloc, count) {
-            return write_by_parts(rt, parts.as_mut_slice(), sink, n, forest);
+        if let Ok(mut parts) = room_for_parts(rt, alloc, count) {
+            return write_lines(&mut parts, sink, n, forest);
         }
     }
     write_forest(sink, n, forest)

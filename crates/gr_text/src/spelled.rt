@@ -1,8 +1,9 @@
-//! A line of a forest's text. It is spelled from its last byte to its first, the order in which the
+//! The lines of a forest's text. Each is spelled from its last byte to its first, the order in which the
 //! digits of a number are found, so that each digit is written once, in its place.
-ghost use Rattle.std.specs.Prelude.{◌≡◌, ℕ, ◌+◌, ◌≤◌, ◌<◌, ◌^◌, List, [], ◌∷◌, ◌++◌, length, drop, decimal};
+ghost use Rattle.std.specs.Prelude.{◌≡◌, ℕ, ◌+◌, ◌≤◌, ◌<◌, ◌^◌, List, [], ◌∷◌, ◌++◌, length, take, drop, decimal};
 ghost use Rattle.std.specs.Fmt.{signed_decimal};
 ghost use Rattle.gr_text.specs.ForestText.{header_of, link_line};
+ghost use Rattle.gr_text.specs.Handing.{AreSpelled};
 
 use itoa::write_digits;
 use links::Link;
@@ -103,4 +104,39 @@ impl Spelled {
     {
         &self.bytes[self.start..]
     }
+}
+
+/// How many lines were put into a room, and how many bytes they have.
+#[derive(Clone, Copy)]
+pub(crate) struct SpelledLines {
+    pub links: usize,
+    pub bytes: usize,
+}
+
+/// Puts the lines of the first of these links into a room, from its beginning on, of as many as fit.
+pub(crate) fn spell_lines(links: &[Link], room: &mut [u8]) -> SpelledLines
+    ensures { AreSpelled links.now result room.new }
+{
+    let mut count = 0;
+    let mut bytes = 0;
+    while count < links.len() && room.len() - bytes >= SPELLED_ROOM {
+        let line = Spelled::of_link(&links[count]);
+        bytes = put_line(room, bytes, line.as_slice());
+        count += 1;
+    }
+    SpelledLines {
+        links: count,
+        bytes,
+    }
+}
+
+// Puts a line behind the first bytes of a room, and answers where it ends.
+fn put_line(room: &mut [u8], from: usize, line: &[u8]) -> usize
+    requires { from + length line.now ≤ length room.old }
+    ensures bytes { result ≡ from + length line.now }
+    ensures line { take result room.new ≡ take from room.old ++ line.now }
+{
+    let end = from + line.len();
+    room[from..end].copy_from_slice(line);
+    end
 }

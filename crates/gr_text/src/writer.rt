@@ -1,18 +1,16 @@
 //! The writer of a forest's text.
-ghost use Rattle.std.specs.Prelude.{◌≡◌, ◌+◌, ◌≤◌, [], length, IsOk, IfOk, IfErr, OnOk};
-ghost use Rattle.byte_streams.specs.Streams.{Took, HadNoSetback, IsFlushed};
+ghost use Rattle.std.specs.Prelude.{◌≡◌, ◌<◌, length};
 ghost use Rattle.gr_text.specs.FaultText.{unwritten_text};
 ghost use Rattle.gr_text.specs.ForestText.{forest_text};
-ghost use Rattle.gr_text.specs.Handing.{HandsOn, HandsPrefix};
-ghost use Rattle.gr_text.specs.Written.{written_count, PrefixWentOut};
+ghost use Rattle.gr_text.specs.Handing.{HandsOut, PutsLines};
+ghost use Rattle.gr_text.specs.Written.{WritesText};
 
 use crate::faults::FAULT_ROOM;
-use crate::piece::{Piece, push_line};
-use crate::spelled::{SPELLED_ROOM, Spelled};
+use crate::spelled::{Spelled, spell_lines};
 use arrayvec::ArrayString;
 use byte_streams::{Failed, Sink, put};
 use itoa::Buffer;
-use links::Forest;
+use links::{Forest, Link};
 use std::alloc::Allocator;
 use thiserror::Error;
 
@@ -38,17 +36,14 @@ impl WriteFault {
     }
 }
 
-// Hands these bytes to the sink, as the next part of a text of which `written` bytes went out before. The count stops at
-// `u64::MAX`.
+// How many bytes of lines one thread puts together.
+const PIECE_ROOM: usize = 8192;
+
+/// Hands these bytes to the sink, as the next part of a text of which `written` bytes went out before. The count stops at
+/// `u64::MAX`.
 pub(crate) fn hand_out<W: Sink>(sink: &mut W, written: u64, bytes: &[u8]) -> Result<u64, WriteFault>
     requires { W.can_write sink.old }
-
-    ensures whole { IfOk result (λ total. HandsOn written total bytes.now []
-        (W.state sink.old) (W.state sink.new)) }
-    ensures part { IfErr result (λ fault. HandsPrefix written fault.written bytes.now
-        (W.state sink.old) (W.state sink.new)) }
-    ensures ends_ok { HadNoSetback (W.state sink.old) (W.state sink.new) → IsOk result }
-    ensures again { OnOk result (W.can_write sink.new) }
+    ensures { HandsOut written bytes.now result (W.state sink.old) (W.state sink.new) (W.can_write sink.new) }
 {
     match put(sink, bytes) {
         Ok(()) => {
@@ -61,39 +56,71 @@ pub(crate) fn hand_out<W: Sink>(sink: &mut W, written: u64, bytes: &[u8]) -> Res
     }
 }
 
-// Hands all that waits to the sink.
-fn hand_on<W: Sink>(sink: &mut W, written: u64, piece: &mut Piece) -> Result<u64, WriteFault>
-    requires { W.can_write sink.old }
+/// Who spells the lines of a forest's text, and hands them to its sink.
+pub(crate) trait PutLines {
+    // What threads need of whoever makes them, and that there is room.
+    ghost ready: { Self → Type 0 };
 
-    ensures whole { IfOk result (λ total. HandsOn written total piece.old.items piece.new.items
-        (W.state sink.old) (W.state sink.new)) }
-    ensures emptied { OnOk result (piece.new.items ≡ []) }
-    ensures part { IfErr result (λ fault. HandsPrefix written fault.written piece.old.items
-        (W.state sink.old) (W.state sink.new)) }
-    ensures again { OnOk result (W.can_write sink.new) }
-{
-    let handed = hand_out(sink, written, piece.as_slice());
-    if handed.is_ok() {
-        piece.clear();
-    }
-    handed
+    /// Hands the lines of the first of these links to the sink, as the next part of a text of which `written` bytes went
+    /// out before. It answers how many have gone out then, and of how many links these were the lines.
+    fn put_lines<W: Sink>(
+        &mut self,
+        sink: &mut W,
+        written: u64,
+        links: &[Link],
+    ) -> Result<(u64, usize), WriteFault>
+        requires ready { ready self.old }
+        requires can { W.can_write sink.old }
+        requires some { 0 < length links.now }
+        ensures put { PutsLines written links.now result (W.state sink.old) (W.state sink.new) (W.can_write sink.new) }
+        ensures ready { ready self.new };
 }
 
-// Hands what waits to the sink where another line might not fit.
-fn make_room<W: Sink>(sink: &mut W, written: u64, piece: &mut Piece) -> Result<u64, WriteFault>
-    requires { W.can_write sink.old }
+// One thread spells, into room of its own.
+#[derive(Drop)]
+struct OnePiece {
+    room: [u8; PIECE_ROOM],
+}
 
-    ensures moved { IfOk result (λ total. HandsOn written total piece.old.items piece.new.items
-        (W.state sink.old) (W.state sink.new)) }
-    ensures room { OnOk result (length piece.new.items + 64 ≤ 8192) }
-    ensures part { IfErr result (λ fault. HandsPrefix written fault.written piece.old.items
-        (W.state sink.old) (W.state sink.new)) }
-    ensures again { OnOk result (W.can_write sink.new) }
-{
-    if piece.remaining_capacity() >= SPELLED_ROOM {
-        return Ok(written);
+impl PutLines for OnePiece {
+    ghost ready = { λ _. Unit {0} };
+
+    fn put_lines<W: Sink>(
+        &mut self,
+        sink: &mut W,
+        written: u64,
+        links: &[Link],
+    ) -> Result<(u64, usize), WriteFault> {
+        let spelled = spell_lines(links, &mut self.room);
+        let total = hand_out(sink, written, &self.room[..spelled.bytes])?;
+        Ok((total, spelled.links))
     }
-    hand_on(sink, written, piece)
+}
+
+/// Writes the text of a forest of `n` vertices, whose lines are put out so, and flushes the sink once.
+pub(crate) fn write_lines<P: PutLines, W: Sink, A: Allocator>(
+    lines: &mut P,
+    sink: &mut W,
+    n: u32,
+    forest: &Forest<A>,
+) -> Result<u64, WriteFault>
+    requires ready { P.ready lines.old }
+    requires can { W.can_write sink.old }
+    ensures { WritesText (forest_text n forest.now) result (W.state sink.old) (W.state sink.new)
+        (W.unflushed sink.new) (W.can_write sink.new) }
+{
+    let mut left = forest.links();
+    let mut written = hand_out(sink, 0, Spelled::header(n, left.len()).as_slice())?;
+    while !left.is_empty() {
+        let (total, count) = lines.put_lines(sink, written, left)?;
+        let (_put, others) = left.split_at(count);
+        written = total;
+        left = others;
+    }
+    match sink.flush() {
+        Ok(()) => Ok(written),
+        Err(Failed) => Err(WriteFault { written }),
+    }
 }
 
 /// Writes the text of a forest of `n` vertices, flushes the sink once, and answers how many bytes the
@@ -102,7 +129,7 @@ fn make_room<W: Sink>(sink: &mut W, written: u64, piece: &mut Piece) -> Result<u
 /// The first line is `p sp n k`, and each of the k links has a line `a low high weight`, in ascending
 /// order of their keys. The fault comes where a write or the flush fails, or where a write takes no
 /// byte; there is no second try. Lines are put together in 8 KiB on the stack and written as one
-/// piece, so the sink is called about once for 8 KiB; it takes no memory beside. The time is linear
+/// piece, so behind the first line the sink is called about once for 8 KiB; it takes no memory beside. The time is linear
 /// in the bytes of the text.
 pub fn write_forest<W: Sink, A: Allocator>(
     sink: &mut W,
@@ -111,34 +138,12 @@ pub fn write_forest<W: Sink, A: Allocator>(
 ) -> Result<u64, WriteFault>
     requires { W.can_write sink.old }
 
-    // At the end the sink has taken exactly the whole text.
-    ensures whole { OnOk result
-        (Took 0 (forest_text n forest.now) (W.state sink.old) (W.state sink.new)) }
-    ensures count { IfOk result (λ written. written ≡ written_count (length (forest_text n forest.now))) }
-
-    // None of its bytes waits for a flush then.
-    ensures flushed { OnOk result (IsFlushed (W.unflushed sink.new)) }
-
-    // At a fault it has taken a prefix of the text, of as many bytes as the fault counts, and had a setback.
-    ensures part { IfErr result (λ fault. PrefixWentOut fault.written (forest_text n forest.now)
-        (W.state sink.old) (W.state sink.new)) }
-
-    // A sink that has no setback takes the text.
-    ensures ends_ok { HadNoSetback (W.state sink.old) (W.state sink.new) → IsOk result }
-
-    ensures again { OnOk result (W.can_write sink.new) }
+    // The sink has taken exactly the whole text, or at a fault as many of its first bytes as the fault counts.
+    ensures { WritesText (forest_text n forest.now) result (W.state sink.old) (W.state sink.new)
+        (W.unflushed sink.new) (W.can_write sink.new) }
 {
-    let links = forest.links();
-    let mut piece = Piece::new();
-    push_line(&mut piece, Spelled::header(n, links.len()).as_slice());
-    let mut written = 0;
-    for link in links {
-        written = make_room(sink, written, &mut piece)?;
-        push_line(&mut piece, Spelled::of_link(link).as_slice());
-    }
-    written = hand_on(sink, written, &mut piece)?;
-    match sink.flush() {
-        Ok(()) => Ok(written),
-        Err(Failed) => Err(WriteFault { written }),
-    }
+    let mut lines = OnePiece {
+        room: [0; PIECE_ROOM],
+    };
+    write_lines(&mut lines, sink, n, forest)
 }
