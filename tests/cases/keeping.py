@@ -2,7 +2,7 @@
 a vertex, a list of 32,768 links and of 10 a vertex becomes its forest."""
 import random
 
-from cases.running import case, expect, file_of, forest_of, forest_text, ran
+from cases.running import Program, case, expect, file_of, forest_of, forest_text, ran, told_by
 
 LONG = 32_768
 WEIGHTS = {
@@ -78,3 +78,30 @@ def heavy_arcs_that_join_what_light_ones_leave_apart(_room):
     for bridges in ([(1, 2, 10**6)], [(1, 2, 10**6), (3, 4, 10**6 - 1)], [(1, 2, 0)]):
         expect_forest(400, light[:80_000] + bridges + light[80_000:])
         expect_forest(400, light + bridges)
+
+
+@case
+def edges_that_stand_several_times_side_by_side(_room):
+    # all of them, or only those in a stretch of the file, so that a look at a few misses some
+    for seed, (vertices, edges) in enumerate([(2, 40_000), (300, 20_000), (5_000, 30_000), (20_000, 90_000)]):
+        draw = random.Random(seed)
+        for first, last in [(0, edges), (edges // 3, edges // 2), (edges - 50, edges)]:
+            arcs = []
+            for place, (u, v, weight) in enumerate(drawn(seed, vertices, edges, "few")):
+                times = draw.choice([1, 2, 2, 2, 3]) if first <= place < last else 1
+                arcs += [(u, v, weight), (v, u, weight), (u, v, weight)][:times]
+            expect_forest(vertices, arcs)
+
+
+@case
+def edges_in_both_directions_take_the_memory_of_one(room):
+    vertices, edges = 100_000, drawn(7, 100_000, 400_000, "many")
+    peaks = {}
+    for name, arcs in [("one", edges), ("both", [arc for u, v, weight in edges for arc in [(u, v, weight), (v, u, weight)]])]:
+        with open(f"{room}/{name}.gr", "wb") as it:
+            it.write(file_of(vertices, arcs))
+        found, peak = told_by(room, [Program.path, "--plain", f"{room}/{name}.gr"], b"", {"PEAK": "1"})
+        expect(found, 0, forest_text(vertices, forest_of(vertices, edges)), b"")
+        peaks[name] = int(peak) << 10
+    if not 8 << 20 < peaks["one"] < 40 << 20 or peaks["both"] > 1.05 * peaks["one"]:
+        raise AssertionError(f"bytes by the edges' directions: {peaks}")

@@ -5,4 +5,5 @@ pub mod Lengths
 pub mod Again
 pub mod KeptLinks
 pub mod Sieving
+pub mod KeptOnce
 pub mod JoinedParts

@@ -1,8 +1,8 @@
 -- Several files as parts of one graph, which has the links of all of them.
-use Rattle.std.specs.Prelude.{◌≡◌, ◌≢◌, ◌<◌, ◌≤◌, ◌*◌, ⊤, ℕ, List, [], ◌∷◌, ◌++◌, length, All, Result, Ok, Err}
+use Rattle.std.specs.Prelude.{◌≡◌, ◌≢◌, ◌<◌, ◌≤◌, ◌*◌, ⊤, ℕ, List, [], ◌∷◌, ◌++◌, length, All, Option, Result, Ok, Err, OnOk}
 use Rattle.std.specs.List.{flat_map}
 use Rattle.limits.specs.declared.TheConstants.{MAX_ARCS, MAX_BYTES, MAX_VERTICES}
-use Rattle.byte_streams.specs.Streams.{SourceState, SinkState, Gave, Took, WentOut}
+use Rattle.byte_streams.specs.Streams.{SourceState, SinkState, Gave, Took, WentOut, IsFlushed}
 use Rattle.links.specs.Covers.{IsCoveredBy}
 use Rattle.links.specs.Forest.{IsForestOf}
 use Rattle.links.specs.Link.{EndsUpTo}
@@ -112,3 +112,13 @@ WritesForestOf graph (Ok report) = IsWrittenForest graph report
 WritesForestOf graph (Err (fault.Write written)) = IsPartOfForest graph written
 WritesForestOf graph (Err fault.Memory) = Took 0 []
 WritesForestOf graph (Err other) = λ _ _. ⊥
+
+-- what writing the forest of all files' links did that answered this, to a sink in which these bytes wait for a flush then,
+-- and which can be written again if `ready`
+pub record WritesParts (parts : PartsValue) (result : Result Report RunFault) (before after : SinkState) (unflushed : Option (List ℕ)) (ready : Type 0) : Type 0 where
+  -- exactly the text of the forest of the files' links went out, one file's after the other's, or a part of it, or nothing
+  -- for want of memory; the links of all files are counted
+  pub written : (graphs : List GraphValue) → ArePartsOf graphs parts → WritesForestOf (joined_graph parts.vertices graphs) result before after
+  -- then no byte of a sink that knows which wait for a flush does, and it can be written again
+  pub flushed : OnOk result (IsFlushed unflushed)
+  pub again : OnOk result ready

@@ -1,6 +1,6 @@
 -- A run without workers.
-use Rattle.std.specs.Prelude.{◌≡◌, ℕ, ℤ, List, length, Result}
-use Rattle.byte_streams.specs.Streams.{Took}
+use Rattle.std.specs.Prelude.{◌≡◌, ℕ, ℤ, List, length, Option, Result, IfOk, OnOk}
+use Rattle.byte_streams.specs.Streams.{Took, IsFlushed}
 use Rattle.links.specs.declared.links.Link.{Link}
 use Rattle.links.specs.Least.{sum_of_weights, IsLightest}
 use Rattle.gr_text.specs.Graph.{GraphValue}
@@ -8,7 +8,7 @@ use Rattle.gr_text.specs.ForestText.{forest_text}
 use Rattle.plain_run.specs.declared.report.Report.{Report}
 use Rattle.plain_run.specs.declared.fault.RunFault.{RunFault}
 use Rattle.plain_run.specs.declared.fault.RunFault.TheVariants as fault
-use Rattle.plain_run.specs.Files.{IsFileOf, HasFile}
+use Rattle.plain_run.specs.Files.{IsFileOf, HasFile, MeansGraph, MeansNothing, IsFirstFaultOf, IsNoRefusal}
 use Rattle.plain_run.specs.Outcomes.{Streams, Ran, IsSpanning, IsLeast}
 
 -- a report of so many vertices and links, and of what the forest weighs; no rounds, shards, asks or workers
@@ -61,3 +61,18 @@ pub record HasWritten (graph : GraphValue) (forest : List Link) (report : Report
 abbrev pub WritesAgain : Report → Streams → Streams → Type 0
 WritesAgain report before after =
     (graph : GraphValue) (forest : List Link) → HasForestOf graph forest before after → HasWritten graph forest report before after
+
+-- ---- all that a plain run promises
+
+-- what a plain run that answered this did, in whose sink these bytes wait for a flush then, and can be written again if `ready`
+pub record RunsPlain (result : Result Report RunFault) (before after : Streams) (unflushed : Option (List ℕ)) (ready : Type 0) : Type 0 where
+  -- the source was read to its end and exactly the forest's text went out, or the fault says what was done
+  pub ran : RanPlain result before after
+  -- so a file that means nothing is refused by its first fault, where no read fails; one that means a graph isn't
+  pub malformed : (bytes : List ℕ) → HasFile bytes before.source after.source → MeansNothing bytes → IsFirstFaultOf bytes result
+  pub lawful : (bytes : List ℕ) → HasFile bytes before.source after.source → MeansGraph bytes → IsNoRefusal result
+  -- the text of a forest is written again as it is: of its links no more and no fewer are taken
+  pub itself : IfOk result (λ report. WritesAgain report before after)
+  -- after a run that ends well no byte of a sink that knows which wait for a flush does, and it can be written again
+  pub flushed : OnOk result (IsFlushed unflushed)
+  pub again : OnOk result ready

@@ -1,18 +1,23 @@
-//! Who reads and solves: one thread, or several.
+//! Who reads, solves and writes: one thread, or several.
 ghost use Rattle.std.specs.Prelude.{◌≡◌, ◌≤◌, [], length, IfOk};
 ghost use Rattle.std.specs.Thread.{IsSync};
+ghost use Rattle.gr_text.specs.ForestText.{forest_text};
 ghost use Rattle.gr_text.specs.Kept.{IsKeptReadOf};
+ghost use Rattle.gr_text.specs.Written.{WritesText};
 ghost use Rattle.links.specs.Forest.{IsForestOf};
 ghost use Rattle.links.specs.Link.{EndsUpTo};
 
-use byte_streams::Source;
-use gr_text::{Graph, Keep, ReadFault, read_graph_kept, read_graph_kept_par};
+use byte_streams::{Sink, Source};
+use gr_text::{
+    Graph, Keep, ReadFault, WriteFault, read_graph_kept, read_graph_kept_par, write_forest,
+    write_forest_par,
+};
 use limits::{MAX_BYTES, MAX_VERTICES};
-use link_key::{Link, keep_forest, keep_forest_par};
+use link_key::{Forest, Link, forest_of, forest_of_par, keep_forest, keep_forest_par};
 use std::alloc::{AllocError, Allocator};
 use std::thread::Threads;
 
-/// Who reads a file, and finds the forest of a list.
+/// Who reads a file, finds the forest of a list, and writes its text.
 pub trait Crew {
     // What threads need of whoever makes them.
     ghost ready: { Type 0 } = { Unit {0} };
@@ -43,6 +48,32 @@ pub trait Crew {
         requires ends { EndsUpTo n links.items }
         ensures forest { IfOk result (λ kept. IsForestOf links.items kept.items) }
         ensures few { IfOk result (λ kept. length kept.items ≤ length links.items) };
+
+    /// The forest of the list.
+    fn forest_of<A: Allocator + Copy>(
+        &self,
+        alloc: A,
+        n: u32,
+        links: Vec<Link, A>,
+    ) -> Result<Forest<A>, AllocError>
+        requires ready { ready }
+        requires few_vertices { n ≤ MAX_VERTICES }
+        requires ends { EndsUpTo n links.items }
+        ensures forest { IfOk result (IsForestOf links.items) }
+        ensures few { IfOk result (λ forest. length forest ≤ length links.items) };
+
+    /// Writes the text of a forest, as [`write_forest`] does.
+    fn write<W: Sink, A: Allocator + Copy>(
+        &self,
+        alloc: A,
+        sink: &mut W,
+        n: u32,
+        forest: &Forest<A>,
+    ) -> Result<u64, WriteFault>
+        requires ready { ready }
+        requires can { W.can_write sink.old }
+        ensures { WritesText (forest_text n forest.now) result (W.state sink.old) (W.state sink.new)
+            (W.unflushed sink.new) (W.can_write sink.new) };
 }
 
 /// The caller's thread alone.
@@ -66,6 +97,25 @@ impl Crew for OneThread {
         links: Vec<Link, A>,
     ) -> Result<Vec<Link, A>, AllocError> {
         keep_forest(alloc, n, links)
+    }
+
+    fn forest_of<A: Allocator + Copy>(
+        &self,
+        alloc: A,
+        n: u32,
+        links: Vec<Link, A>,
+    ) -> Result<Forest<A>, AllocError> {
+        forest_of(alloc, n, links)
+    }
+
+    fn write<W: Sink, A: Allocator + Copy>(
+        &self,
+        _alloc: A,
+        sink: &mut W,
+        n: u32,
+        forest: &Forest<A>,
+    ) -> Result<u64, WriteFault> {
+        write_forest(sink, n, forest)
     }
 }
 
@@ -95,5 +145,24 @@ impl<'a, R: Threads + Sync> Crew for ManyThreads<'a, R> {
         links: Vec<Link, A>,
     ) -> Result<Vec<Link, A>, AllocError> {
         keep_forest_par(self.rt, self.threads, alloc, n, links)
+    }
+
+    fn forest_of<A: Allocator + Copy>(
+        &self,
+        alloc: A,
+        n: u32,
+        links: Vec<Link, A>,
+    ) -> Result<Forest<A>, AllocError> {
+        forest_of_par(self.rt, self.threads, alloc, n, links)
+    }
+
+    fn write<W: Sink, A: Allocator + Copy>(
+        &self,
+        alloc: A,
+        sink: &mut W,
+        n: u32,
+        forest: &Forest<A>,
+    ) -> Result<u64, WriteFault> {
+        write_forest_par(self.rt, self.threads, alloc, sink, n, forest)
     }
 }

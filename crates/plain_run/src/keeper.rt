@@ -1,5 +1,5 @@
-//! A list of links that is kept within a bound while its file is read: when it is long it becomes its forest, which covers
-//! it.
+//! A list of links that is kept within a bound while its file is read: links that repeat the one before them are dropped,
+//! and when the list is long it becomes its forest, which covers it.
 ghost use Rattle.std.specs.Prelude.{◌≡◌, ◌+◌, ◌≤◌, length, None, IfOk, OnOk};
 ghost use Rattle.links.specs.Covers.{IsCoveredBy};
 ghost use Rattle.links.specs.Link.{EndsUpTo, IsAscending};
@@ -7,6 +7,7 @@ ghost use Rattle.gr_text.specs.Kept.{BeginsSo};
 ghost use Rattle.plain_run.specs.Sieve.{KnowsOf};
 
 use crate::crew::Crew;
+use crate::repeats::{has_repeats, put_once_behind};
 use crate::sieve::Sieve;
 use gr_text::Keep;
 use limits::{MAX_ARCS, MAX_VERTICES};
@@ -35,6 +36,8 @@ pub(crate) struct Keeper<'a, C, A: Allocator> {
     crew: &'a C,
     /// How many links were dropped.
     pub dropped: u64,
+    // How many links had come when it was asked last.
+    seen: usize,
     /// Drops further links before the list is long, where many more come.
     sieve: Option<Sieve<A>>,
     // Whether a sieve let more than half of the links through: then none is made again.
@@ -50,9 +53,30 @@ impl<'a, C: Crew, A: Allocator + Copy> Keeper<'a, C, A> {
         Keeper {
             crew,
             dropped: 0,
+            seen: 0,
             sieve: None,
             is_coarse: false,
         }
+    }
+
+    // Drops the links that have come since and repeat the one before them, if the first few say that there are some. None
+    // after a sieve was made: it counts the links in front.
+    fn drop_repeats(&mut self, links: &mut Vec<Link, A>)
+        requires few { self.old.dropped + length links.old.items ≤ MAX_ARCS }
+        requires known { BeginsSo (KnowsOf self.old.sieve) links.old.items }
+        ensures few { length links.new.items ≤ length links.old.items }
+        ensures cover { IsCoveredBy links.old.items links.new.items }
+        ensures counted { self.old.dropped + length links.old.items ≡ self.new.dropped + length links.new.items }
+        ensures known { BeginsSo (KnowsOf self.new.sieve) links.new.items }
+    {
+        let count = links.len();
+        let seen = self.seen.min(count);
+        if self.sieve.is_some() || !has_repeats(&links.as_slice()[seen..]) {
+            return;
+        }
+        let kept = put_once_behind(links.as_mut_slice(), seen);
+        links.truncate(kept);
+        self.dropped += (count - kept) as u64;
     }
 
     // Sifts the links that have come since a sieve was made, once they are some.
@@ -130,6 +154,7 @@ impl<'a, C: Crew, A: Allocator + Copy> Keeper<'a, C, A> {
         self.dropped += (count - kept.len()) as u64;
         let sieve = self.sieve_of(alloc, vertices, arcs, kept.as_slice())?;
         self.sieve = sieve;
+        self.seen = kept.len();
         *links = kept;
         Ok(())
     }
@@ -150,8 +175,10 @@ impl<'a, C: Crew, A: Allocator + Copy> Keep<A> for Keeper<'a, C, A> {
         arcs: u32,
         links: &mut Vec<Link, A>,
     ) -> Result<(), AllocError> {
+        self.drop_repeats(links);
         self.sift(vertices, links);
         if links.len() < long_list(vertices as usize, arcs as usize) {
+            self.seen = links.len();
             return Ok(());
         }
         self.reduce(vertices, arcs, links)

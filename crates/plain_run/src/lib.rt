@@ -8,9 +8,9 @@
 //!     Sources --Parts::add, one after the other--> Parts --Parts::write--------> Sink
 //! ```
 //!
-//! While a file of many arcs is read, a long list of links becomes its forest, which covers it (`keeper`). If many more
-//! come, those that its light links make needless aren't kept (`sieve`). So memory has a bound by the vertices, and all links
-//! are counted.
+//! While a file is read, links that repeat the one before them are dropped (`repeats`). Of many arcs a long list of links
+//! becomes its forest, which covers it (`keeper`). If many more come, those that its light links make needless aren't kept
+//! (`sieve`). So memory has a bound by the vertices, and all links are counted.
 //!
 //! What it promises:
 //! - A run that ends well has read a whole file that means a graph, and written just the text of the graph's minimum
@@ -20,26 +20,25 @@
 //!
 //! Where to start a change: `specs/Files` says what a file gives, `Outcomes` what a run does to its streams, whatever
 //! finds the forest, `PlainRun` what this run finds and reports, `Sieve` which links may go, `Parts` what several files
-//! give; `FaultText` and `ReportText` have the texts. Runs over workers stand on these definitions in `forest_run`. Who reads
-//! and solves, one thread or several, is a `Crew`.
+//! give; `FaultText` and `ReportText` have the texts. Runs over workers stand on these definitions in `forest_run`. Who reads,
+//! solves and writes, one thread or several, is a `Crew`.
 #![tactic(auto)]
 
-mod by_threads;
 mod crew;
 mod fault;
 mod in_memory;
 mod keeper;
 mod parts;
 mod plain;
+mod repeats;
 mod report;
 mod sieve;
 mod spelling;
 
-pub use by_threads::run_threads;
 pub use crew::{Crew, ManyThreads, OneThread};
 pub use fault::{PartFault, RunFault};
 pub use in_memory::plain_text;
 pub use parts::{MAX_FILES, Parts};
-pub use plain::run_plain;
+pub use plain::{run_plain, run_threads};
 pub use report::Report;
 pub use spelling::LINE_ROOM;

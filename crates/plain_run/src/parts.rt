@@ -1,21 +1,19 @@
 //! Several files as parts of one graph: the forest of all their links together.
-ghost use Rattle.std.specs.Prelude.{◌≡◌, ◌+◌, ◌<◌, ◌≤◌, ◌++◌, ℕ, List, [], length, IfOk, OnOk};
-ghost use Rattle.byte_streams.specs.Streams.{IsFlushed};
-ghost use Rattle.gr_text.specs.Graph.{GraphValue};
+ghost use Rattle.std.specs.Prelude.{◌≡◌, ◌+◌, ◌<◌, ◌≤◌, ◌++◌, ℕ, List, [], length, IfOk};
 ghost use Rattle.links.specs.Covers.{IsCoveredBy};
 ghost use Rattle.links.specs.Link.{EndsUpTo};
 ghost use Rattle.plain_run.specs.Files.{HasFile, MeansGraph, MeansNothing};
-ghost use Rattle.plain_run.specs.Parts.{Adds, ArePartsOf, IsFirstFaultOfPart, IsNoRefusalOfPart, WritesForestOf, joined_graph};
+ghost use Rattle.plain_run.specs.Parts.{Adds, ArePartsOf, IsFirstFaultOfPart, IsNoRefusalOfPart, WritesParts};
 
-use crate::crew::Crew;
+use crate::crew::{Crew, ManyThreads, OneThread};
 use crate::fault::{PartFault, RunFault};
 use crate::keeper::{Keeper, many_links};
 use crate::plain::report_of;
 use crate::report::Report;
 use byte_streams::{Sink, Source};
-use gr_text::{ReadFault, write_forest, write_forest_par};
+use gr_text::ReadFault;
 use limits::MAX_VERTICES;
-use link_key::{Forest, Link, keep_forest, keep_forest_par};
+use link_key::Link;
 use std::alloc::{AllocError, Allocator, Global};
 use std::marker::Model;
 use std::thread::Threads;
@@ -144,19 +142,11 @@ impl<A: Allocator + Copy> Parts<A> {
         }
     }
 
-    /// Writes the text of the forest of all links of the files, as [`run_plain`](crate::run_plain) writes that of one file's
-    /// links. Without a file it writes that of the graph of no vertices.
-    pub fn write<W: Sink>(self, sink: &mut W) -> Result<Report, RunFault>
+    // Writes the text of the forest of all links, by whoever solves and writes.
+    fn write_by<C: Crew, W: Sink>(self, crew: &C, sink: &mut W) -> Result<Report, RunFault>
+        requires ready { C.ready }
         requires sink { W.can_write sink.old }
-
-        // Exactly the text of the forest of the files' links went out, one file's after the other's, or a part of it, or
-        // nothing for want of memory. The links of all files are counted.
-        ensures written { (graphs : List GraphValue) → ArePartsOf graphs self
-            → WritesForestOf (joined_graph self.vertices graphs) result (W.state sink.old) (W.state sink.new) }
-
-        // Then no byte of a sink that knows which wait for a flush does, and it can be written again.
-        ensures flushed { OnOk result (IsFlushed (W.unflushed sink.new)) }
-        ensures again { OnOk result (W.can_write sink.new) }
+        ensures { WritesParts self result (W.state sink.old) (W.state sink.new) (W.unflushed sink.new) (W.can_write sink.new) }
     {
         let Parts {
             vertices,
@@ -165,16 +155,27 @@ impl<A: Allocator + Copy> Parts<A> {
             ..
         } = self;
         let alloc = *kept.allocator();
-        let Ok(links) = keep_forest(alloc, vertices, kept) else {
+        let Ok(forest) = crew.forest_of(alloc, vertices, kept) else {
             return Err(RunFault::Memory);
         };
-        let forest = Forest::of_ascending(links);
-        match write_forest(sink, vertices, &forest) {
+        match crew.write(alloc, sink, vertices, &forest) {
             Ok(_) => Ok(report_of(vertices, count, &forest)),
             Err(fault) => Err(RunFault::Write {
                 written: fault.written,
             }),
         }
+    }
+
+    /// Writes the text of the forest of all links of the files, as [`run_plain`](crate::run_plain) writes that of one file's
+    /// links. Without a file it writes that of the graph of no vertices.
+    pub fn write<W: Sink>(self, sink: &mut W) -> Result<Report, RunFault>
+        requires sink { W.can_write sink.old }
+
+        // Exactly the text of the forest of the files' links went out, one file's after the other's, or a part of it, or
+        // nothing for want of memory. The links of all files are counted.
+        ensures { WritesParts self result (W.state sink.old) (W.state sink.new) (W.unflushed sink.new) (W.can_write sink.new) }
+    {
+        self.write_by(&OneThread, sink)
     }
 
     /// Writes it by up to `threads` threads, as [`run_threads`](crate::run_threads) does.
@@ -184,35 +185,11 @@ impl<A: Allocator + Copy> Parts<A> {
         threads: usize,
         sink: &mut W,
     ) -> Result<Report, RunFault>
-    where
-        A: Send + Sync,
         requires sink { W.can_write sink.old }
 
-        // Exactly the text of the forest of the files' links went out, one file's after the other's, or a part of it, or
-        // nothing for want of memory. The links of all files are counted.
-        ensures written { (graphs : List GraphValue) → ArePartsOf graphs self
-            → WritesForestOf (joined_graph self.vertices graphs) result (W.state sink.old) (W.state sink.new) }
-
-        // Then no byte of a sink that knows which wait for a flush does, and it can be written again.
-        ensures flushed { OnOk result (IsFlushed (W.unflushed sink.new)) }
-        ensures again { OnOk result (W.can_write sink.new) }
+        // All that `write` promises.
+        ensures { WritesParts self result (W.state sink.old) (W.state sink.new) (W.unflushed sink.new) (W.can_write sink.new) }
     {
-        let Parts {
-            vertices,
-            kept,
-            count,
-            ..
-        } = self;
-        let alloc = *kept.allocator();
-        let Ok(links) = keep_forest_par(rt, threads, alloc, vertices, kept) else {
-            return Err(RunFault::Memory);
-        };
-        let forest = Forest::of_ascending(links);
-        match write_forest_par(rt, threads, alloc, sink, vertices, &forest) {
-            Ok(_) => Ok(report_of(vertices, count, &forest)),
-            Err(fault) => Err(RunFault::Write {
-                written: fault.written,
-            }),
-        }
+        self.write_by(&ManyThreads { rt, threads }, sink)
     }
 }

@@ -139,6 +139,22 @@ fn files_of_all_kinds_of_weights(rt: HostRuntime) {
     }
 }
 
+// Each edge stands in both directions side by side, some three times: links that repeat the one before them are dropped.
+#[test]
+fn files_of_edges_in_both_directions(rt: HostRuntime) {
+    for (n, count) in [(300, 1_000), (5_000, 12_000), (5_000, 40_000)] {
+        let mut arcs = Vec::new(rt.alloc());
+        for (u, v, weight) in rows(&rt, rt.alloc(), n, count, Weights::Few).as_slice() {
+            arcs.push((*u, *v, *weight)).expect(&rt, "memory");
+            arcs.push((*v, *u, *weight)).expect(&rt, "memory");
+            if *weight == 0 {
+                arcs.push((*u, *v, *weight)).expect(&rt, "memory");
+            }
+        }
+        expect_run(&rt, rt.alloc(), n, arcs.as_slice());
+    }
+}
+
 // Loops alone give no link, and one arc given again and again gives one.
 #[test]
 fn files_of_loops_and_repeats(rt: HostRuntime) {

@@ -1,0 +1,41 @@
+//! Links that repeat the one before them: files that write an edge in both directions have these side by side.
+ghost use Rattle.std.specs.Prelude.{◌≡◌, ◌≤◌, take, length, false, Contains};
+ghost use Rattle.links.specs.LinkSet.{SameLinks};
+
+use link_key::Link;
+
+// So many links, at the most, tell whether there are repeats.
+const SAMPLE: usize = 64;
+
+/// Whether some of the first few of these repeat the one before them.
+pub(crate) fn has_repeats(links: &[Link]) -> bool {
+    let few = &links[..links.len().min(SAMPLE)];
+    !few.is_sorted_by(|earlier, later| earlier != later)
+}
+
+/// Puts the links from a place on that don't repeat the one before them behind those in front, in their order, and answers
+/// how many are in front then. It takes no branch on the links.
+pub(crate) fn put_once_behind(links: &mut [Link], from: usize) -> usize
+    requires in_range { from ≤ length links.old }
+    ensures in_range { result ≤ length links.new }
+    ensures same { SameLinks (Contains links.old) (Contains (take result links.new)) }
+{
+    let start = from.max(1).min(links.len());
+    let mut kept = start;
+    for i in start..links.len() {
+        let link = links[i];
+        let last = kept - 1;
+        let is_new = is_other(&link, &links[last]);
+        links[kept] = link;
+        kept += is_new as usize;
+    }
+    kept
+}
+
+// Whether they are two links.
+#[inline]
+fn is_other(link: &Link, last: &Link) -> bool
+    ensures { result ≡ false → link.now ≡ last.now }
+{
+    link != last
+}
