@@ -19,8 +19,10 @@ use Rattle.links.specs.AnswerValue.{AnswerValue}
 use Rattle.round_theory.specs.LinkSet.{SameLinks}
 use Rattle.round_theory.specs.Offers.{Hearing, Names, IsNamed}
 use Rattle.round_theory.proofs.Cutting.{any_from, flat_map_contains}
-use Rattle.round_core.specs.Picks.{ArePicks, AreNoPicks, Counts}
-use Rattle.round_core.proofs.Counts.{no_picks, picks_alike}
+use Rattle.round_core.specs.Picks.{ArePicks, AreNoPicks}
+use Rattle.round_core.specs.PickNumbers.{pick_in}
+use Rattle.round_core.specs.OwnPicks.{AreLeastNumbers}
+use Rattle.round_core.proofs.Counts.{picks_are, picks_alike}
 use Rattle.round_core.specs.BookValue.{opened, is_leaving, is_offer, BookValue, hearing_of, hearings, named_links, all_named, CanCount, IsBookValue, IsBook}
 
 -- all are missing at first
@@ -179,10 +181,9 @@ can_count p looked_up answers is same answers_are = rw (same, answers_are) (reco
   right = λ i a lt. let right = is.right i a lt in record { round_is = refl; within = right.within; offers = right.offers };
 })
 
--- the picks of the links that its answers name are those of what it heard
-pub picks_of_named : (p : BookValue) (best : List (Option Link)) → ArePicks p.labels (Contains (all_named p.cut p.answers)) best → ArePicks p.labels (IsNamed (hearings p)) best
-picks_of_named p best are = picks_alike p.labels (Contains (all_named p.cut p.answers)) (IsNamed (hearings p)) best (same_named p.cut p.answers) are
-
--- all answers of a book, counted into no picks, make the picks of what was heard
-pub picks_of_book : (p : BookValue) (best best' : List (Option Link)) → length best ≡ length p.labels → AreNoPicks best → Counts p.labels (all_named p.cut p.answers) best best' → ArePicks p.labels (IsNamed (hearings p)) best'
-picks_of_book p best best' long none counts = picks_of_named p best' (counts [] (no_picks p.labels best long none))
+-- the least numbers of the links that its answers name make the picks of what it heard
+pub picks_of_numbers : (p : BookValue) (looked_up : List ℕ) (answers : List AnswerValue) (numbers items : List ℕ) (picks : List (Option Link)) → looked_up ≡ p.labels → answers ≡ p.answers → items ≡ numbers → picks ≡ map pick_in items
+    → AreLeastNumbers looked_up (all_named p.cut answers) numbers → ArePicks p.labels (IsNamed (hearings p)) picks
+picks_of_numbers p looked_up answers numbers items picks same_labels same_answers same_items picks_is least =
+    picks_alike p.labels (Contains (all_named p.cut p.answers)) (IsNamed (hearings p)) picks (same_named p.cut p.answers)
+    (picks_are looked_up p.labels (all_named p.cut answers) (all_named p.cut p.answers) numbers items picks same_labels (ap (all_named p.cut) same_answers) same_items picks_is least)

@@ -1,95 +1,173 @@
--- Picks that grow by one link at a time.
-use Rattle.std.proofs.Common.{◌≡◌, ◌≢◌, ℕ, zero, suc, ◌-◌, ◌<◌, ◌≤◌, ◌⊎◌, List, [], ◌∷◌, ◌++◌, length, get_or, set, Contains, Some, None, refl, sym, ap, ◌∙◌, subst, inl, inr, arith}
-use Rattle.std.specs.Prelude.{Option, MatchOption, IsSomeAnd}
-use Rattle.std.proofs.lemmas.Bool.{cases_eq}
-use Rattle.std.proofs.lemmas.List.Elements.{Contains-append_left, Contains-push, Contains-push_cases, All-contains, All-get_or}
+-- The numbers of picks, to which links are counted one at a time.
+use Rattle.std.proofs.Common.{◌≡◌, ◌≢◌, ℕ, ◌+◌, ◌-◌, ◌<◌, ◌≤◌, min, List, [], ◌∷◌, ◌++◌, length, map, get_or, set, Contains, Some, None, sym, ap, ◌∙◌, subst, inl, inr, arith}
+use Rattle.std.specs.Prelude.{Option, All}
+use Rattle.std.proofs.lemmas.Bool.{cases_eq, cases_lt}
+use Rattle.std.proofs.lemmas.Int.{ints}
+use Rattle.std.proofs.lemmas.List.{length-map, get_or-map, get_or_default, length-set, get_or-set_same, get_or-set_other}
+use Rattle.std.proofs.lemmas.List.Elements.{Contains-append_left, Contains-push, Contains-push_cases}
 use Rattle.links.specs.declared.links.Link.{Link}
-use Rattle.links.specs.Labels.{label_of, AreLabels}
-use Rattle.links.specs.Link.{IsBelow}
-use Rattle.links.proofs.Keys.{below_irrefl}
+use Rattle.links.specs.Labels.{label_of}
 use Rattle.links.proofs.Members.{contains_none}
-use Rattle.std.proofs.lemmas.List.{get_or_default, length-set, get_or-set_same, get_or-set_other}
-use Rattle.round_theory.specs.LinkSet.{LinkSet, Either, SameLinks}
+use Rattle.round_theory.specs.LinkSet.{LinkSet, SameLinks}
 use Rattle.round_theory.specs.Labelling.{IsVertex}
-use Rattle.round_theory.specs.Offers.{Leaves, IsLeastLeaving, IsLesser}
-use Rattle.round_theory.proofs.Leaving.{leaves_end, leaves_low, leaves_high}
+use Rattle.round_theory.specs.Offers.{Leaves}
+use Rattle.round_theory.proofs.Leaving.{leaves_apart, leaves_end, leaves_low, leaves_high}
 use Rattle.round_theory.proofs.Rounds.{least_leaving_alike}
-use Rattle.round_theory.proofs.Unions.{least_of_both, least_of_first, least_of_second}
-use Rattle.round_core.specs.Picks.{pick_of, Picked, IsPickOf, ArePicks, AreNoPicks}
+use Rattle.round_core.specs.Picks.{pick_of, Picked, IsPickOf, ArePicks}
+use Rattle.round_core.specs.PickNumbers.{IsKeyNumber, no_pick, IsPickNumber, pick_in}
+use Rattle.round_core.specs.OwnPicks.{IsCountedIn, IsNumberOf, AreLeastNumbers, Counts}
+use Rattle.round_core.proofs.PickNumbers.{number_of, has_number, no_pick_is_none, key_is_pick, key_below_no_pick, below_is_less}
 
--- the set of one link
-abbrev Just : Link → LinkSet
-Just l m = m ≡ l
+-- the numbers, once the one at place i is lowered to k where that is less
+record IsLowered (old new : List ℕ) (i k : ℕ) : Type 0 where
+  long : length new ≡ length old
+  here : get_or new i 0 ≡ min (get_or old i 0) k
+  others : (j : ℕ) → j ≢ i → get_or new j 0 ≡ get_or old j 0
 
-seen_or_just : (seen : List Link) (l : Link) → SameLinks (Contains (seen ++ l ∷ [])) (Either (Contains seen) (Just l))
-seen_or_just seen l m = (
-  λ m_in. elim (Contains-push_cases seen l m m_in) [ inl before ↦ inl before | inr is ↦ inr (sym is) ],
-  λ either. elim either [ inl before ↦ Contains-append_left seen (l ∷ []) m before | inr is ↦ subst (Contains (seen ++ l ∷ [])) (sym is) (Contains-push seen l) ],
-)
+lowered : (old : List ℕ) (i v k : ℕ) → i < length old → v ≡ min (get_or old i 0) k → IsLowered old (set old i v) i k
+lowered old i v k lt is = record {
+  long = length-set old i v;
+  here = get_or-set_same old i v 0 lt ∙ is;
+  others = λ j other. get_or-set_other old i j v 0 other;
+}
 
--- of the pick so far and the link the lesser
-abbrev pub IsLesserOf : Option Link → Link → Option Link → Type 0
-IsLesserOf best link result = IsSomeAnd result (λ least. MatchOption best (least ≡ link) (λ l. IsLesser l link least))
-
-just_least : (labels : List ℕ) (c : ℕ) (l : Link) → Leaves labels l c → IsLeastLeaving labels (Just l) c l
-just_least labels c l leaves = record { member = refl; leaves = leaves; least = λ m is _ below. below_irrefl l (subst (λ k. IsBelow k l) is below) }
-
--- a label that the link leaves has the lesser of the two as its pick
-pub pick_left : (labels : List ℕ) (seen : List Link) (c : ℕ) (l : Link) (old new : Option Link) → Leaves labels l c → IsPickOf labels (Contains seen) c old → IsLesserOf old l new
-    → IsPickOf labels (Contains (seen ++ l ∷ [])) c new
-pick_left labels seen c l None None leaves is lesser = absurd lesser
-pick_left labels seen c l None (Some new) leaves is lesser =
-    (least_of_second (Contains seen) (Just l) (Contains (seen ++ l ∷ [])) (seen_or_just seen l) labels c is new).1 (subst (IsLeastLeaving labels (Just l) c) (sym lesser) (just_least labels c l leaves))
-pick_left labels seen c l (Some old) None leaves is lesser = absurd lesser
-pick_left labels seen c l (Some old) (Some new) leaves is lesser =
-    (least_of_both (Contains seen) (Just l) (Contains (seen ++ l ∷ [])) (seen_or_just seen l) labels c old l is (just_least labels c l leaves) new).1 lesser
-
--- any other keeps its pick
-pub pick_kept : (labels : List ℕ) (seen : List Link) (c : ℕ) (l : Link) (pick : Option Link) → ¬ (Leaves labels l c) → IsPickOf labels (Contains seen) c pick
-    → IsPickOf labels (Contains (seen ++ l ∷ [])) c pick
-pick_kept labels seen c l None stays is = λ m m_in leaves. elim ((seen_or_just seen l m).0 m_in) [
-  | inl before ↦ is m before leaves
-  | inr just ↦ stays (subst (λ k. Leaves labels k c) just leaves)
+no_more : (old new : List ℕ) (i k : ℕ) → IsLowered old new i k → (j : ℕ) → get_or new j 0 ≤ get_or old j 0
+no_more old new i k low j = elim (cases_eq j i) [
+  | inl is ↦ subst (λ m. get_or new m 0 ≤ get_or old m 0) (sym is) (let here = low.here in omega (arith, here))
+  | inr other ↦ let same = low.others j other in omega (arith, same)
 ]
-pick_kept labels seen c l (Some pick) stays is =
-    (least_of_first (Contains seen) (Just l) (Contains (seen ++ l ∷ [])) (seen_or_just seen l) labels c (λ m just leaves. stays (subst (λ k. Leaves labels k c) just leaves)) pick).1 is
 
--- how the picks change by a link that leaves its two ends' labels
-pub record AreCounted (labels : List ℕ) (l : Link) (best best' : List (Option Link)) : Type 0 where
-  pub len : length best' ≡ length best
-  pub low : IsLesserOf (pick_of best (label_of labels l.low)) l (pick_of best' (label_of labels l.low))
-  pub high : IsLesserOf (pick_of best (label_of labels l.high)) l (pick_of best' (label_of labels l.high))
-  pub others : (c : ℕ) → 1 ≤ c → c ≢ label_of labels l.low → c ≢ label_of labels l.high → pick_of best' c ≡ pick_of best c
-  pub from : (m : Link) → Picked best' m → Picked best m ⊎ (m ≡ l)
+-- to the number of a link that leaves its label
+from_lowered : (labels : List ℕ) (links : List Link) (l : Link) (old new : List ℕ) (c k : ℕ) → 1 ≤ c → IsLowered old new (c - 1) k → Contains links l → Leaves labels l c → IsKeyNumber l k
+    → ((j : ℕ) → j < length old → IsNumberOf labels links (j + 1) (get_or old j 0)) → (j : ℕ) → j < length new → IsNumberOf labels links (j + 1) (get_or new j 0)
+from_lowered labels links l old new c k one low l_in leaves key from j lt = elim (cases_eq j (c - 1)) [
+  | inl is ↦ elim (cases_lt k (get_or old j 0)) [
+    | inl less ↦
+        let now : get_or new j 0 ≡ k = let e = here is in omega (arith, e, less) in
+        let label : c ≡ j + 1 = omega (arith, is, one) in
+        inr (l, l_in, subst (Leaves labels l) label leaves, subst (IsKeyNumber l) (sym now) key)
+    | inr ge ↦ stays (let e = here is in omega (arith, e, ge))
+  ]
+  | inr other ↦ stays (low.others j other)
+]
+  where
+    here : j ≡ c - 1 → get_or new j 0 ≡ min (get_or old j 0) k
+    here is = subst (λ m. get_or new m 0 ≡ min (get_or old m 0) k) (sym is) low.here
 
-pub counted : (labels : List ℕ) (seen : List Link) (l : Link) (best best' : List (Option Link)) → l.high ≤ length labels
-    → label_of labels l.low ≢ label_of labels l.high → AreCounted labels l best best' → ArePicks labels (Contains seen) best → ArePicks labels (Contains (seen ++ l ∷ [])) best'
-counted labels seen l best best' end apart how are = record {
-  each_vertex = how.len ∙ are.each_vertex;
-  ends = λ m picked. elim (how.from m picked) [ inl before ↦ are.ends m before | inr is ↦ subst (λ (k : Link). k.high ≤ length labels) (sym is) end ];
-  least = λ c vertex. elim (cases_eq c (label_of labels l.low)) [
-    | inl is ↦ subst (λ (d : ℕ). IsPickOf labels (Contains (seen ++ l ∷ [])) d (pick_of best' d)) (sym is)
-        (pick_left labels seen (label_of labels l.low) l (pick_of best (label_of labels l.low)) (pick_of best' (label_of labels l.low)) (leaves_low labels l apart)
-        (are.least (label_of labels l.low) (subst (IsVertex (length labels)) is vertex)) how.low)
-    | inr not_low ↦ elim (cases_eq c (label_of labels l.high)) [
-      | inl is ↦ subst (λ (d : ℕ). IsPickOf labels (Contains (seen ++ l ∷ [])) d (pick_of best' d)) (sym is)
-          (pick_left labels seen (label_of labels l.high) l (pick_of best (label_of labels l.high)) (pick_of best' (label_of labels l.high)) (leaves_high labels l apart)
-          (are.least (label_of labels l.high) (subst (IsVertex (length labels)) is vertex)) how.high)
-      | inr not_high ↦ subst (IsPickOf labels (Contains (seen ++ l ∷ [])) c) (sym (how.others c vertex.0 not_low not_high))
-          (pick_kept labels seen c l (pick_of best c) (λ leaves. elim (leaves_end labels l c leaves) [ inl is ↦ not_low is | inr is ↦ not_high is ]) (are.least c vertex))
-    ]
+    stays : get_or new j 0 ≡ get_or old j 0 → IsNumberOf labels links (j + 1) (get_or new j 0)
+    stays same = subst (IsNumberOf labels links (j + 1)) (sym same) (from j (omega (arith, lt, low.long)))
+
+of_more : (labels : List ℕ) (seen : List Link) (l : Link) (c k : ℕ) → IsNumberOf labels seen c k → IsNumberOf labels (seen ++ l ∷ []) c k
+of_more labels seen l c k (inl none) = inl none
+of_more labels seen l c k (inr (m, m_in, leaves, key)) = inr (m, Contains-append_left seen (l ∷ []) m m_in, leaves, key)
+
+-- a link is counted for the labels of both of its ends, where these differ
+module _ (labels numbers : List ℕ) (l : Link) (m a b v w : ℕ) (end : l.high ≤ length labels) (apart : label_of labels l.low ≢ label_of labels l.high) (long : length numbers ≡ length labels)
+    (a_is : a ≡ label_of labels l.low) (b_is : b ≡ label_of labels l.high) (a_in : IsVertex (length labels) a) (b_in : IsVertex (length labels) b) (key : IsKeyNumber l m)
+    (v_is : v ≡ min (get_or numbers (a - 1) 0) m) (w_is : w ≡ min (get_or (set numbers (a - 1) v) (b - 1) 0) m) where
+  abbrev once : List ℕ
+  once = set numbers (a - 1) v
+
+  abbrev twice : List ℕ
+  twice = set once (b - 1) w
+
+  first : IsLowered numbers once (a - 1) m
+  first = lowered numbers (a - 1) v m (omega (arith, a_in.0, a_in.1, long)) v_is
+
+  second : IsLowered once twice (b - 1) m
+  second = lowered once (b - 1) w m (omega (arith, b_in.0, b_in.1, long, first.long)) w_is
+
+  itself : (c k : ℕ) → Leaves labels l c → IsKeyNumber l k → get_or twice (c - 1) 0 ≤ k
+  itself c k leaves k_is = elim (leaves_end labels l c leaves) [
+    | inl is ↦
+        let le = no_more once twice (b - 1) m second (a - 1) in
+        let here = first.here in
+        subst (λ d. get_or twice (d - 1) 0 ≤ k) (a_is ∙ sym is) (omega (arith, ints, le, here, key, k_is))
+    | inr is ↦
+        let here = second.here in
+        subst (λ d. get_or twice (d - 1) 0 ≤ k) (b_is ∙ sym is) (omega (arith, ints, here, key, k_is))
+  ]
+
+  pub counted_one : Counts labels (l ∷ []) numbers twice
+  counted_one seen are = record {
+    each_vertex = second.long ∙ first.long ∙ long;
+    from =
+        from_lowered labels (seen ++ l ∷ []) l once twice b m b_in.0 second (Contains-push seen l) (subst (Leaves labels l) (sym b_is) (leaves_high labels l apart)) key
+        (from_lowered labels (seen ++ l ∷ []) l numbers once a m a_in.0 first (Contains-push seen l) (subst (Leaves labels l) (sym a_is) (leaves_low labels l apart)) key
+        (λ j lt. of_more labels seen l (j + 1) (get_or numbers j 0) (are.from j lt)));
+    counted = λ q q_in. elim (Contains-push_cases seen l q q_in) [
+      | inl before ↦ record {
+        end = (are.counted q before).end;
+        least = λ c k leaves q_is.
+            let was = (are.counted q before).least c k leaves q_is in
+            let le = no_more numbers once (a - 1) m first (c - 1) in
+            let le' = no_more once twice (b - 1) m second (c - 1) in
+            omega (arith, was, le, le');
+      }
+      | inr same ↦ subst (IsCountedIn labels twice) same (record { end = end; least = itself })
+    ];
+  }
+
+-- a link whose ends have one label leaves none, and changes no number
+pub counted_none : (labels : List ℕ) (seen : List Link) (l : Link) (numbers : List ℕ) → l.high ≤ length labels → label_of labels l.low ≡ label_of labels l.high
+    → AreLeastNumbers labels seen numbers → AreLeastNumbers labels (seen ++ l ∷ []) numbers
+counted_none labels seen l numbers end same are = record {
+  each_vertex = are.each_vertex;
+  from = λ j lt. of_more labels seen l (j + 1) (get_or numbers j 0) (are.from j lt);
+  counted = λ q q_in. elim (Contains-push_cases seen l q q_in) [
+    | inl before ↦ are.counted q before
+    | inr is ↦ subst (IsCountedIn labels numbers) is (record { end = end; least = λ c k leaves key. absurd (leaves_apart labels l c leaves same) })
   ];
 }
 
--- the picks of no links are none
-pub no_picks : (labels : List ℕ) (best : List (Option Link)) → length best ≡ length labels → AreNoPicks best → ArePicks labels (Contains []) best
-no_picks labels best len none = record {
-  each_vertex = len;
-  ends = λ m picked. let is : Some m ≡ None = All-contains (λ (p : Option Link). p ≡ None) best (Some m) none picked in absurd (cc);
+-- no numbers but those of no picks are the least of no links
+pub none_are_least : (labels numbers : List ℕ) → length numbers ≡ length labels → All (λ k. k ≡ no_pick) numbers → AreLeastNumbers labels [] numbers
+none_are_least labels numbers long none = record { each_vertex = long; from = λ i lt. inl (none i 0 lt); counted = λ l l_in. absurd (contains_none l l_in) }
+
+pub are_numbers : (labels : List ℕ) (links : List Link) (numbers : List ℕ) → AreLeastNumbers labels links numbers → All IsPickNumber numbers
+are_numbers labels links numbers are i d lt = subst IsPickNumber (get_or_default numbers i 0 d lt) (elim (are.from i lt) [
+  | inl none ↦ inl none
+  | inr (l, _, _, key) ↦ inr (l, key)
+])
+
+-- the picks of the least numbers are those of the links: no link that leaves a label has a lesser number than its pick
+are_picks : (labels : List ℕ) (links : List Link) (numbers : List ℕ) → AreLeastNumbers labels links numbers → ArePicks labels (Contains links) (map pick_in numbers)
+are_picks labels links numbers are = record {
+  each_vertex = length-map numbers pick_in ∙ are.each_vertex;
+  ends = λ l (i, lt, at).
+      let within : i < length numbers = omega (arith, lt, length-map numbers pick_in) in
+      let picked : pick_in (get_or numbers i 0) ≡ Some l = sym (get_or-map pick_in numbers i 0 (Some l) within) ∙ at in
+      elim (are.from i within) [
+        | inl none ↦ let wrong : None ≡ Some l = sym (no_pick_is_none (get_or numbers i 0) none) ∙ picked in absurd (cc)
+        | inr (m, m_in, _, key) ↦
+            let both : Some m ≡ Some l = sym (key_is_pick m (get_or numbers i 0) key) ∙ picked in
+            let same : m ≡ l = cc in
+            subst (λ (q : Link). q.high ≤ length labels) same (are.counted m m_in).end
+      ];
   least = λ c vertex.
-      let is : pick_of best c ≡ None = All-get_or (λ (p : Option Link). p ≡ None) best (c - 1) None (omega (arith, len, vertex.0, vertex.1)) none in
-      subst (IsPickOf labels (Contains []) c) (sym is) (λ m m_in. absurd (contains_none m m_in));
+      let within : c - 1 < length numbers = omega (arith, vertex.0, vertex.1, are.each_vertex) in
+      let number : ℕ = get_or numbers (c - 1) 0 in
+      let pick : pick_of (map pick_in numbers) c ≡ pick_in number = get_or-map pick_in numbers (c - 1) 0 None within in
+      let label : c - 1 + 1 ≡ c = omega (arith, vertex.0) in
+      subst (IsPickOf labels (Contains links) c) (sym pick) (elim (are.from (c - 1) within) [
+        | inl none ↦ subst (IsPickOf labels (Contains links) c) (sym (no_pick_is_none number none)) (λ q q_in leaves.
+            let le = (are.counted q q_in).least c (number_of q) leaves (has_number q) in
+            let less = key_below_no_pick q (number_of q) (has_number q) in
+            omega (arith, le, less, none))
+        | inr (l, l_in, leaves, key) ↦ subst (IsPickOf labels (Contains links) c) (sym (key_is_pick l number key)) (record {
+          member = l_in;
+          leaves = subst (Leaves labels l) label leaves;
+          least = λ q q_in q_leaves below.
+              let le = (are.counted q q_in).least c (number_of q) q_leaves (has_number q) in
+              let less = below_is_less q l (number_of q) number (has_number q) key below in
+              omega (arith, le, less);
+        })
+      ]);
 }
+
+pub picks_are : (labels labels' : List ℕ) (links links' : List Link) (numbers items : List ℕ) (picks : List (Option Link)) → labels ≡ labels' → links ≡ links' → items ≡ numbers → picks ≡ map pick_in items
+    → AreLeastNumbers labels links numbers → ArePicks labels' (Contains links') picks
+picks_are labels labels' links links' numbers items picks same_labels same_links same_items picks_is are = rw (picks_is, same_items, ← same_labels, ← same_links) (are_picks labels links numbers are)
 
 -- picks of sets with the same links
 pub picks_alike : (labels : List ℕ) (S T : LinkSet) (best : List (Option Link)) → SameLinks S T → ArePicks labels S best → ArePicks labels T best
@@ -102,61 +180,3 @@ picks_alike labels S T best same are = record {
     pick_alike : (c : ℕ) (pick : Option Link) → IsPickOf labels S c pick → IsPickOf labels T c pick
     pick_alike c None none = λ m m_in. none m ((same m).1 m_in)
     pick_alike c (Some l) is = least_leaving_alike labels S T c l same is
-
--- writing the lesser of the link and the pick at both of its labels counts it
-picked_set : (best : List (Option Link)) (i : ℕ) (v : Option Link) (m : Link) → Picked (set best i v) m → Picked best m ⊎ (v ≡ Some m)
-picked_set [] i v m (k, lt, at) = absurd (omega (arith, lt))
-picked_set (x ∷ best) zero v m (zero, lt, at) = inr at
-picked_set (x ∷ best) zero v m (suc k, lt, at) = inl (suc k, lt, at)
-picked_set (x ∷ best) (suc i) v m (zero, lt, at) = inl (zero, omega arith, at)
-picked_set (x ∷ best) (suc i) v m (suc k, lt, at) = elim (picked_set best i v m (k, omega (arith, lt), at)) [
-  | inl (j, in_range, here) ↦ inl (suc j, omega (arith, in_range), here)
-  | inr is ↦ inr is
-]
-
-lesser_from : (best : List (Option Link)) (i : ℕ) (x v : Option Link) (l m : Link) → i < length best → x ≡ get_or best i x → IsLesserOf x l v → v ≡ Some m → Picked best m ⊎ (m ≡ l)
-lesser_from best i x None l m lt at lesser is = absurd lesser
-lesser_from best i None (Some w) l m lt at lesser is = let same : w ≡ m = cc in inr (sym same ∙ lesser)
-lesser_from best i (Some x) (Some w) l m lt at lesser is = let same : w ≡ m = cc in elim lesser [
-  | inl (is_x, _) ↦ inl (i, lt, let here : Some x ≡ Some m = ap Some (sym is_x ∙ same) in get_or_default best i (Some m) (Some x) lt ∙ sym at ∙ here)
-  | inr (is_l, _) ↦ inr (sym same ∙ is_l)
-]
-
-pub set_counted : (labels : List ℕ) (l : Link) (best : List (Option Link)) (x y x' y' : Option Link) → AreLabels labels → l.high ≤ length labels → length best ≡ length labels
-    → label_of labels l.low ≢ label_of labels l.high → x ≡ get_or best (label_of labels l.low - 1) x → IsLesserOf x l x'
-    → y ≡ get_or (set best (label_of labels l.low - 1) x') (label_of labels l.high - 1) y → IsLesserOf y l y'
-    → AreCounted labels l best (set (set best (label_of labels l.low - 1) x') (label_of labels l.high - 1) y')
-set_counted labels l best x y x' y' are end len apart x_is x_lesser y_is y_lesser =
-    let a : ℕ = label_of labels l.low in
-    let b : ℕ = label_of labels l.high in
-    let low_in = are.labelled l.low l.from_one (omega (arith, l.ascending, end)) in
-    let high_in = are.labelled l.high (omega (arith, l.from_one, l.ascending)) end in
-    let a_one : 1 ≤ a = low_in.from_one in
-    let b_one : 1 ≤ b = high_in.from_one in
-    let a_lt : a - 1 < length best = omega (arith, low_in.at_most_itself, l.ascending, end, len, l.from_one, a_one) in
-    let b_lt : b - 1 < length best = omega (arith, high_in.at_most_itself, end, len, l.from_one, b_one, l.ascending) in
-    let differ : b - 1 ≢ a - 1 = λ same. apart (omega (arith, same, a_one, b_one)) in
-    let best1 : List (Option Link) = set best (a - 1) x' in
-    let len1 : length best1 ≡ length best = length-set best (a - 1) x' in
-    let y_old : y ≡ get_or best (b - 1) y = y_is ∙ get_or-set_other best (a - 1) (b - 1) x' y differ in
-    record {
-      len = length-set best1 (b - 1) y' ∙ len1;
-      low =
-          let new : get_or (set best1 (b - 1) y') (a - 1) None ≡ x' = get_or-set_other best1 (b - 1) (a - 1) y' None (λ same. differ (sym same)) ∙ get_or-set_same best (a - 1) x' None a_lt in
-          let old : get_or best (a - 1) None ≡ x = get_or_default best (a - 1) None x a_lt ∙ sym x_is in
-          rw (new, old) x_lesser;
-      high =
-          let new : get_or (set best1 (b - 1) y') (b - 1) None ≡ y' = get_or-set_same best1 (b - 1) y' None (omega (arith, b_lt, len1)) in
-          let old : get_or best (b - 1) None ≡ y = get_or_default best (b - 1) None y b_lt ∙ sym y_old in
-          rw (new, old) y_lesser;
-      others = λ c c_one not_low not_high.
-          get_or-set_other best1 (b - 1) (c - 1) y' None (λ same. not_high (omega (arith, same, c_one, b_one)))
-          ∙ get_or-set_other best (a - 1) (c - 1) x' None (λ same. not_low (omega (arith, same, c_one, a_one)));
-      from = λ m picked. elim (picked_set best1 (b - 1) y' m picked) [
-        | inl before ↦ elim (picked_set best (a - 1) x' m before) [
-          | inl earlier ↦ inl earlier
-          | inr is ↦ lesser_from best (a - 1) x x' l m a_lt x_is x_lesser is
-        ]
-        | inr is ↦ lesser_from best (b - 1) y y' l m b_lt y_old y_lesser is
-      ];
-    }

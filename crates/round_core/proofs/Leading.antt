@@ -1,55 +1,33 @@
 -- Where picks lead the roots: each to a root that it is joined to, whose pick is less, or to one that stays.
-use Rattle.std.proofs.Common.{◌≡◌, ◌≢◌, ℕ, ◌+◌, ◌-◌, ◌<◌, ◌≤◌, ◌^◌, ◌⊎◌, min, ℤ, pos, negsuc, Less, List, [], ◌∷◌, length, get_or, Contains, Some, None, refl, sym, ap, ◌∙◌, subst, inl, inr, ◌↔◌, Bool, true, false, not, ltb, ◌&&◌, ◌||◌, arith}
-use Rattle.std.specs.Prelude.{Option, ◌+ℤ◌}
-use Rattle.std.specs.Int.Signed.{◌<ℤ◌}
-use Rattle.std.specs.Ordering.{int_cmp, MatchOrdering}
-use Rattle.std.specs.declared.cmp.Ordering.{Ordering}
+use Rattle.std.proofs.Common.{◌≡◌, ◌≢◌, ℕ, ◌+◌, ◌-◌, ◌<◌, ◌≤◌, ◌^◌, ◌⊎◌, min, List, [], ◌∷◌, length, get_or, Contains, Some, None, refl, sym, ap, ◌∙◌, subst, inl, inr, ◌↔◌, Bool, true, false, not, ltb, ◌&&◌, ◌||◌, arith}
+use Rattle.std.specs.Prelude.{Option}
 use Rattle.std.proofs.lemmas.Bool.{cases_lt, ltb-true, ltb-false}
 use Rattle.std.proofs.lemmas.Int.{ints}
 use Rattle.links.specs.declared.links.Link.{Link}
 use Rattle.links.specs.Link.{IsBelow}
 use Rattle.links.specs.Labels.{label_of, AreLabels}
-use Rattle.links.specs.WideKey.{wide_key}
 use Rattle.links.proofs.Keys.{trichotomy}
-use Rattle.links.proofs.WideKeys.{int_ranks, wide_compares}
 use Rattle.round_theory.specs.Labelling.{IsVertex, JoinsOver}
 use Rattle.round_theory.specs.Offers.{Leaves, IsLeastLeaving, NoneLeaves, Hearing, IsNamed}
 use Rattle.round_theory.proofs.Leaving.{leaves_both_ends, leaves_apart}
 use Rattle.round_core.specs.Picks.{pick_of, Picked, IsPickOf, ArePicks}
-use Rattle.round_core.specs.PickNumbers.{IsKeyNumber}
 use Rattle.round_core.specs.Roots.{IsRoot, AreRoots, HasEndLabels, IsLed, Gives, AreParents, AreNear, IsNear}
 use Rattle.round_core.specs.Solver.{IsFirstPickedAt}
 use Rattle.round_core.proofs.HookWalks.{over_same}
+use Rattle.round_core.proofs.PickNumbers.{number_of, has_number, below_is_less}
 use Rattle.round_core.proofs.Picking.{place_of, picked_there, least_at, least_end, first_at, pick_dec}
 
 -- the rank of a pick is the number of its key
-to_number : ℤ → ℕ
-to_number (pos n) = n
-to_number (negsuc n) = 0
-
 rank_of_pick : Option Link → ℕ
 rank_of_pick None = 0
-rank_of_pick (Some l) = to_number (wide_key l +ℤ pos (2 ^ 127))
+rank_of_pick (Some l) = number_of l
 
 pub rank_of : List (Option Link) → ℕ → ℕ
 rank_of picks c = rank_of_pick (pick_of picks c)
 
-has_number : (l : Link) → IsKeyNumber l (to_number (wide_key l +ℤ pos (2 ^ 127)))
-unfolding to_number
-has_number l = at (wide_key l +ℤ pos (2 ^ 127)) refl
-  where
-    at : (z : ℤ) → wide_key l +ℤ pos (2 ^ 127) ≡ z → pos (to_number z) ≡ z
-    at (pos n) is = refl
-    at (negsuc n) is = absurd (omega (arith, ints, is, l.ascending, l.in_limit, l.weight_fits))
-
 rank_below : (l m : Link) → IsBelow l m → rank_of_pick (Some l) < rank_of_pick (Some m)
 unfolding rank_of_pick
-rank_below l m below =
-    let less : int_cmp (wide_key l) (wide_key m) ≡ Less = sym (wide_compares l m) ∙ below in
-    let ranks : wide_key l <ℤ wide_key m = subst (λ (o : Ordering). MatchOrdering o (wide_key l <ℤ wide_key m) (wide_key l ≡ wide_key m) (wide_key m <ℤ wide_key l)) less (int_ranks (wide_key l) (wide_key m)) in
-    let l_is = has_number l in
-    let m_is = has_number m in
-    omega (arith, ints, ranks, l_is, m_is)
+rank_below l m below = below_is_less l m (number_of l) (number_of m) (has_number l) (has_number m) below
 
 rank_fits : (pick : Option Link) → rank_of_pick pick < 2 ^ 128
 unfolding rank_of_pick

@@ -1,15 +1,12 @@
--- Picks that are found by the components for which links are offered: a pick is one of these links, and where no offered link is
--- below the pick of either of its components the picks are the least. Of light offers, each taken where it is the least, none is.
-use Rattle.std.specs.Prelude.{◌≡◌, ℕ, ◌+◌, ◌<◌, ◌⊎◌, List, length, slice_index, slice_get, All, Any, Contains, Option, Some, IsSomeAnd}
+-- How the numbers of picks come about: each is of a link that is offered for its label, and none of the links offered is less than
+-- the number of a label that it leaves. By threads each link is taken for the label of its offer; of light offers that is enough.
+use Rattle.std.specs.Prelude.{◌≡◌, ℕ, ◌+◌, ◌-◌, ◌<◌, ◌≤◌, ◌⊎◌, List, ◌++◌, length, slice_index, slice_get, All, Any, Contains, Some}
 use Rattle.links.specs.declared.links.Link.{Link}
-use Rattle.links.specs.Link.{IsBelow}
-use Rattle.links.specs.Labels.{label_of}
 use Rattle.links.specs.Offers.{Offer}
 use Rattle.links.specs.Cut.{links_at}
 use Rattle.links.specs.AnswerValue.{AnswerValue}
-use Rattle.round_theory.specs.Labelling.{IsVertex}
-use Rattle.round_core.specs.PickNumbers.{IsKeyNumber}
-use Rattle.round_core.specs.Picks.{pick_of}
+use Rattle.round_theory.specs.Offers.{Leaves}
+use Rattle.round_core.specs.PickNumbers.{IsKeyNumber, no_pick}
 
 -- each offer names a place of the list
 abbrev pub HavePlaces : List Link → List Offer → Type 0
@@ -33,18 +30,25 @@ abbrev pub AreTakenFrom : (ℕ → Link → Type 0) → ℕ → List ℕ → Lis
 AreTakenFrom offered start old new =
     (i : ℕ) → i < length old → (slice_index new i ≡ slice_index old i) ⊎ ((l : Link) × offered (start + i + 1) l × IsKeyNumber l (slice_index new i))
 
--- the pick of each label is a link that is offered for it
-abbrev pub AreOwnPicks : (ℕ → Link → Type 0) → List (Option Link) → Type 0
-AreOwnPicks offered picks = (c : ℕ) (l : Link) → IsVertex (length picks) c → pick_of picks c ≡ Some l → offered c l
+-- the link's ends are labelled, and no label that it leaves has the number of a greater link, or of no pick
+pub record IsCountedIn (labels numbers : List ℕ) (l : Link) : Type 0 where
+  pub end : l.high ≤ length labels
+  pub least : (c k : ℕ) → Leaves labels l c → IsKeyNumber l k → slice_index numbers (c - 1) ≤ k
 
--- label c has a pick, and the link isn't below it
-abbrev pub IsBounded : List (Option Link) → ℕ → Link → Type 0
-IsBounded picks c l = IsSomeAnd (pick_of picks c) (λ pick. ¬ IsBelow l pick)
+-- so it is with each of the links
+abbrev pub AreCountedIn : List ℕ → List ℕ → List Link → Type 0
+AreCountedIn labels numbers links = (l : Link) → Contains links l → IsCountedIn labels numbers l
 
--- the link is below the pick of neither of the labels of its ends
-abbrev pub IsCountedIn : List ℕ → List (Option Link) → Link → Type 0
-IsCountedIn labels picks l = IsBounded picks (label_of labels l.low) l × IsBounded picks (label_of labels l.high) l
+-- the number is that of no pick, or of one of the links that leaves label c
+abbrev pub IsNumberOf : List ℕ → List Link → ℕ → ℕ → Type 0
+IsNumberOf labels links c k = (k ≡ no_pick) ⊎ ((l : Link) × Contains links l × Leaves labels l c × IsKeyNumber l k)
 
--- and so it is with each of the links
-abbrev pub AreCountedIn : List ℕ → List (Option Link) → List Link → Type 0
-AreCountedIn labels picks links = (l : Link) → Contains links l → IsCountedIn labels picks l
+-- the numbers of the least of the links that leave each label
+pub record AreLeastNumbers (labels : List ℕ) (links : List Link) (numbers : List ℕ) : Type 0 where
+  pub each_vertex : length numbers ≡ length labels
+  pub from : (i : ℕ) → i < length numbers → IsNumberOf labels links (i + 1) (slice_index numbers i)
+  pub counted : AreCountedIn labels numbers links
+
+-- links were counted into the numbers: of whatever list they are the least before, of that list and these links they are the least after
+abbrev pub Counts : List ℕ → List Link → List ℕ → List ℕ → Type 0
+Counts labels links old new = (seen : List Link) → AreLeastNumbers labels seen old → AreLeastNumbers labels (seen ++ links) new

@@ -1,5 +1,5 @@
 -- The picks of a round: for each label the least link that was offered of those that leave it.
-use Rattle.std.specs.Prelude.{◌≡◌, ℕ, ◌+◌, ◌-◌, ◌≤◌, List, ◌++◌, length, All, Contains, Option, Some, None, slice_index_or, MatchOption}
+use Rattle.std.specs.Prelude.{◌≡◌, ℕ, ◌+◌, ◌-◌, ◌≤◌, List, length, All, Contains, Option, Some, None, slice_index_or, MatchOption}
 use Rattle.links.specs.declared.links.Link.{Link}
 use Rattle.round_theory.specs.LinkSet.{LinkSet}
 use Rattle.round_theory.specs.Labelling.{IsVertex}
@@ -26,10 +26,6 @@ pub record ArePicks (labels : List ℕ) (S : LinkSet) (picks : List (Option Link
 -- the picks of some answers that were heard
 abbrev pub ArePicksOfHearings : List ℕ → List (Option Link) → Type 0
 ArePicksOfHearings labels picks = (heard : List Hearing) × ArePicks labels (IsNamed heard) picks
-
--- links were counted into the picks: of whatever list they are the picks before, of that list and these links they are the picks after
-abbrev pub Counts : List ℕ → List Link → List (Option Link) → List (Option Link) → Type 0
-Counts labels links old new = (seen : List Link) → ArePicks labels (Contains seen) old → ArePicks labels (Contains (seen ++ links)) new
 
 -- no label has a pick
 abbrev pub AreNoPicks : List (Option Link) → Type 0

@@ -1,20 +1,21 @@
 //! The whole run by one thread, which scans the shards itself.
-ghost use Rattle.std.specs.Prelude.{◌≡◌, ◌≤◌, ◌^◌, max, length, All, IfOk, IfErr};
-ghost use Rattle.links.specs.Labels.{AreLabels};
+ghost use Rattle.std.specs.Prelude.{◌≡◌, ◌≤◌, ◌^◌, max, length, All, Contains, IfOk, IfErr};
 ghost use Rattle.links.specs.Cut.{joined};
 ghost use Rattle.links.specs.Forest.{IsForestOf};
 ghost use Rattle.links.specs.Link.{EndsUpTo};
 ghost use Rattle.round_theory.specs.Rounds.{IsMergingRounds};
-ghost use Rattle.round_core.specs.Picks.{Counts};
+ghost use Rattle.round_core.specs.Picks.{ArePicks};
+ghost use Rattle.round_core.specs.OwnPicks.{AreLeastNumbers};
 ghost use Rattle.round_core.specs.Solver.{vertices, HasRoundsOf, IsRoundOf};
 ghost use Rattle.round_core.specs.declared.solver.SolveFault.TheVariants.{Memory};
 
 use crate::end_labels::EndLabels;
-use crate::picks::Picks;
+use crate::picks::{NO_PICK, Picks};
 use crate::solver::{SolveFault, Solver, Turn};
+use crate::tally::count;
 use limits::MAX_VERTICES;
-use links::{Cut, Forest, Link};
-use std::alloc::Allocator;
+use links::{Cut, Forest, Labels, Link};
+use std::alloc::{AllocError, Allocator};
 
 /// The minimum spanning forest of the links of a cut, between the vertices 1 to `n`, and in how many rounds components
 /// were merged.
@@ -56,25 +57,38 @@ fn go_round<A: Allocator + Copy>(
     ensures round { IfOk result (IsRoundOf (joined cut.now) solver.old solver.new) }
     ensures fault { IfErr result (λ fault. fault ≡ Memory) }
 {
-    let labels = solver.labels();
-    let mut picks = Picks::none(alloc, labels.n())?;
-    count_leaving(&mut picks, &EndLabels::over(labels.as_slice()), cut.links());
+    let picks = picks_of_links(alloc, solver.labels(), cut.links())?;
     solver.step(&picks)
 }
 
-// Counts each of the links that leaves a component, for both of its components.
-fn count_leaving<A: Allocator>(picks: &mut Picks<A>, labels: &EndLabels, links: &[Link])
-    requires labels { AreLabels labels.now }
+// The picks of all of the links.
+fn picks_of_links<A: Allocator + Copy>(
+    alloc: A,
+    labels: &Labels<A>,
+    links: &[Link],
+) -> Result<Picks<A>, AllocError>
     requires ends { EndsUpTo (length labels.now) links.now }
-    requires each_vertex { length picks.old ≡ length labels.now }
-    ensures each_vertex { length picks.new ≡ length picks.old }
-    ensures picks { Counts labels.now links.now picks.old picks.new }
+    ensures { IfOk result (ArePicks labels.now (Contains links.now)) }
+{
+    let mut numbers = Picks::none(alloc, labels.n())?.into_numbers();
+    count_leaving(
+        &EndLabels::over(labels.as_slice()),
+        links,
+        numbers.as_mut_slice(),
+    );
+    Ok(Picks::of_numbers(numbers))
+}
+
+// Counts each of the links that leaves a component, for both of its components.
+fn count_leaving(labels: &EndLabels, links: &[Link], numbers: &mut [u128])
+    requires ends { EndsUpTo (length labels.now) links.now }
+    requires each_vertex { length numbers.old ≡ length labels.now }
+    requires none { All (λ k. k ≡ NO_PICK) numbers.old }
+    ensures { AreLeastNumbers labels.now links.now numbers.new }
 {
     for link in links {
-        let low = labels.of(link.low);
-        let high = labels.of(link.high);
-        if low != high {
-            picks.count(labels, *link);
+        if labels.of(link.low) != labels.of(link.high) {
+            count(labels, *link, numbers);
         }
     }
 }

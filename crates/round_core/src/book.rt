@@ -189,16 +189,15 @@ impl<'a, A: Allocator> RoundBook<'a, A> {
         ensures value { IsBookValue self.entry }
     {
         let RoundBook {
-            round: _,
             cut,
-            labels: _,
             end_labels,
-            taken: _,
             answers,
-            mut picks,
+            picks,
+            ..
         } = self;
-        count_answers(cut, &end_labels, answers.as_slice(), &mut picks);
-        picks
+        let mut numbers = picks.into_numbers();
+        count_answers(cut, &end_labels, answers.as_slice(), numbers.as_mut_slice());
+        Picks::of_numbers(numbers)
     }
 }
 
@@ -214,16 +213,21 @@ impl<'a, A: Allocator + Copy + Send + Sync> RoundBook<'a, A> {
         ensures value { IsBookValue self.entry }
     {
         let RoundBook {
-            round: _,
             cut,
-            labels: _,
             end_labels,
-            taken: _,
             answers,
-            mut picks,
+            picks,
+            ..
         } = self;
-        count_by_threads(rt, cut, &end_labels, answers.as_slice(), &mut picks);
-        picks
+        let mut numbers = picks.into_numbers();
+        count_by_threads(
+            rt,
+            cut,
+            &end_labels,
+            answers.as_slice(),
+            numbers.as_mut_slice(),
+        );
+        Picks::of_numbers(numbers)
     }
 }
 

@@ -1,21 +1,16 @@
-ghost use Rattle.std.specs.Prelude.{OnOk, ◌≡◌, ◌≢◌, List, ◌+◌, ◌-◌, ◌<◌, ◌≤◌, ◌↔◌, [], ◌∷◌, ◌++◌, length, slice_index_or, All, Some, None, IsTrue, IfOk, Contains};
-ghost use Rattle.links.specs.Labels.{label_of, AreLabels};
+ghost use Rattle.std.specs.Prelude.{OnOk, ◌≡◌, ◌<◌, ◌≤◌, ◌↔◌, [], length, map, slice_index_or, All, None, IsTrue, IfOk};
 ghost use Rattle.round_theory.specs.Labelling.{IsVertex};
-ghost use Rattle.round_core.specs.Picks.{pick_of, AreNoPicks, HaveAllPicks, ArePicks, Counts};
-ghost use Rattle.round_core.specs.OwnPicks.{IsPlaced, IsOfferedIn, AreOwnPicks, IsCountedIn};
+ghost use Rattle.round_core.specs.Picks.{pick_of, AreNoPicks, HaveAllPicks};
 ghost use Rattle.round_core.specs.PickNumbers.{IsKeyNumber, IsPickNumber, AreCleared, pick_in};
 
-use crate::end_labels::EndLabels;
-use crate::own_picks::take_by_parts;
+use links::Link;
 use links::sorting::wide;
-use links::{Answer, Cut, Link};
 use std::alloc::{AllocError, Allocator, Global};
 use std::marker::Model;
 use std::mem;
-use std::thread::Threads;
 
 // The number of no pick, past those of all keys.
-const NO_PICK: u128 = u128::MAX;
+pub(crate) const NO_PICK: u128 = u128::MAX;
 
 // A unit of the weight's number, and one of the lower end, in a key's number.
 const PER_WEIGHT: u128 = 1 << 64;
@@ -83,13 +78,31 @@ impl<A: Allocator + Copy> Picks<A> {
         ensures each_vertex { IfOk result (λ picks. length picks ≡ n) }
         ensures none { IfOk result AreNoPicks }
     {
-        let Picks { mut numbers } = self;
+        let mut numbers = self.into_numbers();
         fill_up(&mut numbers, n as usize)?;
         Ok(Picks { numbers })
     }
 }
 
 impl<A: Allocator> Picks<A> {
+    // The numbers of the picks, of which there are none.
+    pub(crate) fn into_numbers(self) -> Vec<u128, A>
+        requires { AreNoPicks self }
+        ensures each_vertex { length result.items ≡ length self }
+        ensures none { All (λ k. k ≡ NO_PICK) result.items }
+    {
+        let Picks { numbers } = self;
+        numbers
+    }
+
+    // The picks of these numbers.
+    pub(crate) fn of_numbers(numbers: Vec<u128, A>) -> Self
+        requires { All IsPickNumber numbers.items }
+        ensures { result ≡ map pick_in numbers.items }
+    {
+        Picks { numbers }
+    }
+
     /// The pick of a label, or of any vertex, which has none where it is no label.
     pub fn of(&self, label: u32) -> Option<Link>
         requires from_one { 1 ≤ label }
@@ -123,14 +136,6 @@ impl<A: Allocator> Picks<A> {
         self.numbers.len()
     }
 
-    // Leaves no label a pick.
-    pub(crate) fn clear(&mut self)
-        ensures each_vertex { length self.new ≡ length self.old }
-        ensures none { AreNoPicks self.new }
-    {
-        clear_all(self.numbers.as_mut_slice());
-    }
-
     // Leaves these labels without a pick. Where no other has one, none is left.
     pub(crate) fn clear_each(&mut self, labels: &[u32])
         requires { All (IsVertex (length self.old)) labels.now }
@@ -148,54 +153,6 @@ impl<A: Allocator> Picks<A> {
     {
         pick_of_number(self.numbers[before])
     }
-
-    // Whether the link is below the pick of neither of its components.
-    #[inline]
-    pub(crate) fn have_counted(&self, labels: &EndLabels, link: Link) -> bool
-        requires each_vertex { length self.now ≡ length labels.now }
-        requires ends { link.high ≤ length labels.now }
-        ensures { IsTrue result ↔ IsCountedIn labels.now self.now link }
-    {
-        let number = key_number(link);
-        let low = labels.of(link.low) as usize - 1;
-        let high = labels.of(link.high) as usize - 1;
-        self.numbers[low] <= number && self.numbers[high] <= number
-    }
-
-    // Counts a link for both of the components that it leaves.
-    #[inline]
-    pub(crate) fn count(&mut self, labels: &EndLabels, link: Link)
-        requires labels { AreLabels labels.now }
-        requires each_vertex { length self.old ≡ length labels.now }
-        requires ends { link.high ≤ length labels.now }
-        requires leaving { label_of labels.now link.low ≢ label_of labels.now link.high }
-        ensures each_vertex { length self.new ≡ length self.old }
-        ensures picks { Counts labels.now (link ∷ []) self.old self.new }
-    {
-        let number = key_number(link);
-        let low = labels.of(link.low) as usize - 1;
-        let high = labels.of(link.high) as usize - 1;
-        self.numbers[low] = self.numbers[low].min(number);
-        self.numbers[high] = self.numbers[high].min(number);
-    }
-}
-
-impl<A: Allocator + Sync> Picks<A> {
-    // Takes, for each component, a link that is offered for it, the least, where no label has a pick; by parts of the labels,
-    // each in a thread of its own where one can be made.
-    pub(crate) fn take_own<R: Threads + Sync>(
-        &mut self,
-        rt: &R,
-        cut: &Cut<A>,
-        answers: &[Answer<A>],
-    )
-        requires placed { All (IsPlaced cut.now) answers.now }
-        requires none { AreNoPicks self.old }
-        ensures each_vertex { length self.new ≡ length self.old }
-        ensures own { AreOwnPicks (IsOfferedIn cut.now answers.now) self.new }
-    {
-        take_by_parts(rt, self.numbers.as_mut_slice(), cut, answers);
-    }
 }
 
 // Makes so many numbers of no pick of others.
@@ -212,15 +169,6 @@ fn are_no_picks(numbers: &[u128]) -> bool
     ensures { IsTrue result ↔ All (λ k. k ≡ NO_PICK) numbers.now }
 {
     numbers.iter().all(|number| *number == NO_PICK)
-}
-
-// Gives each label the number of no pick.
-fn clear_all(numbers: &mut [u128])
-    ensures { All (λ k. k ≡ NO_PICK) numbers.new }
-{
-    for number in numbers.iter_mut() {
-        *number = NO_PICK;
-    }
 }
 
 // Gives these labels the number of no pick.

@@ -4,14 +4,15 @@
 //! all where answers are light: the link's other component has an offer of its own there, of a link that isn't greater. Whether
 //! it is so is looked at, by several threads for an answer of many offers, which write nothing. Where it isn't, all offers are counted in one thread. So
 //! nothing but the time stands on whether the least was taken: what was taken has to be offered, and the look finds the rest.
-ghost use Rattle.std.specs.Prelude.{◌≡◌, ℕ, List, ◌+◌, ◌<◌, ◌↔◌, length, All, Contains, true, IsTrue};
+ghost use Rattle.std.specs.Prelude.{◌≡◌, ◌≢◌, [], ◌∷◌, ◌<◌, ◌≤◌, ◌↔◌, length, All, IsTrue};
 ghost use denote.Param.Send.{IsSync};
+ghost use Rattle.links.specs.Labels.{label_of};
 ghost use Rattle.round_core.specs.BookValue.{named_links, all_named, CanCount, CanCountOffers};
-ghost use Rattle.round_core.specs.Picks.{AreNoPicks, ArePicks, Counts};
-ghost use Rattle.round_core.specs.OwnPicks.{AreCountedIn};
+ghost use Rattle.round_core.specs.OwnPicks.{IsCountedIn, AreCountedIn, AreLeastNumbers, Counts};
 
 use crate::end_labels::EndLabels;
-use crate::picks::Picks;
+use crate::own_picks::take_by_parts;
+use crate::picks::{NO_PICK, key_number};
 use links::{Answer, Cut, Link};
 use rayon::join;
 use std::alloc::Allocator;
@@ -38,36 +39,36 @@ pub(crate) fn count_by_threads<R: Threads + Sync, A: Allocator + Copy + Send + S
     cut: &Cut<A>,
     labels: &EndLabels,
     answers: &[Answer<A>],
-    picks: &mut Picks<A>,
+    numbers: &mut [u128],
 )
     requires can { CanCount cut.now labels.now answers.now }
-    requires each_vertex { length picks.old ≡ length labels.now }
-    requires none { AreNoPicks picks.old }
-    ensures picks { ArePicks labels.now (Contains (all_named cut.now answers.now)) picks.new }
+    requires each_vertex { length numbers.old ≡ length labels.now }
+    requires none { All (λ k. k ≡ NO_PICK) numbers.old }
+    ensures { AreLeastNumbers labels.now (all_named cut.now answers.now) numbers.new }
 {
     if offers_in(answers) < FEW_OFFERS {
-        count_answers(cut, labels, answers, picks);
+        count_answers(cut, labels, answers, numbers);
         return;
     }
-    picks.take_own(rt, cut, answers);
-    if are_counted(rt, cut, labels, answers, picks) {
+    take_by_parts(rt, numbers, cut, answers);
+    if are_counted(rt, cut, labels, answers, numbers) {
         return;
     }
-    picks.clear();
-    count_answers(cut, labels, answers, picks);
+    numbers.fill(NO_PICK);
+    count_answers(cut, labels, answers, numbers);
 }
 
-// Whether no link that the answers offer is below the pick of one of its components.
+// Whether no link that the answers offer is below the number of one of its components.
 fn are_counted<R: Threads + Sync, A: Allocator + Copy + Send + Sync>(
     rt: &R,
     cut: &Cut<A>,
     labels: &EndLabels,
     answers: &[Answer<A>],
-    picks: &Picks<A>,
+    numbers: &[u128],
 ) -> bool
     requires can { CanCount cut.now labels.now answers.now }
-    requires each_vertex { length picks.now ≡ length labels.now }
-    ensures { IsTrue result ↔ AreCountedIn labels.now picks.now (all_named cut.now answers.now) }
+    requires each_vertex { length numbers.now ≡ length labels.now }
+    ensures { IsTrue result ↔ AreCountedIn labels.now numbers.now (all_named cut.now answers.now) }
 {
     for answer in answers {
         let links = cut.shard(answer.shard).links;
@@ -76,7 +77,7 @@ fn are_counted<R: Threads + Sync, A: Allocator + Copy + Send + Sync>(
             labels,
             links,
             answer.offers.pairs(),
-            picks,
+            numbers,
             HALVINGS,
         ) {
             return false;
@@ -88,53 +89,67 @@ fn are_counted<R: Threads + Sync, A: Allocator + Copy + Send + Sync>(
 // The same of the offers of one shard, which are halved so many times, or until few are left; one half goes to a thread of its
 // own where one can be made.
 #[cycle(offers)]
-fn offers_are_counted_by_halves<R: Threads + Sync, A: Allocator + Copy + Send + Sync>(
+fn offers_are_counted_by_halves<R: Threads + Sync>(
     rt: &R,
     labels: &EndLabels,
     links: &[Link],
     pairs: &[(u32, u32)],
-    picks: &Picks<A>,
+    numbers: &[u128],
     halvings: usize,
 ) -> bool
     requires can { CanCountOffers links.now labels.now pairs.now }
-    requires each_vertex { length picks.now ≡ length labels.now }
-    ensures { IsTrue result ↔ AreCountedIn labels.now picks.now (named_links links.now pairs.now) }
+    requires each_vertex { length numbers.now ≡ length labels.now }
+    ensures { IsTrue result ↔ AreCountedIn labels.now numbers.now (named_links links.now pairs.now) }
 {
     if halvings == 0 || pairs.len() < FEW_OFFERS {
-        return offers_are_counted(labels, links, pairs, picks);
+        return offers_are_counted(labels, links, pairs, numbers);
     }
     let (earlier, later) = pairs.split_at(pairs.len() / 2);
     let front = move || -> bool
-        requires { IsSync R.row × IsSync A.row × (0 < halvings)
-            × CanCountOffers links.now labels.now earlier.now × (length picks.now ≡ length labels.now) }
-        ensures { IsTrue result ↔ AreCountedIn labels.entry.now picks.entry.now (named_links links.entry.now earlier.entry.now) }
-    { offers_are_counted_by_halves(rt, labels, links, earlier, picks, halvings - 1) };
+        requires { IsSync R.row × (0 < halvings)
+            × CanCountOffers links.now labels.now earlier.now × (length numbers.now ≡ length labels.now) }
+        ensures { IsTrue result ↔ AreCountedIn labels.entry.now numbers.entry.now (named_links links.entry.now earlier.entry.now) }
+    { offers_are_counted_by_halves(rt, labels, links, earlier, numbers, halvings - 1) };
     let back = move || -> bool
-        requires { IsSync R.row × IsSync A.row × (0 < halvings)
-            × CanCountOffers links.now labels.now later.now × (length picks.now ≡ length labels.now) }
-        ensures { IsTrue result ↔ AreCountedIn labels.entry.now picks.entry.now (named_links links.entry.now later.entry.now) }
-    { offers_are_counted_by_halves(rt, labels, links, later, picks, halvings - 1) };
+        requires { IsSync R.row × (0 < halvings)
+            × CanCountOffers links.now labels.now later.now × (length numbers.now ≡ length labels.now) }
+        ensures { IsTrue result ↔ AreCountedIn labels.entry.now numbers.entry.now (named_links links.entry.now later.entry.now) }
+    { offers_are_counted_by_halves(rt, labels, links, later, numbers, halvings - 1) };
     let (early, late) = join(rt, front, back);
     early && late
 }
 
 // The same in one thread.
-fn offers_are_counted<A: Allocator>(
+fn offers_are_counted(
     labels: &EndLabels,
     links: &[Link],
     pairs: &[(u32, u32)],
-    picks: &Picks<A>,
+    numbers: &[u128],
 ) -> bool
     requires can { CanCountOffers links.now labels.now pairs.now }
-    requires each_vertex { length picks.now ≡ length labels.now }
-    ensures { IsTrue result ↔ AreCountedIn labels.now picks.now (named_links links.now pairs.now) }
+    requires each_vertex { length numbers.now ≡ length labels.now }
+    ensures { IsTrue result ↔ AreCountedIn labels.now numbers.now (named_links links.now pairs.now) }
 {
     for pair in pairs {
-        if !picks.have_counted(labels, links[pair.1 as usize]) {
+        if !is_counted(labels, links[pair.1 as usize], numbers) {
             return false;
         }
     }
     true
+}
+
+// Whether the link is below the number of neither of its components.
+#[inline]
+fn is_counted(labels: &EndLabels, link: Link, numbers: &[u128]) -> bool
+    requires each_vertex { length numbers.now ≡ length labels.now }
+    requires ends { link.high ≤ length labels.now }
+    requires leaving { label_of labels.now link.low ≢ label_of labels.now link.high }
+    ensures { IsTrue result ↔ IsCountedIn labels.now numbers.now link }
+{
+    let number = key_number(link);
+    let low = labels.of(link.low) as usize - 1;
+    let high = labels.of(link.high) as usize - 1;
+    numbers[low] <= number && numbers[high] <= number
 }
 
 // Counts each link that the answers offer, for both of its components, in one thread.
@@ -142,32 +157,41 @@ pub(crate) fn count_answers<A: Allocator>(
     cut: &Cut<A>,
     labels: &EndLabels,
     answers: &[Answer<A>],
-    picks: &mut Picks<A>,
+    numbers: &mut [u128],
 )
     requires can { CanCount cut.now labels.now answers.now }
-    requires each_vertex { length picks.old ≡ length labels.now }
-    ensures each_vertex { length picks.new ≡ length picks.old }
-    ensures picks { Counts labels.now (all_named cut.now answers.now) picks.old picks.new }
+    requires each_vertex { length numbers.old ≡ length labels.now }
+    requires none { All (λ k. k ≡ NO_PICK) numbers.old }
+    ensures { AreLeastNumbers labels.now (all_named cut.now answers.now) numbers.new }
 {
     for answer in answers {
         let links = cut.shard(answer.shard).links;
-        count_all(labels, links, answer.offers.pairs(), picks);
+        count_all(labels, links, answer.offers.pairs(), numbers);
     }
 }
 
 // Counts each offered link of a shard for both of its components.
-fn count_all<A: Allocator>(
-    labels: &EndLabels,
-    links: &[Link],
-    pairs: &[(u32, u32)],
-    picks: &mut Picks<A>,
-)
+fn count_all(labels: &EndLabels, links: &[Link], pairs: &[(u32, u32)], numbers: &mut [u128])
     requires can { CanCountOffers links.now labels.now pairs.now }
-    requires each_vertex { length picks.old ≡ length labels.now }
-    ensures each_vertex { length picks.new ≡ length picks.old }
-    ensures picks { Counts labels.now (named_links links.now pairs.now) picks.old picks.new }
+    requires each_vertex { length numbers.old ≡ length labels.now }
+    ensures { Counts labels.now (named_links links.now pairs.now) numbers.old numbers.new }
 {
     for pair in pairs {
-        picks.count(labels, links[pair.1 as usize]);
+        count(labels, links[pair.1 as usize], numbers);
     }
+}
+
+// Counts a link for both of the components that it leaves.
+#[inline]
+pub(crate) fn count(labels: &EndLabels, link: Link, numbers: &mut [u128])
+    requires each_vertex { length numbers.old ≡ length labels.now }
+    requires ends { link.high ≤ length labels.now }
+    requires leaving { label_of labels.now link.low ≢ label_of labels.now link.high }
+    ensures { Counts labels.now (link ∷ []) numbers.old numbers.new }
+{
+    let number = key_number(link);
+    let low = labels.of(link.low) as usize - 1;
+    let high = labels.of(link.high) as usize - 1;
+    numbers[low] = numbers[low].min(number);
+    numbers[high] = numbers[high].min(number);
 }

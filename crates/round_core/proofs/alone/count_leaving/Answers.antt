@@ -1,35 +1,29 @@
-use Rattle.std.proofs.Common.{◌≡◌, ◌+◌, ◌++◌, [], ◌∷◌, List, Contains, take, sym, ap, ◌∙◌, subst, append_assoc, take_all, arith}
+use Rattle.std.proofs.Common.{◌≡◌, ◌+◌, ◌++◌, ◌≤◌, [], ◌∷◌, List, length, take, sym, ap, ◌∙◌, subst, take_all, arith}
 use Rattle.std.proofs.lemmas.List.{take_more}
+use Rattle.std.proofs.lemmas.List.Elements.{All-get_or}
 use Rattle.links.specs.declared.links.Link.{Link}
-use Rattle.round_core.specs.Picks.{ArePicks}
-use Rattle.round_core.proofs.WholeCuts.{picks_stay}
+use Rattle.round_core.specs.OwnPicks.{AreLeastNumbers}
+use Rattle.round_core.proofs.Counts.{none_are_least, counted_none}
 use Rattle.round_core.proofs.alone.count_leaving.Goals as goal
-use Rattle.round_core.proofs.alone.count_leaving.Goals.{then-low-high, else-low-high}
+use Rattle.round_core.proofs.alone.count_leaving.Goals.{then-of, else-of}
+
+pub loop-link-init : goal.loop-link-init
+loop-link-init c = none_are_least c.args.labels.now c.args.numbers.now c.requires.each_vertex c.requires.none
 
 pub loop-link-preserved : goal.loop-link-preserved
-loop-link-preserved g c =
+loop-link-preserved c =
     let links = c.args.links.now in
     let labels = c.args.labels.now in
     let i = c.loop-link.link-index in
     let l = c.link-item.result in
-    let so_far = c.loop-link.invariant in
     let more : take (i + 1) links ≡ take i links ++ l ∷ [] = take_more links i l c.loop-link-test.true ∙ ap (λ x. take i links ++ x ∷ []) (sym c.link-item.is) in
-    elim c.if-low-high.branch [
-      | then-low-high w ↦ rw w.picks-is (record {
-        each_vertex = w.count.ensures.each_vertex ∙ so_far.each_vertex;
-        picks = λ seen are.
-            let next = append_assoc seen (take i links) (l ∷ []) ∙ ap (λ xs. seen ++ xs) (sym more) in
-            subst (λ (xs : List Link). ArePicks labels (Contains xs) w.count.new.self) next (w.count.ensures.picks (seen ++ take i links) (so_far.picks seen are));
-      })
-      | else-low-high w ↦ rw w.picks-is (record {
-        each_vertex = so_far.each_vertex;
-        picks = λ seen are.
-            let next = append_assoc seen (take i links) (l ∷ []) ∙ ap (λ xs. seen ++ xs) (sym more) in
-            subst (λ (xs : List Link). ArePicks labels (Contains xs) c.loop-link.picks) next (picks_stay labels (seen ++ take i links) l c.loop-link.picks (sym c.of-low.ensures.label ∙ w.if-low-high.false ∙ c.of-high.ensures.label) (so_far.picks seen are));
-      })
-    ]
+    let end = subst (λ (m : Link). m.high ≤ length labels) (sym c.link-item.is) (All-get_or (λ (m : Link). m.high ≤ length labels) links i l c.loop-link-test.true c.requires.ends) in
+    subst (λ (xs : List Link). AreLeastNumbers labels xs c.if-of.numbers) (sym more) (elim c.if-of.branch [
+      | then-of w ↦ rw w.numbers-is (w.count.ensures (take i links) c.loop-link.invariant)
+      | else-of w ↦ rw w.numbers-is (counted_none labels (take i links) l c.loop-link.numbers end (sym c.of.ensures.label ∙ w.if-of.false ∙ c.of-in-loop-link.ensures.label) c.loop-link.invariant)
+    ])
 
-pub returns-clause-picks : goal.returns-clause-picks
-returns-clause-picks g c = λ seen are.
+pub returns : goal.returns
+returns c =
     let all : take c.loop-link.link-index c.args.links.now ≡ c.args.links.now = take_all c.loop-link.link-index c.args.links.now (omega (arith, c.loop-link-test.false)) in
-    subst (λ (xs : List Link). ArePicks c.args.labels.now (Contains (seen ++ xs)) c.loop-link.picks) all (c.loop-link.invariant.picks seen are)
+    subst (λ (xs : List Link). AreLeastNumbers c.args.labels.now xs c.loop-link.numbers) all c.loop-link.invariant

@@ -13,13 +13,13 @@ returns-then-not-offers_are_counted_by_halves g c =
     let i = c.loop-answer.answer-index in
     let cut = c.args.cut.now in
     let labels = c.args.labels.now in
-    let picks = c.args.picks.now in
+    let numbers = c.args.numbers.now in
     let answers = c.args.answers.now in
     let a : AnswerValue = record { round = c.answer.inside.round; shard = c.answer.inside.shard; offers = c.answer.inside.offers } in
     let is : a ≡ get_or answers i a = subst (λ (x : AnswerValue). x ≡ get_or answers i x) (sym c.answer.view_is) c.answer-item.is in
-    let counts : IsTrue c.offers_are_counted_by_halves.result ↔ AreCountedIn labels picks (named_links (links_at cut a.shard) a.offers) = rw (← c.shard.ensures.links, ← c.pairs.ensures.pairs) c.offers_are_counted_by_halves.ensures in (
+    let counts : IsTrue c.offers_are_counted_by_halves.result ↔ AreCountedIn labels numbers (named_links (links_at cut a.shard) a.offers) = rw (← c.shard.ensures.links, ← c.pairs.ensures.pairs) c.offers_are_counted_by_halves.ensures in (
       λ no. absurd (cc),
-      λ all. let yes : c.offers_are_counted_by_halves.result ≡ true = counts.1 (counted_of_one cut labels picks answers i a c.loop-answer-test.true is all) in cc,
+      λ all. let yes : c.offers_are_counted_by_halves.result ≡ true = counts.1 (counted_of_one cut labels numbers answers i a c.loop-answer-test.true is all) in cc,
     )
 
 pub loop-answer-preserved : goal.loop-answer-preserved
@@ -27,16 +27,16 @@ loop-answer-preserved g c =
     let i = c.loop-answer.answer-index in
     let cut = c.args.cut.now in
     let labels = c.args.labels.now in
-    let picks = c.args.picks.now in
+    let numbers = c.args.numbers.now in
     let answers = c.args.answers.now in
     let a : AnswerValue = record { round = c.answer.inside.round; shard = c.answer.inside.shard; offers = c.answer.inside.offers } in
     let is : a ≡ get_or answers i a = subst (λ (x : AnswerValue). x ≡ get_or answers i x) (sym c.answer.view_is) c.answer-item.is in
     let here = named_links (links_at cut a.shard) a.offers in
-    let counts : IsTrue c.offers_are_counted_by_halves.result ↔ AreCountedIn labels picks here = rw (← c.shard.ensures.links, ← c.pairs.ensures.pairs) c.offers_are_counted_by_halves.ensures in
-    (counted_both labels picks (all_named cut (take i answers)) here (all_named cut (take (i + 1) answers)) (sym (one_more_answer cut answers i a c.loop-answer-test.true is))).0
+    let counts : IsTrue c.offers_are_counted_by_halves.result ↔ AreCountedIn labels numbers here = rw (← c.shard.ensures.links, ← c.pairs.ensures.pairs) c.offers_are_counted_by_halves.ensures in
+    (counted_both labels numbers (all_named cut (take i answers)) here (all_named cut (take (i + 1) answers)) (sym (one_more_answer cut answers i a c.loop-answer-test.true is))).0
     (c.loop-answer.invariant, counts.0 c.if-not-offers_are_counted_by_halves.false)
 
 pub returns : goal.returns
 returns g c =
     let all : take c.loop-answer.answer-index c.args.answers.now ≡ c.args.answers.now = take_all c.loop-answer.answer-index c.args.answers.now (omega (arith, c.loop-answer-test.false)) in
-    (λ _. subst (λ (xs : List AnswerValue). AreCountedIn c.args.labels.now c.args.picks.now (all_named c.args.cut.now xs)) all c.loop-answer.invariant, λ _. refl)
+    (λ _. subst (λ (xs : List AnswerValue). AreCountedIn c.args.labels.now c.args.numbers.now (all_named c.args.cut.now xs)) all c.loop-answer.invariant, λ _. refl)

@@ -1,32 +1,27 @@
-use Rattle.std.proofs.Common.{◌≡◌, ◌++◌, List, get_or, take, Contains, sym, ap, ◌∙◌, subst, take_all, append_assoc, arith}
+use Rattle.std.proofs.Common.{◌≡◌, ◌++◌, List, get_or, take, sym, subst, take_all, arith}
 use Rattle.links.specs.declared.links.Link.{Link}
 use Rattle.links.specs.Cut.{links_at}
 use Rattle.links.specs.AnswerValue.{AnswerValue}
 use Rattle.round_core.specs.BookValue.{named_links, all_named}
-use Rattle.round_core.specs.Picks.{ArePicks, Counts}
+use Rattle.round_core.specs.OwnPicks.{AreLeastNumbers, Counts}
 use Rattle.round_core.proofs.Books.{one_more_answer}
+use Rattle.round_core.proofs.Counts.{none_are_least}
 use Rattle.round_core.proofs.tally.count_answers.Goals as goal
 
-pub loop-answer-preserved : goal.loop-answer-preserved
-loop-answer-preserved g c = record {
-  each_vertex = c.count_all.ensures.each_vertex ∙ c.loop-answer.invariant.each_vertex;
-  picks = λ seen are.
-      let i = c.loop-answer.answer-index in
-      let cut = c.args.cut.now in
-      let answers = c.args.answers.now in
-      let named = all_named cut (take i answers) in
-      let before : ArePicks c.args.labels.now (Contains (seen ++ named)) c.loop-answer.picks = c.loop-answer.invariant.picks seen are in
-      let counted : ArePicks c.args.labels.now (Contains ((seen ++ named) ++ named_links c.shard.result.links.now c.pairs.result.now)) c.count_all.new.picks = c.count_all.ensures.picks (seen ++ named) before in
-      let here : ArePicks c.args.labels.now (Contains ((seen ++ named) ++ named_links (links_at cut c.answer.inside.shard) c.answer.inside.offers)) c.count_all.new.picks =
-      rw (← c.shard.ensures.links, ← c.pairs.ensures.pairs) counted in
-      let a : AnswerValue = record { round = c.answer.inside.round; shard = c.answer.inside.shard; offers = c.answer.inside.offers } in
-      let is : a ≡ get_or answers i a = subst (λ (x : AnswerValue). x ≡ get_or answers i x) (sym c.answer.view_is) c.answer-item.is in
-      let more = one_more_answer cut answers i a c.loop-answer-test.true is in
-      let next = append_assoc seen named (named_links (links_at cut a.shard) a.offers) ∙ ap (λ (xs : List Link). seen ++ xs) (sym more) in
-      subst (λ (xs : List Link). ArePicks c.args.labels.now (Contains xs) c.count_all.new.picks) next here;
-}
+pub loop-answer-init : goal.loop-answer-init
+loop-answer-init g c = none_are_least c.args.labels.now c.args.numbers.now c.requires.each_vertex c.requires.none
 
-pub returns-clause-picks : goal.returns-clause-picks
-returns-clause-picks g c =
+pub loop-answer-preserved : goal.loop-answer-preserved
+loop-answer-preserved g c =
+    let i = c.loop-answer.answer-index in
+    let cut = c.args.cut.now in
+    let answers = c.args.answers.now in
+    let a : AnswerValue = record { round = c.answer.inside.round; shard = c.answer.inside.shard; offers = c.answer.inside.offers } in
+    let is : a ≡ get_or answers i a = subst (λ (x : AnswerValue). x ≡ get_or answers i x) (sym c.answer.view_is) c.answer-item.is in
+    let counts : Counts c.args.labels.now (named_links (links_at cut a.shard) a.offers) c.loop-answer.numbers c.count_all.new.numbers = rw (← c.shard.ensures.links, ← c.pairs.ensures.pairs) c.count_all.ensures in
+    subst (λ (xs : List Link). AreLeastNumbers c.args.labels.now xs c.count_all.new.numbers) (sym (one_more_answer cut answers i a c.loop-answer-test.true is)) (counts (all_named cut (take i answers)) c.loop-answer.invariant)
+
+pub returns : goal.returns
+returns g c =
     let all : take c.loop-answer.answer-index c.args.answers.now ≡ c.args.answers.now = take_all c.loop-answer.answer-index c.args.answers.now (omega (arith, c.loop-answer-test.false)) in
-    subst (λ (xs : List AnswerValue). Counts c.args.labels.now (all_named c.args.cut.now xs) c.args.picks.now c.loop-answer.picks) all c.loop-answer.invariant.picks
+    subst (λ (xs : List AnswerValue). AreLeastNumbers c.args.labels.now (all_named c.args.cut.now xs) c.loop-answer.numbers) all c.loop-answer.invariant

@@ -1,22 +1,37 @@
-use Rattle.std.proofs.Common.{ℕ, List, subst}
-use Rattle.links.specs.AnswerValue.{AnswerValue}
+use Rattle.std.proofs.Common.{ℕ, List, length, sym, ap, ◌∙◌, subst}
+use Rattle.std.specs.Prelude.{All}
+use Rattle.std.proofs.lemmas.List.{with_items_is}
 use Rattle.round_theory.specs.Offers.{IsNamed}
-use Rattle.round_core.specs.BookValue.{BookValue, hearings, all_named}
-use Rattle.round_core.specs.Picks.{ArePicks, Counts}
-use Rattle.round_core.proofs.Books.{can_count, picks_of_book}
+use Rattle.round_core.specs.BookValue.{BookValue, hearings}
+use Rattle.round_core.specs.Picks.{ArePicks}
+use Rattle.round_core.specs.PickNumbers.{IsPickNumber}
+use Rattle.round_core.proofs.Books.{can_count, picks_of_numbers}
+use Rattle.round_core.proofs.Counts.{are_numbers}
 use Rattle.round_core.proofs.book.RoundBook.close.Goals as goal
-
-pub returns-clause-picks : goal.returns-clause-picks
-returns-clause-picks g c =
-    let book = c.self.inside in
-    let value : BookValue = record { round = book.round; cut = book.cut.now; labels = book.labels.now; taken = book.taken.items; answers = book.answers.items } in
-    let answers = subst (λ (xs : List AnswerValue). Counts book.end_labels (all_named value.cut xs) book.picks c.count_answers.new.picks) c.as_slice.ensures.value c.count_answers.ensures.picks in
-    let counts = subst (λ (ls : List ℕ). Counts ls (all_named value.cut value.answers) book.picks c.count_answers.new.picks) c.self.invariant.same_labels answers in
-    let picks = picks_of_book value book.picks c.count_answers.new.picks c.self.invariant.room_for_picks c.self.invariant.no_picks counts in
-    subst (λ (p : BookValue). ArePicks p.labels (IsNamed (hearings p)) c.count_answers.new.picks) c.self.view_is picks
 
 pub count_answers-requires-clause-can : goal.count_answers-requires-clause-can
 count_answers-requires-clause-can g c =
     let book = c.self.inside in
     let value : BookValue = record { round = book.round; cut = book.cut.now; labels = book.labels.now; taken = book.taken.items; answers = book.answers.items } in
     can_count value book.end_labels c.as_slice.result.now c.self.invariant.value c.self.invariant.same_labels c.as_slice.ensures.value
+
+pub count_answers-requires-clause-each_vertex : goal.count_answers-requires-clause-each_vertex
+count_answers-requires-clause-each_vertex g c = ap length c.as_mut_slice.ensures.value ∙ c.into_numbers-numbers.ensures.each_vertex ∙ c.self.invariant.room_for_picks ∙ ap length (sym c.self.invariant.same_labels)
+
+pub count_answers-requires-clause-none : goal.count_answers-requires-clause-none
+count_answers-requires-clause-none g c = rw c.as_mut_slice.ensures.value c.into_numbers-numbers.ensures.none
+
+pub of_numbers-requires : goal.of_numbers-requires
+of_numbers-requires g c =
+    let new = c.count_answers.new.numbers in
+    let items = with_items_is c.into_numbers-numbers.result new (c.count_answers.auto.numbers ∙ c.as_mut_slice.ensures.len) in
+    subst (λ (us : List ℕ). All IsPickNumber us) (sym items) (are_numbers _ _ new c.count_answers.ensures)
+
+pub returns-clause-picks : goal.returns-clause-picks
+returns-clause-picks g c =
+    let book = c.self.inside in
+    let new = c.count_answers.new.numbers in
+    let value : BookValue = record { round = book.round; cut = book.cut.now; labels = book.labels.now; taken = book.taken.items; answers = book.answers.items } in
+    let items = with_items_is c.into_numbers-numbers.result new (c.count_answers.auto.numbers ∙ c.as_mut_slice.ensures.len) in
+    subst (λ (p : BookValue). ArePicks p.labels (IsNamed (hearings p)) c.of_numbers.result) c.self.view_is
+    (picks_of_numbers value book.end_labels c.as_slice.result.now new _ c.of_numbers.result c.self.invariant.same_labels c.as_slice.ensures.value items c.of_numbers.ensures c.count_answers.ensures)
