@@ -1,5 +1,5 @@
 -- Where picks lead the roots: each to a root that it is joined to, whose pick is less, or to one that stays.
-use Rattle.std.proofs.Common.{◌≡◌, ◌≢◌, ℕ, ◌+◌, ◌-◌, ◌<◌, ◌≤◌, ◌^◌, ◌⊎◌, min, List, [], ◌∷◌, length, get_or, Contains, Some, None, refl, sym, ap, ◌∙◌, subst, inl, inr, ◌↔◌, Bool, true, false, not, ltb, ◌&&◌, ◌||◌, arith}
+use Rattle.std.proofs.Common.{◌≡◌, ◌≢◌, ℕ, ◌+◌, ◌-◌, ◌*◌, ◌<◌, ◌≤◌, ◌^◌, ◌⊎◌, min, List, [], ◌∷◌, length, get_or, Contains, Some, None, refl, sym, ap, ◌∙◌, subst, inl, inr, ◌↔◌, Bool, true, false, not, ltb, ◌&&◌, ◌||◌, arith}
 use Rattle.std.specs.Prelude.{Option}
 use Rattle.std.proofs.lemmas.Bool.{cases_lt, ltb-true, ltb-false}
 use Rattle.std.proofs.lemmas.Int.{ints}
@@ -11,32 +11,23 @@ use Rattle.round_theory.specs.Labelling.{IsVertex, JoinsOver}
 use Rattle.round_theory.specs.Offers.{Leaves, IsLeastLeaving, NoneLeaves, Hearing, IsNamed}
 use Rattle.round_theory.proofs.Leaving.{leaves_both_ends, leaves_apart}
 use Rattle.round_core.specs.Picks.{pick_of, Picked, IsPickOf, ArePicks}
-use Rattle.round_core.specs.Roots.{IsRoot, AreRoots, HasEndLabels, IsLed, Gives, AreParents, AreNear, IsNear}
+use Rattle.round_core.specs.Roots.{IsRoot, AreRoots, HasEndLabels, IsLed, Gives, AreParents, Descend}
 use Rattle.round_core.specs.Solver.{IsFirstPickedAt}
 use Rattle.round_core.proofs.HookWalks.{over_same}
 use Rattle.round_core.proofs.PickNumbers.{number_of, has_number, below_is_less}
 use Rattle.round_core.proofs.Picking.{place_of, picked_there, least_at, least_end, first_at, pick_dec}
 
--- the rank of a pick is the number of its key
+-- a root's rank is the number of its pick's key, and of equal ones its own
 rank_of_pick : Option Link → ℕ
 rank_of_pick None = 0
 rank_of_pick (Some l) = number_of l
 
 pub rank_of : List (Option Link) → ℕ → ℕ
-rank_of picks c = rank_of_pick (pick_of picks c)
+rank_of picks c = rank_of_pick (pick_of picks c) * 2 ^ 32 + c
 
 rank_below : (l m : Link) → IsBelow l m → rank_of_pick (Some l) < rank_of_pick (Some m)
 unfolding rank_of_pick
 rank_below l m below = below_is_less l m (number_of l) (number_of m) (has_number l) (has_number m) below
-
-rank_fits : (pick : Option Link) → rank_of_pick pick < 2 ^ 128
-unfolding rank_of_pick
-rank_fits None = omega arith
-rank_fits (Some l) = let is = has_number l in omega (arith, ints, is, l.ascending, l.in_limit, l.weight_fits)
-
-pub rank_few : (picks : List (Option Link)) (c : ℕ) → rank_of picks c < 2 ^ 128
-unfolding rank_of
-rank_few picks c = rank_fits (pick_of picks c)
 
 -- the other end of a link that leaves label c
 other_end : (labels : List ℕ) (l : Link) (c : ℕ) → Leaves labels l c → (d : ℕ) × HasEndLabels labels l c d
@@ -287,8 +278,7 @@ module _ (labels : List ℕ) (heard : List Hearing) (picks : List (Option Link))
 
     -- the other label's pick is less, where it isn't the same
     lower : (c : ℕ) (l : Link) → (has : HasPick labels heard picks c l) → pick_of picks c ≡ Some l → pick_of picks has.other ≢ Some l → (pick : Option Link) → pick_of picks has.other ≡ pick
-        → rank_of picks has.other < rank_of picks c
-    unfolding rank_of
+        → rank_of_pick (pick_of picks has.other) < rank_of_pick (pick_of picks c)
     lower c l has here not_there None there =
         let none : NoneLeaves labels (IsNamed heard) has.other = subst (IsPickOf labels (IsNamed heard) has.other) there (are.least has.other has.other_root.0) in
         absurd (none l has.least.member has.leaves_other)
@@ -302,30 +292,30 @@ module _ (labels : List ℕ) (heard : List Hearing) (picks : List (Option Link))
         subst (λ (x : Option Link). rank_of_pick x < rank_of_pick (pick_of picks c)) (sym there)
         (subst (λ (x : Option Link). rank_of_pick (Some m) < rank_of_pick x) (sym here) (rank_below m l below))
 
-    -- a root that doesn't go to one that stays goes to one whose pick is less
-    pub near_at_first : AreNear roots (rank_of picks) 0 parents
-    near_at_first c c_in = by_pick (pick_of picks c) refl
+    -- so a root goes to one whose pick is less, or of two that have one pick the greater to the lesser, or it stays
+    pub descend_at_first : Descend roots (rank_of picks) parents
+    unfolding rank_of
+    descend_at_first c c_in = by_pick (pick_of picks c) refl
       where
         root : IsRoot labels c
         root = (are_roots.exact c).0 c_in
 
-        stays : up c ≡ c → IsNear (rank_of picks) 0 parents c
-        stays is = inl (ap up is)
+        goes : (d : ℕ) → up c ≡ d → rank_of picks d < rank_of picks c → (up c ≡ c) ⊎ (rank_of picks (up c) < rank_of picks c)
+        goes d is less = inr (subst (λ p. rank_of picks p < rank_of picks c) (sym is) less)
 
-        goes : (d : ℕ) → up c ≡ d → up d ≡ d → IsNear (rank_of picks) 0 parents c
-        goes d is own = inl (ap up is ∙ own ∙ sym is)
-
-        by_pick : (pick : Option Link) → pick_of picks c ≡ pick → IsNear (rank_of picks) 0 parents c
-        by_pick None is = stays ((lead c root).stays is)
+        by_pick : (pick : Option Link) → pick_of picks c ≡ pick → (up c ≡ c) ⊎ (rank_of picks (up c) < rank_of picks c)
+        by_pick None is = inl ((lead c root).stays is)
         by_pick (Some l) is =
             let has = has_pick c l root.0 is in
             elim (pick_dec (pick_of picks has.other) l) [
               | inl there ↦
-                  let both = both_to c l has is there in
-                  elim (one_of c has.other (up c) both.0) [ inl here ↦ stays here | inr other ↦ goes has.other other (both.1 ∙ sym both.0 ∙ other) ]
+                  let to : up c ≡ min c has.other = (both_to c l has is there).0 in
+                  let same : rank_of_pick (pick_of picks has.other) ≡ rank_of_pick (pick_of picks c) = ap rank_of_pick (there ∙ sym is) in
+                  elim (cases_lt has.other c) [
+                    | inl less ↦ goes has.other (omega (arith, to, less)) (omega (arith, same, less))
+                    | inr ge ↦ inl (omega (arith, to, ge))
+                  ]
               | inr not_there ↦
-                  let to : up c ≡ has.other = (lead c root).to_other l has.other is has.ends not_there in
-                  let less : rank_of picks has.other < rank_of picks c = lower c l has is not_there (pick_of picks has.other) refl in
-                  let at : rank_of picks (up c) ≡ rank_of picks has.other = ap (rank_of picks) to in
-                  inr (omega (arith, less, at))
+                  let less = lower c l has is not_there (pick_of picks has.other) refl in
+                  goes has.other ((lead c root).to_other l has.other is has.ends not_there) (omega (arith, less, has.other_root.0.1, are_labels.few_vertices))
             ]

@@ -77,13 +77,9 @@ IsSettled parents c = slice_index parents (slice_index parents c) ≡ slice_inde
 abbrev pub AreSettled : List ℕ → List ℕ → Type 0
 AreSettled roots parents = (c : ℕ) → Contains roots c → IsSettled parents c
 
--- the parent of root c is its own parent, or its rank is less than the root's by at least 2^i
-abbrev pub IsNear : (ℕ → ℕ) → ℕ → List ℕ → ℕ → Type 0
-IsNear rank i parents c = IsSettled parents c ⊎ (rank (slice_index parents c) + 2 ^ i ≤ rank c)
-
--- so it is for each root
-abbrev pub AreNear : List ℕ → (ℕ → ℕ) → ℕ → List ℕ → Type 0
-AreNear roots rank i parents = (c : ℕ) → Contains roots c → IsNear rank i parents c
+-- the rank of each root that isn't its own parent is greater than its parent's
+abbrev pub Descend : List ℕ → (ℕ → ℕ) → List ℕ → Type 0
+Descend roots rank parents = (c : ℕ) → Contains roots c → (slice_index parents c ≡ c) ⊎ (rank (slice_index parents c) < rank c)
 
 -- of the roots with the parent of root c, u is the least
 pub record IsLeastUnder (roots parents : List ℕ) (c u : ℕ) : Type 0 where

@@ -1,20 +1,17 @@
-ghost use Rattle.std.specs.Prelude.{◌≡◌, ℕ, List, Option, ◌+◌, ◌<◌, ◌≤◌, ◌==◌, ◌↔◌, length, filter, slice_index, All, AllPairs, Contains, None, EachIndex, IsTrue, IfOk, OnOk, OnErr, false};
+ghost use Rattle.std.specs.Prelude.{◌≡◌, ℕ, List, Option, ◌+◌, ◌<◌, ◌≤◌, ◌==◌, ◌↔◌, length, filter, slice_index, All, AllPairs, Contains, None, EachIndex, IsTrue, IfOk, OnOk, OnErr, true, false};
+ghost use Rattle.std.specs.List.{sum_by};
 ghost use Rattle.links.specs.declared.links.Link.{Link as TheLink};
 ghost use Rattle.links.specs.Labels.{label_of, AreLabels, AreApart};
 ghost use Rattle.round_theory.specs.Labelling.{IsVertex, IsRelabelling};
 ghost use Rattle.round_theory.specs.Offers.{Leaves};
 ghost use Rattle.round_core.specs.Picks.{pick_of, Picked, AreNoPicks, HaveAllPicks, ArePicksOfHearings};
-ghost use Rattle.round_core.specs.Roots.{IsRoot, AreRoots, HasEndLabels, IsLed, IsLedBy, Gives, TakesPicked, ArePointers, AreParents, IsSettled, AreSettled, AreNear, IsLeastUnder, CanStep, Relabels, jumped};
+ghost use Rattle.round_core.specs.Roots.{IsRoot, AreRoots, HasEndLabels, IsLed, IsLedBy, Gives, TakesPicked, ArePointers, AreParents, IsSettled, AreSettled, Descend, IsLeastUnder, CanStep, Relabels, jumped};
 
 use crate::picks::Picks;
 use limits::MAX_VERTICES;
 use links::{Labels, Link};
 use std::alloc::{AllocError, Allocator, Global};
 use std::marker::Model;
-
-// How often all roots jump at most: each time doubles at least how far the rank of a parent is below that of its root,
-// and a rank, the key of a pick, has 128 bits.
-const JUMPS: u32 = 129;
 
 // What stands where no link was taken.
 const BLANK: Link = Link {
@@ -237,7 +234,8 @@ fn lead_each<A: Allocator>(
     Ok(())
 }
 
-// Gives all roots that the picks join one parent, which is one of them, where each has the parent that its pick leads it to.
+// Gives all roots that the picks join one parent, which is one of them, where each has the parent that its pick leads it to. It
+// ends: along parents picks become less, so that each jump to another parent leads to a lesser pick.
 fn join_led<A: Allocator>(picking: Picking<A>, parents: &mut [u32])
     requires can { CanStep picking.labels.now picking.roots.now picking.picks.now }
     requires within { All (λ c. c < length parents.old) picking.roots.now }
@@ -246,11 +244,7 @@ fn join_led<A: Allocator>(picking: Picking<A>, parents: &mut [u32])
     ensures parents { AreParents picking.entry.labels.now picking.entry.roots.now picking.entry.picks.now parents.new }
     ensures settled { AreSettled picking.entry.roots.now parents.new }
 {
-    for _ in 0..JUMPS {
-        if !jump(picking.roots, parents) {
-            return;
-        }
-    }
+    'jumps: while jump(picking.roots, parents) {}
 }
 
 // Lets each root jump three times in a row, where its chain is at hand, and says whether the last jump of one led to another
@@ -260,7 +254,8 @@ fn jump(roots: &[u32], parents: &mut [u32]) -> bool
     ensures pointers { ArePointers roots.now parents.new }
     ensures parents { (labels : List ℕ) (picks : List (Option TheLink))
         → AreParents labels roots.now picks parents.old → AreParents labels roots.now picks parents.new }
-    ensures nearer { (rank : ℕ → ℕ) (i : ℕ) → AreNear roots.now rank i parents.old → AreNear roots.now rank (i + 1) parents.new }
+    ensures descend { (rank : ℕ → ℕ) → Descend roots.now rank parents.old → Descend roots.now rank parents.new }
+    ensures lower { (result ≡ true) → (rank : ℕ → ℕ) → Descend roots.now rank parents.old → sum_by rank parents.new < sum_by rank parents.old }
     ensures settled { (result ≡ false) → AreSettled roots.now parents.new }
 {
     let mut moved = false;
@@ -278,7 +273,7 @@ fn jump_once(parents: &mut [u32], root: u32) -> bool
     requires root { root < length parents.old }
     requires parent { slice_index parents.old root < length parents.old }
     ensures jumped { parents.new ≡ jumped parents.old root }
-    ensures settled { (result ≡ false) → IsSettled parents.old root }
+    ensures settled { (result ≡ false) ↔ IsSettled parents.old root }
 {
     let parent = parents[root as usize];
     let next = parents[parent as usize];
