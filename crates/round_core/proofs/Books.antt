@@ -116,19 +116,19 @@ one_more_answer cut answers i a lt at =
     let more = flat_map_more (λ (x : AnswerValue). named_links (links_at cut x.shard) x.offers) [] (take i answers) a in
     ap (all_named cut) next ∙ sym more
 
+pub in_option : (o : Option Link) (l : Link) → Contains (option_to_list o) l → o ≡ Some l
+in_option None l l_in = absurd (contains_none l l_in)
+in_option (Some m) l (zero, lt, at) = ap Some at
+in_option (Some m) l (suc k, lt, at) = absurd (omega (arith, lt))
+
 -- an offer names just the link at its place
 named_by : (h : Hearing) (l : Link) → Contains (named_links h.shard h.offers) l ↔ Names h l
 named_by h l = (to, back)
   where
-    one : (o : Option Link) → Contains (option_to_list o) l → o ≡ Some l
-    one None l_in = absurd (contains_none l l_in)
-    one (Some m) (zero, lt, at) = ap Some at
-    one (Some m) (suc k, lt, at) = absurd (omega (arith, lt))
-
     to : Contains (named_links h.shard h.offers) l → Names h l
     to l_in =
         let (k, o, lt, at, o_in) = (flat_map_contains (λ (x : Offer). option_to_list (slice_get h.shard x.1)) h.offers l).0 l_in in
-        let some : slice_get h.shard o.1 ≡ Some l = one (slice_get h.shard o.1) o_in in
+        let some : slice_get h.shard o.1 ≡ Some l = in_option (slice_get h.shard o.1) l o_in in
         elim ((slice_get_cases h.shard o.1).1) [
           | inl (x, within, is, here) ↦
               let same : x ≡ l = let both : Some x ≡ Some l = sym is ∙ some in cc in

@@ -8,7 +8,8 @@ use Rattle.std.proofs.lemmas.List.Elements.{Contains-append_left, Contains-push,
 use Rattle.std.proofs.lemmas.List.Quantifiers.{all_pairs_push}
 use Rattle.links.specs.declared.links.Link.{Link}
 use Rattle.links.specs.Labels.{AreLabels}
-use Rattle.round_theory.specs.Offers.{Hearing, IsNamed}
+use Rattle.round_theory.specs.LinkSet.{LinkSet}
+use Rattle.round_theory.specs.Offers.{IsNamed}
 use Rattle.round_theory.proofs.Labels.{labelling_is_labels}
 use Rattle.round_core.specs.Picks.{pick_of, ArePicks, ArePicksOfHearings, AreNoPicks, HaveAllPicks}
 use Rattle.round_core.specs.Roots.{IsRoot, AreRoots, IsLed, IsLedBy, Gives, TakesPicked, IsGiven, AreGiven, CanStep}
@@ -63,15 +64,15 @@ given_more picks labels roots k links l are_roots k_in here are = record {
     ]
 
 -- all roots gave theirs: these are all links picked, since no other vertex has a pick
-pub given_all : (picks : List (Option Link)) (heard : List Hearing) (labels roots : List ℕ) (k : ℕ) (links : List Link) → AreLabels labels → ArePicks labels (IsNamed heard) picks → AreRoots labels roots → length roots ≤ k
+pub given_all : (picks : List (Option Link)) (S : LinkSet) (labels roots : List ℕ) (k : ℕ) (links : List Link) → AreLabels labels → ArePicks labels S picks → AreRoots labels roots → length roots ≤ k
     → AreGiven picks roots k links → ArePickedOnce picks links
-given_all picks heard labels roots k links are_labels are_picks are_roots past are = record {
+given_all picks S labels roots k links are_labels are_picks are_roots past are = record {
   exact = λ l. (
     λ l_in. let (j, lt, within, first) = (are.exact l).0 l_in in picked_there picks (place_at roots j) l first.here,
     λ picked.
         let (i, here) = place_of picks l picked in
         let (j, le, first) = first_place picks i l here in
-        let (m, within, at) = (are_roots.exact (j + 1)).1 (root_at labels heard picks are_labels are_picks j l first.here) in
+        let (m, within, at) = (are_roots.exact (j + 1)).1 (root_at labels S picks are_labels are_picks j l first.here) in
         let root : get_or roots m 0 ≡ j + 1 = get_or_default roots m 0 (j + 1) within ∙ at in
         let place : j ≡ place_at roots m = omega (arith, root) in
         (are.exact l).1 (m, omega (arith, within, past), within, subst (IsFirstPickedAt picks l) place first),
@@ -80,8 +81,8 @@ given_all picks heard labels roots k links are_labels are_picks are_roots past a
 }
 
 -- where no root has a pick, no vertex has one
-pub none_of_roots : (picks : List (Option Link)) (heard : List Hearing) (labels roots : List ℕ) → AreLabels labels → ArePicks labels (IsNamed heard) picks → AreRoots labels roots → All (λ c. pick_of picks c ≡ None) roots ↔ AreNoPicks picks
-none_of_roots picks heard labels roots are_labels are_picks are_roots = (to, back)
+pub none_of_roots : (picks : List (Option Link)) (S : LinkSet) (labels roots : List ℕ) → AreLabels labels → ArePicks labels S picks → AreRoots labels roots → All (λ c. pick_of picks c ≡ None) roots ↔ AreNoPicks picks
+none_of_roots picks S labels roots are_labels are_picks are_roots = (to, back)
   where
     back : AreNoPicks picks → All (λ c. pick_of picks c ≡ None) roots
     back none k d lt = elim (cases_lt (get_or roots k d - 1) (length picks)) [
@@ -95,19 +96,19 @@ none_of_roots picks heard labels roots are_labels are_picks are_roots = (to, bac
         at : (x : Option Link) → get_or picks i None ≡ x → x ≡ None
         at None is = sym is ∙ is
         at (Some l) is =
-            let root = (are_roots.exact (i + 1)).1 (root_at labels heard picks are_labels are_picks i l is) in
+            let root = (are_roots.exact (i + 1)).1 (root_at labels S picks are_labels are_picks i l is) in
             let back : i + 1 - 1 ≡ i = omega arith in
             let wrong : Some l ≡ None = sym is ∙ ap (λ k. get_or picks k None) (sym back) ∙ All-contains (λ c. pick_of picks c ≡ None) roots (i + 1) none root in
             absurd (cc)
 
 pub none_in_progress : (p : Progress) (roots : List ℕ) (picks : List (Option Link)) → IsProgress p → AreRoots p.labels roots → ArePicksOfHearings p.labels picks → All (λ c. pick_of picks c ≡ None) roots ↔ AreNoPicks picks
 none_in_progress p roots picks is are_roots (heard, are) =
-    none_of_roots picks heard p.labels roots (labelling_is_labels (vertices p) (Contains p.taken) p.labels is.few_vertices is.labelling) are are_roots
+    none_of_roots picks (IsNamed heard) p.labels roots (labelling_is_labels (vertices p) (Contains p.taken) p.labels is.few_vertices is.labelling) are are_roots
 
 -- only roots have picks
 pub all_at_roots : (p : Progress) (roots : List ℕ) (picks : List (Option Link)) → IsProgress p → AreRoots p.labels roots → ArePicksOfHearings p.labels picks → HaveAllPicks picks roots
 all_at_roots p roots picks is are_roots (heard, are) i l here =
-    (are_roots.exact (i + 1)).1 (root_at p.labels heard picks (labelling_is_labels (vertices p) (Contains p.taken) p.labels is.few_vertices is.labelling) are i l here)
+    (are_roots.exact (i + 1)).1 (root_at p.labels (IsNamed heard) picks (labelling_is_labels (vertices p) (Contains p.taken) p.labels is.few_vertices is.labelling) are i l here)
 
 -- behind those taken before stand the links that the first i roots give, and then room for those of the others
 pub record HaveGiven (picks : List (Option Link)) (roots : List ℕ) (i : ℕ) (before items : List Link) (count : ℕ) : Type 0 where
@@ -163,7 +164,7 @@ all_given picks labels roots i before items count can past have = record {
   added = have.added;
   behind = have.behind;
   few = let few = have.few in let within = have.within in omega (arith, few, within);
-  once = let (heard, are) = can.picked in given_all picks heard labels roots i have.added can.labelled are can.are_roots past have.given;
+  once = let (heard, are) = can.picked in given_all picks (IsNamed heard) labels roots i have.added can.labelled are can.are_roots past have.given;
 }
 
 -- A root that is led where its pick leads it stays so while others are, and so does each that was led before.

@@ -8,7 +8,8 @@ use Rattle.links.specs.Link.{IsBelow}
 use Rattle.links.specs.Labels.{label_of, AreLabels}
 use Rattle.links.proofs.Keys.{trichotomy}
 use Rattle.round_theory.specs.Labelling.{IsVertex, JoinsOver}
-use Rattle.round_theory.specs.Offers.{Leaves, IsLeastLeaving, NoneLeaves, Hearing, IsNamed}
+use Rattle.round_theory.specs.LinkSet.{LinkSet}
+use Rattle.round_theory.specs.Offers.{Leaves, IsLeastLeaving, NoneLeaves}
 use Rattle.round_theory.proofs.Leaving.{leaves_both_ends, leaves_apart}
 use Rattle.round_core.specs.Picks.{pick_of, Picked, IsPickOf, ArePicks}
 use Rattle.round_core.specs.Roots.{IsRoot, AreRoots, HasEndLabels, IsLed, Gives, AreParents, Descend}
@@ -99,8 +100,8 @@ led_to_other labels picks c d p l here ends not_there is = record {
     other m e m_here m_ends = same_other labels l c d e ends (subst (λ k. HasEndLabels labels k c e) (sym (same m m_here)) m_ends)
 
 -- what is known of a root that has a pick
-record HasPick (labels : List ℕ) (heard : List Hearing) (picks : List (Option Link)) (c : ℕ) (l : Link) : Type 0 where
-  least : IsLeastLeaving labels (IsNamed heard) c l
+record HasPick (labels : List ℕ) (S : LinkSet) (picks : List (Option Link)) (c : ℕ) (l : Link) : Type 0 where
+  least : IsLeastLeaving labels S c l
   picked : Picked picks l
   other : ℕ
   ends : HasEndLabels labels l c other
@@ -116,23 +117,23 @@ leaves_both labels l c d leaves ends = (leaves_both_ends labels l d).1 (leaves_a
     is_end (inl (low, high)) = inr (sym high)
     is_end (inr (low, high)) = inl (sym low)
 
-module _ (labels : List ℕ) (heard : List Hearing) (picks : List (Option Link)) (are_labels : AreLabels labels) (are : ArePicks labels (IsNamed heard) picks) where
+module _ (labels : List ℕ) (S : LinkSet) (picks : List (Option Link)) (are_labels : AreLabels labels) (are : ArePicks labels S picks) where
   pub picked_at : (c : ℕ) (l : Link) → pick_of picks c ≡ Some l → Picked picks l
   picked_at c l here = picked_there picks (c - 1) l here
 
-  has_pick : (c : ℕ) (l : Link) → IsVertex (length labels) c → pick_of picks c ≡ Some l → HasPick labels heard picks c l
+  has_pick : (c : ℕ) (l : Link) → IsVertex (length labels) c → pick_of picks c ≡ Some l → HasPick labels S picks c l
   has_pick c l vertex here =
-      let least : IsLeastLeaving labels (IsNamed heard) c l = subst (IsPickOf labels (IsNamed heard) c) here (are.least c vertex) in
+      let least : IsLeastLeaving labels S c l = subst (IsPickOf labels S c) here (are.least c vertex) in
       let picked = picked_at c l here in
       let (d, ends) = other_end labels l c least.leaves in
       let (root, other_root) = ends_root labels l c d are_labels (are.ends l picked) ends in
       record { least = least; picked = picked; other = d; ends = ends; root = root; other_root = other_root; leaves_other = leaves_both labels l c d least.leaves ends }
 
   -- each picked link is the pick of some root
-  root_of : (l : Link) → Picked picks l → (c : ℕ) × (pick_of picks c ≡ Some l) × HasPick labels heard picks c l
+  root_of : (l : Link) → Picked picks l → (c : ℕ) × (pick_of picks c ≡ Some l) × HasPick labels S picks c l
   root_of l picked =
       let (i, here) = place_of picks l picked in
-      let at = least_at labels heard picks i l are here in
+      let at = least_at labels S picks i l are here in
       let back : i + 1 - 1 ≡ i = omega arith in
       let pick : pick_of picks (i + 1) ≡ Some l = ap (λ k. get_or picks k None) back ∙ here in
       (i + 1, pick, has_pick (i + 1) l at.vertex pick)
@@ -140,7 +141,7 @@ module _ (labels : List ℕ) (heard : List Hearing) (picks : List (Option Link))
   -- so a place that has a pick is that of a root
   pub root_at : (i : ℕ) (l : Link) → get_or picks i None ≡ Some l → IsRoot labels (i + 1)
   root_at i l here =
-      let at = least_at labels heard picks i l are here in
+      let at = least_at labels S picks i l are here in
       let back : i + 1 - 1 ≡ i = omega arith in
       (has_pick (i + 1) l at.vertex (ap (λ k. get_or picks k None) back ∙ here)).root
 
@@ -154,7 +155,7 @@ module _ (labels : List ℕ) (heard : List Hearing) (picks : List (Option Link))
     least_place = ap (λ m. m - 1) (least_is (label_of labels l.low) (label_of labels l.high) ends)
 
     first_here : (pick_of picks d ≢ Some l) ⊎ (c < d) → IsFirstPickedAt picks l (c - 1)
-    first_here takes = first_at labels heard picks (c - 1) l are here (test takes)
+    first_here takes = first_at labels S picks (c - 1) l are here (test takes)
       where
         place : c ≤ d → least_end labels l ≡ c - 1
         place le = let at = least_place in omega (arith, at, le)
@@ -215,7 +216,7 @@ module _ (labels : List ℕ) (heard : List Hearing) (picks : List (Option Link))
     lead c root = led c ((are_roots.exact c).1 root)
 
     -- of two labels that pick one link both go to the lesser
-    both_to : (c : ℕ) (l : Link) → (has : HasPick labels heard picks c l) → pick_of picks c ≡ Some l → pick_of picks has.other ≡ Some l → (up c ≡ min c has.other) × (up has.other ≡ min c has.other)
+    both_to : (c : ℕ) (l : Link) → (has : HasPick labels S picks c l) → pick_of picks c ≡ Some l → pick_of picks has.other ≡ Some l → (up c ≡ min c has.other) × (up has.other ≡ min c has.other)
     both_to c l has here there =
         let to : up c ≡ min c has.other = (lead c has.root).to_lesser l has.other here has.ends there in
         let back : up has.other ≡ min has.other c = (lead has.other has.other_root).to_lesser l c there (turned labels l c has.other has.ends) here in
@@ -233,7 +234,7 @@ module _ (labels : List ℕ) (heard : List Hearing) (picks : List (Option Link))
         stays : up c ≡ c → JoinsOver labels (Picked picks) c (up c)
         stays is = over_same labels (Picked picks) c (up c) (ap (label_of labels) (sym is))
 
-        goes : (l : Link) → (has : HasPick labels heard picks c l) → up c ≡ has.other → JoinsOver labels (Picked picks) c (up c)
+        goes : (l : Link) → (has : HasPick labels S picks c l) → up c ≡ has.other → JoinsOver labels (Picked picks) c (up c)
         goes l has is = subst (JoinsOver labels (Picked picks) c) (sym is) (joins_ends labels picks l c has.other has.picked has.root has.other_root has.ends)
 
         by_pick : (pick : Option Link) → pick_of picks c ≡ pick → JoinsOver labels (Picked picks) c (up c)
@@ -255,7 +256,7 @@ module _ (labels : List ℕ) (heard : List Hearing) (picks : List (Option Link))
         here : pick_of picks c ≡ Some l
         here = (root_of l picked).1
 
-        has : HasPick labels heard picks c l
+        has : HasPick labels S picks c l
         has = (root_of l picked).2
 
         f_up : (d : ℕ) → IsRoot labels d → f d ≡ f (up d)
@@ -277,13 +278,13 @@ module _ (labels : List ℕ) (heard : List Hearing) (picks : List (Option Link))
     are_parents = record { joined = joined_up; together = together_up }
 
     -- the other label's pick is less, where it isn't the same
-    lower : (c : ℕ) (l : Link) → (has : HasPick labels heard picks c l) → pick_of picks c ≡ Some l → pick_of picks has.other ≢ Some l → (pick : Option Link) → pick_of picks has.other ≡ pick
+    lower : (c : ℕ) (l : Link) → (has : HasPick labels S picks c l) → pick_of picks c ≡ Some l → pick_of picks has.other ≢ Some l → (pick : Option Link) → pick_of picks has.other ≡ pick
         → rank_of_pick (pick_of picks has.other) < rank_of_pick (pick_of picks c)
     lower c l has here not_there None there =
-        let none : NoneLeaves labels (IsNamed heard) has.other = subst (IsPickOf labels (IsNamed heard) has.other) there (are.least has.other has.other_root.0) in
+        let none : NoneLeaves labels S has.other = subst (IsPickOf labels S has.other) there (are.least has.other has.other_root.0) in
         absurd (none l has.least.member has.leaves_other)
     lower c l has here not_there (Some m) there =
-        let least : IsLeastLeaving labels (IsNamed heard) has.other m = subst (IsPickOf labels (IsNamed heard) has.other) there (are.least has.other has.other_root.0) in
+        let least : IsLeastLeaving labels S has.other m = subst (IsPickOf labels S has.other) there (are.least has.other has.other_root.0) in
         let not_below : ¬ (IsBelow l m) = least.least l has.least.member has.leaves_other in
         let below : IsBelow m l = elim (trichotomy m l) [
           | inl below ↦ below

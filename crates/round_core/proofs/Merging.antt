@@ -1,7 +1,6 @@
 -- A solver that takes the picks of a round.
 use Rattle.std.proofs.Common.{◌≡◌, ◌≢◌, ℕ, ◌+◌, ◌<◌, ◌≤◌, ◌^◌, max, ◌↔◌, Bool, true, false, List, [], ◌∷◌, ◌++◌, length, get_or, Contains, Some, None, refl, sym, ap, ◌∙◌, subst, length-append, inl, inr, arith}
 use Rattle.std.specs.Prelude.{Option, All, AllPairs, filter, ◌==◌}
-use Rattle.std.specs.List.{AllByRecursion}
 use Rattle.std.proofs.lemmas.Bool.{cases_lt}
 use Rattle.std.proofs.lemmas.Nat.{pow_below}
 use Rattle.std.proofs.lemmas.List.Elements.{Contains-get_or, All-append}
@@ -10,8 +9,8 @@ use Rattle.links.specs.Link.{EndsUpTo}
 use Rattle.links.specs.Labels.{label_of, AreLabels, AreApart}
 use Rattle.links.proofs.Members.{contains_none}
 use Rattle.round_theory.specs.LinkSet.{LinkSet, IsPartOf, SameLinks, HasNoCycle}
-use Rattle.round_theory.specs.Labelling.{IsVertex, IsLabelling, JoinsOver, IsRelabelling}
-use Rattle.round_theory.specs.Offers.{IsPick, Hearing, IsNamed}
+use Rattle.round_theory.specs.Labelling.{IsVertex, IsLabelling, IsRelabelling}
+use Rattle.round_theory.specs.Offers.{IsPick, IsNamed}
 use Rattle.round_theory.proofs.Labels.{labelling_is_labels}
 use Rattle.round_theory.proofs.Relabelling.{apart_by_no_links}
 use Rattle.round_theory.proofs.RoundSteps.{all_pairs_append}
@@ -22,7 +21,8 @@ use Rattle.round_core.specs.declared.solver.Turn.{Turn}
 use Rattle.round_core.specs.declared.solver.Turn.TheVariants.{Merged}
 use Rattle.round_core.specs.Roots.{AreRoots}
 use Rattle.round_core.proofs.Naming.{kept_roots, roots_within}
-use Rattle.round_core.proofs.Picking.{place_of, least_at, each_once}
+use Rattle.round_core.proofs.HookWalks.{over_more}
+use Rattle.round_core.proofs.Picking.{picked_is_pick, each_once}
 
 -- so few rounds that the next one's number fits, and its power of two
 pub rounds_few : (n r : ℕ) → n ≤ 2 ^ 26 → 2 ^ r ≤ max 1 n → r ≤ 26
@@ -41,14 +41,6 @@ at_start n labels taken few apart is = rw is (record {
   in_time = omega arith;
 })
 
--- what components and links join, more links join too
-over_more : (labels : List ℕ) (S T : LinkSet) → IsPartOf S T → (u v : ℕ) → JoinsOver labels S u v → JoinsOver labels T u v
-over_more labels S T part u v (walk, all, leads) = (walk, more walk all, leads)
-  where
-    more : (walk : List Link) → AllByRecursion S walk → AllByRecursion T walk
-    more [] all = tt
-    more (l ∷ walk) (here, all) = (part l here, more walk all)
-
 relabelling_alike : (n : ℕ) (old new : List ℕ) (S T : LinkSet) → SameLinks S T → IsRelabelling n old S new → IsRelabelling n old T new
 relabelling_alike n old new S T same is = record {
   each_vertex = is.each_vertex;
@@ -61,34 +53,29 @@ relabelling_alike n old new S T same is = record {
       };
 }
 
-picked_is_pick : (labels : List ℕ) (heard : List Hearing) (picks : List (Option Link)) (l : Link) → ArePicks labels (IsNamed heard) picks → Picked picks l → IsPick labels (IsNamed heard) l
-picked_is_pick labels heard picks l are picked =
-    let (i, here) = place_of picks l picked in
-    (i + 1, (least_at labels heard picks i l are here).least)
+picked_part : (labels : List ℕ) (S : LinkSet) (picks : List (Option Link)) (links : List Link) → ArePicks labels S picks → ArePickedOnce picks links → IsPartOf (Contains links) (IsPick labels S)
+picked_part labels S picks links are once l l_in = picked_is_pick labels S picks l are ((once.exact l).0 l_in)
 
-picked_part : (labels : List ℕ) (heard : List Hearing) (picks : List (Option Link)) (links : List Link) → ArePicks labels (IsNamed heard) picks → ArePickedOnce picks links → IsPartOf (Contains links) (IsPick labels (IsNamed heard))
-picked_part labels heard picks links are once l l_in = picked_is_pick labels heard picks l are ((once.exact l).0 l_in)
-
-picked_ends : (labels : List ℕ) (heard : List Hearing) (picks : List (Option Link)) (links : List Link) → ArePicks labels (IsNamed heard) picks → ArePickedOnce picks links → EndsUpTo (length labels) links
-picked_ends labels heard picks links are once i d lt = are.ends (get_or links i d) ((once.exact (get_or links i d)).0 (Contains-get_or links i d lt))
+picked_ends : (labels : List ℕ) (S : LinkSet) (picks : List (Option Link)) (links : List Link) → ArePicks labels S picks → ArePickedOnce picks links → EndsUpTo (length labels) links
+picked_ends labels S picks links are once i d lt = are.ends (get_or links i d) ((once.exact (get_or links i d)).0 (Contains-get_or links i d lt))
 
 -- the picks join what they pick
 merged : (p : Progress) (picks : List (Option Link)) (labels : List ℕ) (links : List Link) → IsProgress p → ArePicksOfHearings p.labels picks → ArePickedOnce picks links
     → IsRelabelling (vertices p) p.labels (Picked picks) labels → IsLabelling (vertices p) (Contains (p.taken ++ links)) labels
 merged p picks labels links is (heard, are) once joined =
-    (relabelled_by_steps (vertices p) p.taken links p.labels is.ends (picked_ends p.labels heard picks links are once) is.labelling labels).1
+    (relabelled_by_steps (vertices p) p.taken links p.labels is.ends (picked_ends p.labels (IsNamed heard) picks links are once) is.labelling labels).1
     (relabelling_alike (vertices p) p.labels labels (Picked picks) (Contains links) (λ l. ((once.exact l).1, (once.exact l).0)) joined)
 
 -- The links that a step took close no cycle and are new, whatever was heard; and what was a root and still labels itself is one.
-module _ (p q : Progress) (picks : List (Option Link)) (count : ℕ) (is : IsProgress p) (heard : List Hearing) (are : ArePicks p.labels (IsNamed heard) picks) (to : IsMerged picks count p q) where
+module _ (p q : Progress) (picks : List (Option Link)) (count : ℕ) (is : IsProgress p) (S : LinkSet) (are : ArePicks p.labels S picks) (to : IsMerged picks count p q) where
   abbrev long : length q.labels ≡ vertices p
   long = to.labelling.each_vertex
 
-  abbrev part : IsPartOf (Contains to.added) (IsPick p.labels (IsNamed heard))
-  part = picked_part p.labels heard picks to.added are to.picked
+  abbrev part : IsPartOf (Contains to.added) (IsPick p.labels S)
+  part = picked_part p.labels S picks to.added are to.picked
 
   abbrev links_ends : EndsUpTo (vertices p) to.added
-  links_ends = picked_ends p.labels heard picks to.added are to.picked
+  links_ends = picked_ends p.labels S picks to.added are to.picked
 
   pub goes_on : IsProgress q
   goes_on = record {
@@ -96,8 +83,8 @@ module _ (p q : Progress) (picks : List (Option Link)) (count : ℕ) (is : IsPro
     ends = rw (long, to.taken) (All-append (λ (l : Link). l.high ≤ vertices p) p.taken to.added is.ends links_ends);
     labelling = subst (λ m. IsLabelling m (Contains q.taken) q.labels) (sym long) to.labelling;
     each_once = subst (λ (xs : List Link). AllPairs (λ l m. l ≢ m) xs) (sym to.taken) (all_pairs_append (λ l m. l ≢ m) p.taken to.added is.each_once (each_once picks to.added to.picked) (λ l m l_in m_in same.
-        (pick_is_new (IsNamed heard) (vertices p) p.taken p.labels is.ends is.labelling m (part m m_in)).1 (subst (Contains p.taken) same l_in)));
-    no_cycle = subst (λ (xs : List Link). HasNoCycle (Contains xs)) (sym to.taken) (added_close_no_cycle (IsNamed heard) (vertices p) p.taken to.added p.labels is.ends is.labelling is.no_cycle part);
+        (pick_is_new S (vertices p) p.taken p.labels is.ends is.labelling m (part m m_in)).1 (subst (Contains p.taken) same l_in)));
+    no_cycle = subst (λ (xs : List Link). HasNoCycle (Contains xs)) (sym to.taken) (added_close_no_cycle S (vertices p) p.taken to.added p.labels is.ends is.labelling is.no_cycle part);
     in_time = subst (λ m. 2 ^ q.rounds ≤ max 1 m) (sym long) to.in_time;
   }
 
@@ -122,7 +109,7 @@ module _ (p q : Progress) (picks : List (Option Link)) (turn : Turn) (count : �
   pub goes_on_with : (kept : List ℕ) → IsProgress p → ArePicksOfHearings p.labels picks → kept ≡ filter (λ c. label_of labels c == c) roots → IsProgress q × AreRoots q.labels kept
   goes_on_with kept is heard kept_is =
       let rest : kept ≡ filter (λ c. label_of q.labels c == c) roots = kept_is ∙ ap (λ (ls : List ℕ). filter (λ c. label_of ls c == c) roots) new in
-      (goes_on p q picks count is heard.0 heard.1 to, subst (AreRoots q.labels) (sym rest) (roots_after p q picks count is heard.0 heard.1 to roots are_roots))
+      (goes_on p q picks count is (IsNamed heard.0) heard.1 to, subst (AreRoots q.labels) (sym rest) (roots_after p q picks count is (IsNamed heard.0) heard.1 to roots are_roots))
 
 -- where there are picks, some link is taken
 pub some_taken : (picks : List (Option Link)) (links : List Link) → ¬ (AreNoPicks picks) → ArePickedOnce picks links → 0 < length links

@@ -8,7 +8,7 @@ use Rattle.std.proofs.lemmas.List.{drop-set-lt, take-set, length-set, length-map
 use Rattle.std.proofs.lemmas.List.Elements.{Contains-get_or, All-contains}
 use Rattle.std.proofs.lemmas.List.Kept.{AllPairs-filter}
 use Rattle.links.specs.declared.links.Link.{Link}
-use Rattle.links.specs.Labels.{label_of, AreLabels, AreApart}
+use Rattle.links.specs.Labels.{label_of, AreLabels}
 use Rattle.links.specs.Labels.{renamed}
 use Rattle.links.proofs.Kept.{kept_in, kept_if}
 use Rattle.round_theory.specs.Labelling.{IsVertex, JoinsOver, IsRelabelling, IsLeastJoinedOver}
@@ -38,22 +38,6 @@ pub vertex_is_contained : (vertices : List ℕ) (c : ℕ) → ((k : ℕ) → k <
 vertex_is_contained vertices c own vertex =
     let within : c - 1 < length vertices = omega (arith, vertex.0, vertex.1) in
     (c - 1, within, get_or_default vertices (c - 1) c 0 within ∙ own (c - 1) within ∙ (let e : c - 1 + 1 ≡ c = omega (arith, vertex.0) in e))
-
--- each vertex by itself is a root
-pub apart_roots : (n : ℕ) (roots labels : List ℕ) → length roots ≡ n → ((k : ℕ) → k < length roots → get_or roots k 0 ≡ k + 1) → AreApart n labels → AreRoots labels roots
-apart_roots n roots labels long own apart = record {
-  ascending = vertices_ascend roots own;
-  exact = λ c. (to c, back c);
-}
-  where
-    to : (c : ℕ) → Contains roots c → IsRoot labels c
-    to c c_in =
-        let vertex = contained_is_vertex roots c own c_in in
-        let le : c ≤ n = omega (arith, vertex.1, long) in
-        ((vertex.0, omega (arith, le, apart.vertices)), apart.itself c vertex.0 le)
-
-    back : (c : ℕ) → IsRoot labels c → Contains roots c
-    back c (vertex, _) = vertex_is_contained roots c own (vertex.0, omega (arith, vertex.1, apart.vertices, long))
 
 -- of all vertices those that label themselves are the roots
 pub own_roots : (vertices labels : List ℕ) → length vertices ≡ length labels → ((k : ℕ) → k < length vertices → get_or vertices k 0 ≡ k + 1)

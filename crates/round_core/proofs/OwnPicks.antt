@@ -1,14 +1,13 @@
 -- Picks that are found by the components for which links are offered.
-use Rattle.std.proofs.Common.{◌≡◌, ℕ, ◌+◌, ◌-◌, ◌<◌, ◌≤◌, ◌≢◌, ◌⊎◌, ◌↔◌, min, true, false, List, [], ◌∷◌, ◌++◌, length, take, drop, get_or, set, Contains, Some, refl, sym, ap, ◌∙◌, subst, inl, inr, eq-eqb, ne_eqb, arith}
-use Rattle.std.specs.Prelude.{Option, All, slice_get}
+use Rattle.std.proofs.Common.{◌≡◌, ℕ, ◌+◌, ◌-◌, ◌<◌, ◌≤◌, ◌≢◌, ◌⊎◌, ◌↔◌, min, Bool, true, false, List, [], ◌∷◌, ◌++◌, length, map, get_or, set, Contains, Some, refl, sym, ap, ◌∙◌, subst, inl, inr, eq-eqb, ne_eqb, arith}
+use Rattle.std.specs.Prelude.{Option, All, Any, MatchBool, IsTrue, slice_get}
 use Rattle.std.proofs.lemmas.Int.{ints}
 use Rattle.std.specs.List.{list_all}
 use Rattle.std.specs.Option.{option_to_list}
 use Rattle.std.proofs.lemmas.Bool.{cases_lt, cases_eq}
-use Rattle.std.proofs.lemmas.Option.{slice_get_read}
-use Rattle.std.proofs.lemmas.Grind.{flat_map-append}
-use Rattle.std.proofs.lemmas.List.{get_or_default, get_or-set_same, get_or-set_other, take-append-drop}
-use Rattle.std.proofs.lemmas.List.Elements.{All-contains_itself, Contains-append_left, Contains-append_right, Contains-push_cases}
+use Rattle.std.proofs.lemmas.Option.{slice_get_cases, slice_get_read}
+use Rattle.std.proofs.lemmas.List.{get_or_default, get_or-set_same, get_or-set_other}
+use Rattle.std.proofs.lemmas.List.Elements.{All-contains, All-contains_itself, Contains-append_left, Contains-append_right, Contains-push_cases}
 use Rattle.links.specs.declared.links.Link.{Link}
 use Rattle.links.specs.Labels.{label_of}
 use Rattle.links.specs.Offers.{Offer}
@@ -20,7 +19,7 @@ use Rattle.round_theory.specs.Offers.{Leaves}
 use Rattle.round_theory.proofs.Cutting.{any_from, flat_map_contains}
 use Rattle.round_theory.proofs.Leaving.{leaves_end, leaves_low, leaves_high}
 use Rattle.round_theory.proofs.Steps.{append_either}
-use Rattle.round_core.proofs.Books.{all_at, offer_at}
+use Rattle.round_core.proofs.Books.{all_at, offered, offer_at, in_option, map_contains, map_from}
 use Rattle.round_core.specs.PickNumbers.{IsKeyNumber, no_pick}
 use Rattle.round_core.specs.BookValue.{is_leaving, is_offer, named_links, all_named, IsRight, CanCount}
 use Rattle.round_core.specs.OwnPicks.{IsPlaced, IsOfferedBy, IsOfferedIn, AreTakenFrom, IsCountedIn, AreCountedIn, AreLeastNumbers}
@@ -76,11 +75,6 @@ counted_both labels numbers front back whole is = (
     λ l l_in. all l (subst (λ xs. Contains xs l) is (Contains-append_right front back l l_in)),
   ),
 )
-
--- what the first offers name and what the rest do stand one behind the other
-pub offers_in_halves : (links : List Link) (offers : List Offer) (n : ℕ) → named_links links (take n offers) ++ named_links links (drop n offers) ≡ named_links links offers
-offers_in_halves links offers n =
-    sym (flat_map-append (λ (o : Offer). option_to_list (slice_get links o.1)) (take n offers) (drop n offers)) ∙ ap (named_links links) (take-append-drop n offers)
 
 -- the test of an offer, as a relation
 leaves_if : (labels : List ℕ) (c : ℕ) (l : Link) → is_leaving labels c l ≡ true → Leaves labels l c
@@ -154,12 +148,30 @@ counted_by labels numbers l m a b end apart a_is b_is key = (to, back)
       counted.least b m (subst (Leaves labels l) (sym b_is) (leaves_high labels l apart)) key,
     )
 
--- one link more
-pub counted_more : (labels numbers : List ℕ) (links whole : List Link) (l : Link) → whole ≡ links ++ l ∷ [] → AreCountedIn labels numbers links → IsCountedIn labels numbers l → AreCountedIn labels numbers whole
-counted_more labels numbers links whole l is before here m m_in = elim (Contains-push_cases links l m (subst (λ xs. Contains xs m) is m_in)) [
-  | inl earlier ↦ before m earlier
-  | inr same ↦ subst (IsCountedIn labels numbers) same here
-]
+-- the links of offers are counted where a look at each offer finds that the link it names is
+pub all_counted : (labels numbers : List ℕ) (links : List Link) (offers : List Offer) (b : Bool) {X : Type 0} (now : X → Offer) (xs : List X) → map now xs ≡ offers → list_all (is_offer links labels) offers ≡ true
+    → MatchBool b (All (λ x. (l : Link) → slice_get links (now x).1 ≡ Some l → IsTrue true ↔ IsCountedIn labels numbers l) xs) (Any (λ x. (l : Link) → slice_get links (now x).1 ≡ Some l → IsTrue false ↔ IsCountedIn labels numbers l) xs)
+    → IsTrue b ↔ AreCountedIn labels numbers (named_links links offers)
+all_counted labels numbers links offers true now xs are leaving all = (
+  λ _ l l_in.
+      let (k, o, lt, at, named) = (flat_map_contains (λ (o : Offer). option_to_list (slice_get links o.1)) offers l).0 l_in in
+      let (x, x_in, is) = map_from now xs k o (rw are lt) (rw are at) in
+      (All-contains (λ y. (m : Link) → slice_get links (now y).1 ≡ Some m → IsTrue true ↔ IsCountedIn labels numbers m) xs x all x_in l (ap (λ (p : Offer). slice_get links p.1) is ∙ in_option (slice_get links o.1) l named)).0 refl,
+  λ _. refl,
+)
+all_counted labels numbers links offers false now xs are leaving (k, x, lt, at, not) = (
+  λ wrong. absurd (cc),
+  λ counted.
+      let (i, i_lt, i_at) = subst (λ os. Contains os (now x)) are (map_contains now xs x (k, lt, at)) in
+      let passed : is_offer links labels (now x) ≡ true = subst (λ (o : Offer). is_offer links labels o ≡ true) i_at (all_at (is_offer links labels) offers i (now x) i_lt leaving) in
+      let offer = offered links labels (now x) passed in
+      elim ((slice_get_cases links (now x).1).1) [
+        | inl (l, within, some, here) ↦
+            (not l some).1 (counted l ((flat_map_contains (λ (o : Offer). option_to_list (slice_get links o.1)) offers l).1
+            (any_from (λ (o : Offer). Contains (option_to_list (slice_get links o.1)) l) offers (now x) (i, i_lt, i_at) (subst (λ (o : Option Link). Contains (option_to_list o) l) (sym some) (contains_head l [])))))
+        | inr (past, none) ↦ absurd (omega (arith, past, offer.within))
+      ],
+)
 
 -- the links of one answer are among those of all
 pub counted_of_one : (cut : List (List Link)) (labels numbers : List ℕ) (answers : List AnswerValue) (i : ℕ) (a : AnswerValue) → i < length answers → a ≡ get_or answers i a

@@ -6,7 +6,8 @@ use Rattle.links.specs.declared.links.Link.{Link}
 use Rattle.links.specs.Labels.{label_of}
 use Rattle.links.proofs.Keys.{link_dec}
 use Rattle.round_theory.specs.Labelling.{IsVertex}
-use Rattle.round_theory.specs.Offers.{IsLeastLeaving, Hearing, IsNamed}
+use Rattle.round_theory.specs.LinkSet.{LinkSet}
+use Rattle.round_theory.specs.Offers.{IsLeastLeaving, IsPick}
 use Rattle.round_theory.proofs.Leaving.{leaves_end, leaves_apart}
 use Rattle.round_core.specs.Picks.{pick_of, Picked, IsPickOf, ArePicks}
 use Rattle.round_core.specs.Solver.{IsFirstPickedAt, ArePickedOnce}
@@ -26,26 +27,31 @@ pub place_of : (picks : List (Option Link)) (l : Link) → Picked picks l → (i
 place_of picks l (i, within, here) = (i, get_or_default picks i None (Some l) within ∙ here)
 
 -- the pick at a place is the least link that leaves the label of that place
-pub record IsLeastAt (labels : List ℕ) (heard : List Hearing) (i : ℕ) (l : Link) : Type 0 where
+pub record IsLeastAt (labels : List ℕ) (S : LinkSet) (i : ℕ) (l : Link) : Type 0 where
   pub vertex : IsVertex (length labels) (i + 1)
-  pub least : IsLeastLeaving labels (IsNamed heard) (i + 1) l
+  pub least : IsLeastLeaving labels S (i + 1) l
 
-pub least_at : (labels : List ℕ) (heard : List Hearing) (picks : List (Option Link)) (i : ℕ) (l : Link) → ArePicks labels (IsNamed heard) picks → get_or picks i None ≡ Some l → IsLeastAt labels heard i l
-least_at labels heard picks i l are here =
+pub least_at : (labels : List ℕ) (S : LinkSet) (picks : List (Option Link)) (i : ℕ) (l : Link) → ArePicks labels S picks → get_or picks i None ≡ Some l → IsLeastAt labels S i l
+least_at labels S picks i l are here =
     let within = picked_within picks i l here in
     let vertex : IsVertex (length labels) (i + 1) = (omega arith, omega (arith, within, are.each_vertex)) in
     let place : i + 1 - 1 ≡ i = omega arith in
     let pick : pick_of picks (i + 1) ≡ Some l = ap (λ k. get_or picks k None) place ∙ here in
-    record { vertex = vertex; least = subst (IsPickOf labels (IsNamed heard) (i + 1)) pick (are.least (i + 1) vertex) }
+    record { vertex = vertex; least = subst (IsPickOf labels S (i + 1)) pick (are.least (i + 1) vertex) }
+
+pub picked_is_pick : (labels : List ℕ) (S : LinkSet) (picks : List (Option Link)) (l : Link) → ArePicks labels S picks → Picked picks l → IsPick labels S l
+picked_is_pick labels S picks l are picked =
+    let (i, here) = place_of picks l picked in
+    (i + 1, (least_at labels S picks i l are here).least)
 
 -- so the label of the place is that of one end, and the ends have different labels
 record EndsAt (labels : List ℕ) (i : ℕ) (l : Link) : Type 0 where
   apart : label_of labels l.low ≢ label_of labels l.high
   end : (i + 1 ≡ label_of labels l.low) ⊎ (i + 1 ≡ label_of labels l.high)
 
-ends_at : (labels : List ℕ) (heard : List Hearing) (picks : List (Option Link)) (i : ℕ) (l : Link) → ArePicks labels (IsNamed heard) picks → get_or picks i None ≡ Some l → EndsAt labels i l
-ends_at labels heard picks i l are here =
-    let at = least_at labels heard picks i l are here in
+ends_at : (labels : List ℕ) (S : LinkSet) (picks : List (Option Link)) (i : ℕ) (l : Link) → ArePicks labels S picks → get_or picks i None ≡ Some l → EndsAt labels i l
+ends_at labels S picks i l are here =
+    let at = least_at labels S picks i l are here in
     record { apart = leaves_apart labels l (i + 1) at.least.leaves; end = leaves_end labels l (i + 1) at.least.leaves }
 
 -- the lesser label of a link's ends, as a place
@@ -53,14 +59,14 @@ abbrev pub least_end : List ℕ → Link → ℕ
 least_end labels l = min (label_of labels l.low) (label_of labels l.high) - 1
 
 -- where it is the place, or doesn't pick the link, the place is the first that does
-pub first_at : (labels : List ℕ) (heard : List Hearing) (picks : List (Option Link)) (i : ℕ) (l : Link) → ArePicks labels (IsNamed heard) picks → get_or picks i None ≡ Some l
+pub first_at : (labels : List ℕ) (S : LinkSet) (picks : List (Option Link)) (i : ℕ) (l : Link) → ArePicks labels S picks → get_or picks i None ≡ Some l
     → (least_end labels l ≡ i) ⊎ (get_or picks (least_end labels l) None ≢ Some l) → IsFirstPickedAt picks l i
-first_at labels heard picks i l are here test = record { here = here; first = first }
+first_at labels S picks i l are here test = record { here = here; first = first }
   where
     first : (k : ℕ) → k < i → get_or picks k None ≢ Some l
     first k lt there = elim test [
-      | inl is ↦ absurd (before (label_of labels l.low) (label_of labels l.high) (ends_at labels heard picks k l are there).end is)
-      | inr other ↦ other (subst (λ j. get_or picks j None ≡ Some l) (lesser (label_of labels l.low) (label_of labels l.high) (ends_at labels heard picks k l are there).end (ends_at labels heard picks i l are here).end) there)
+      | inl is ↦ absurd (before (label_of labels l.low) (label_of labels l.high) (ends_at labels S picks k l are there).end is)
+      | inr other ↦ other (subst (λ j. get_or picks j None ≡ Some l) (lesser (label_of labels l.low) (label_of labels l.high) (ends_at labels S picks k l are there).end (ends_at labels S picks i l are here).end) there)
     ]
       where
         before : (a b : ℕ) → (k + 1 ≡ a) ⊎ (k + 1 ≡ b) → min a b - 1 ≡ i → ⊥

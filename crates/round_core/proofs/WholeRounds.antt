@@ -25,20 +25,11 @@ use Rattle.round_core.specs.declared.solver.Turn.{Turn}
 use Rattle.round_core.specs.declared.solver.Turn.TheVariants.{Merged, Done}
 use Rattle.round_core.specs.declared.solver.SolveFault.{SolveFault}
 use Rattle.round_core.specs.declared.solver.SolveFault.TheVariants.{Rounds, Missed, Memory}
-use Rattle.round_core.proofs.Picking.{picked_within, picked_there, place_of}
+use Rattle.round_core.proofs.Picking.{picked_there, picked_is_pick}
 use Rattle.round_core.proofs.Missing.{none_leave}
 
 -- what is picked of a list are its picks
 module _ (labels : List ℕ) (links : List Link) (picks : List (Option Link)) (are_labels : AreLabels labels) (ends : EndsUpTo (length labels) links) (are : ArePicks labels (Contains links) picks) where
-  picked_is : (l : Link) → Picked picks l → IsPick labels (Contains links) l
-  picked_is l picked =
-      let (i, here) = place_of picks l picked in
-      let within = picked_within picks i l here in
-      let vertex : IsVertex (length labels) (i + 1) = (omega arith, omega (arith, within, are.each_vertex)) in
-      let place : i + 1 - 1 ≡ i = omega arith in
-      let pick : pick_of picks (i + 1) ≡ Some l = ap (λ k. get_or picks k None) place ∙ here in
-      (i + 1, subst (IsPickOf labels (Contains links) (i + 1)) pick (are.least (i + 1) vertex))
-
   is_picked : (l : Link) → IsPick labels (Contains links) l → Picked picks l
   is_picked l (c, least) =
       let end : l.high ≤ length labels = All-contains (λ (m : Link). m.high ≤ length labels) links l ends least.member in
@@ -49,7 +40,7 @@ module _ (labels : List ℕ) (links : List Link) (picks : List (Option Link)) (a
       at (Some m) is best = picked_there picks (c - 1) l (is ∙ ap Some (least_leaving_unique labels (Contains links) c m l best least))
 
   pub same_picked : SameLinks (Picked picks) (IsPick labels (Contains links))
-  same_picked l = (picked_is l, is_picked l)
+  same_picked l = (picked_is_pick labels (Contains links) picks l are, is_picked l)
 
 same_at : (links taken taken' : List Link) (n n' i i' : ℕ) → n' ≡ n → i' ≡ i → taken' ≡ taken → SameLinks (Contains taken) (TakenAfter n links i) → SameLinks (Contains taken') (TakenAfter n' links i')
 same_at links taken taken' n n' i i' same_n same_i same_taken same =

@@ -1,7 +1,7 @@
 -- Picks as numbers that compare as the keys of the picked links do: the weight, counted from the least one on, the lower
 -- end and the higher end, one behind the other.
-use Rattle.std.specs.Prelude.{◌≡◌, ℕ, ◌-◌, ◌/◌, ◌%◌, ◌^◌, ◌<◌, ◌≤◌, ◌⊎◌, pos, ◌+ℤ◌, ◌-ℤ◌}
-use Rattle.std.specs.Prelude.{List, length, slice_index, Option, Some, None}
+use Rattle.std.specs.Prelude.{◌≡◌, ◌≢◌, ℕ, ◌+◌, ◌-◌, ◌/◌, ◌%◌, ◌^◌, ◌<◌, ◌≤◌, ◌⊎◌, pos, ◌+ℤ◌, ◌-ℤ◌}
+use Rattle.std.specs.Prelude.{List, slice_index, Option, Some, None}
 use Rattle.std.specs.Int.{w64, int_wrap}
 use Rattle.std.proofs.Common.{inl, inr}
 use Rattle.std.proofs.lemmas.Bool.{cases_lt}
@@ -22,11 +22,9 @@ no_pick = 2 ^ 128 - 1
 abbrev pub IsPickNumber : ℕ → Type 0
 IsPickNumber k = (k ≡ no_pick) ⊎ ((l : Link) × IsKeyNumber l k)
 
--- the labels have the number of no pick, and the others what they had
-pub record AreCleared (labels old new : List ℕ) : Type 0 where
-  pub long : length new ≡ length old
-  pub cleared : (j : ℕ) → j < length labels → slice_index new (slice_index labels j - 1) ≡ no_pick
-  pub rest : (i : ℕ) → (slice_index new i ≡ slice_index old i) ⊎ (slice_index new i ≡ no_pick)
+-- the first k labels have the number of no pick, and the others what they had
+abbrev pub AreCleared : List ℕ → ℕ → List ℕ → List ℕ → Type 0
+AreCleared labels k old new = (i : ℕ) → (slice_index new i ≡ no_pick) ⊎ ((slice_index new i ≡ slice_index old i) × ((j : ℕ) → j < k → slice_index labels j ≢ i + 1))
 
 -- the link of a weight of 64 bits, counted from the least one on, and of two ends, where they are a link's
 abbrev pub link_of : (above low high : ℕ) → (0 < low) ⊎ (low ≤ 0) → (low < high) ⊎ (high ≤ low)

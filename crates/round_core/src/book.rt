@@ -202,7 +202,7 @@ impl<'a, A: Allocator> RoundBook<'a, A> {
 }
 
 impl<'a, A: Allocator + Copy + Send + Sync> RoundBook<'a, A> {
-    /// The picks of the round, as `close` makes them, counted by up to four threads where there are 16,384 offers or more.
+    /// The picks of the round, as `close` makes them, counted by several threads where there are 16,384 offers or more.
     ///
     /// Each thread takes the offers for a part of the components, and then all offers are looked at once more: where answers
     /// are light no offered link is below the pick of its other component. Where one is, all are counted as `close` counts

@@ -174,7 +174,7 @@ fn are_no_picks(numbers: &[u128]) -> bool
 // Gives these labels the number of no pick.
 fn clear_each(numbers: &mut [u128], labels: &[u32])
     requires { All (IsVertex (length numbers.old)) labels.now }
-    ensures { AreCleared labels.now numbers.old numbers.new }
+    ensures { AreCleared labels.now (length labels.now) numbers.old numbers.new }
 {
     for label in labels {
         numbers[*label as usize - 1] = NO_PICK;

@@ -1,7 +1,7 @@
 ghost use Rattle.std.specs.Prelude.{◌≡◌, ℕ, List, Option, ◌+◌, ◌<◌, ◌≤◌, ◌==◌, ◌↔◌, length, filter, slice_index, All, AllPairs, Contains, None, EachIndex, IsTrue, IfOk, OnOk, OnErr, true, false};
 ghost use Rattle.std.specs.List.{sum_by};
 ghost use Rattle.links.specs.declared.links.Link.{Link as TheLink};
-ghost use Rattle.links.specs.Labels.{label_of, AreLabels, AreApart};
+ghost use Rattle.links.specs.Labels.{label_of, AreLabels};
 ghost use Rattle.round_theory.specs.Labelling.{IsVertex, IsRelabelling};
 ghost use Rattle.round_theory.specs.Offers.{Leaves};
 ghost use Rattle.round_core.specs.Picks.{pick_of, Picked, AreNoPicks, HaveAllPicks, ArePicksOfHearings};
@@ -40,19 +40,6 @@ impl<A: Allocator> Model for Roots<A> {
 }
 
 impl<A: Allocator + Copy> Roots<A> {
-    // The vertices 1 to n, each of which labels itself.
-    pub(crate) fn apart(alloc: A, n: u32) -> Result<Self, AllocError>
-        requires { n ≤ MAX_VERTICES }
-        ensures { IfOk result (λ roots. (labels : List ℕ) → AreApart n labels → AreRoots labels roots) }
-    {
-        let roots = vertices_to(alloc, n)?;
-        Ok(Roots {
-            roots,
-            parents: Vec::new(alloc),
-            least: Vec::new(alloc),
-        })
-    }
-
     // The vertices that label themselves under these labels.
     pub(crate) fn of_labels(alloc: A, labels: &Labels<A>) -> Result<Self, AllocError>
         ensures { IfOk result (AreRoots labels.now) }
@@ -290,8 +277,8 @@ fn name_roots(roots: &[u32], parents: &mut [u32], least: &mut [u32])
 {
     find_least(roots, parents, least);
     for root in roots {
-        let parent = parents[*root as usize];
-        parents[*root as usize] = least[parent as usize];
+        let name = &mut parents[*root as usize];
+        *name = least[*name as usize];
     }
 }
 

@@ -84,7 +84,7 @@ impl<A: Allocator + Copy> Solver<A> {
         ensures { IfOk result (IsAtStart n) }
     {
         let labels = Labels::apart(alloc, n)?;
-        let roots = Roots::apart(alloc, n)?;
+        let roots = Roots::of_labels(alloc, &labels)?;
         Ok(Solver {
             labels,
             roots,

@@ -4,8 +4,8 @@
 //! all where answers are light: the link's other component has an offer of its own there, of a link that isn't greater. Whether
 //! it is so is looked at, by several threads for an answer of many offers, which write nothing. Where it isn't, all offers are counted in one thread. So
 //! nothing but the time stands on whether the least was taken: what was taken has to be offered, and the look finds the rest.
-ghost use Rattle.std.specs.Prelude.{◌≡◌, ◌≢◌, [], ◌∷◌, ◌<◌, ◌≤◌, ◌↔◌, length, All, IsTrue};
-ghost use denote.Param.Send.{IsSync};
+ghost use Rattle.std.specs.Prelude.{◌≡◌, ◌≢◌, [], ◌∷◌, ◌<◌, ◌≤◌, ◌↔◌, length, slice_get, All, Some, IsTrue};
+ghost use Rattle.links.specs.declared.links.Link.{Link as TheLink};
 ghost use Rattle.links.specs.Labels.{label_of};
 ghost use Rattle.round_core.specs.BookValue.{named_links, all_named, CanCount, CanCountOffers};
 ghost use Rattle.round_core.specs.OwnPicks.{IsCountedIn, AreCountedIn, AreLeastNumbers, Counts};
@@ -14,15 +14,12 @@ use crate::end_labels::EndLabels;
 use crate::own_picks::take_by_parts;
 use crate::picks::{NO_PICK, key_number};
 use links::{Answer, Cut, Link};
-use rayon::join;
+use rayon::prelude::*;
 use std::alloc::Allocator;
 use std::thread::Threads;
 
 // Fewer offers than these are counted in one thread.
 const FEW_OFFERS: usize = 1 << 14;
-
-// How often the offers of an answer are halved for threads that look at them: into four parts.
-const HALVINGS: usize = 2;
 
 // How many offers the answers have.
 pub(crate) fn offers_in<A: Allocator>(answers: &[Answer<A>]) -> usize {
@@ -72,70 +69,33 @@ fn are_counted<R: Threads + Sync, A: Allocator + Copy + Send + Sync>(
 {
     for answer in answers {
         let links = cut.shard(answer.shard).links;
-        if !offers_are_counted_by_halves(
-            rt,
-            labels,
-            links,
-            answer.offers.pairs(),
-            numbers,
-            HALVINGS,
-        ) {
+        if !offers_are_counted(rt, labels, links, answer.offers.pairs(), numbers) {
             return false;
         }
     }
     true
 }
 
-// The same of the offers of one shard, which are halved so many times, or until few are left; one half goes to a thread of its
-// own where one can be made.
-#[cycle(offers)]
-fn offers_are_counted_by_halves<R: Threads + Sync>(
+// The same of the offers of one shard, by several threads where there are many.
+fn offers_are_counted<R: Threads + Sync>(
     rt: &R,
     labels: &EndLabels,
     links: &[Link],
     pairs: &[(u32, u32)],
     numbers: &[u128],
-    halvings: usize,
 ) -> bool
     requires can { CanCountOffers links.now labels.now pairs.now }
     requires each_vertex { length numbers.now ≡ length labels.now }
     ensures { IsTrue result ↔ AreCountedIn labels.now numbers.now (named_links links.now pairs.now) }
 {
-    if halvings == 0 || pairs.len() < FEW_OFFERS {
-        return offers_are_counted(labels, links, pairs, numbers);
-    }
-    let (earlier, later) = pairs.split_at(pairs.len() / 2);
-    let front = move || -> bool
-        requires { IsSync R.row × (0 < halvings)
-            × CanCountOffers links.now labels.now earlier.now × (length numbers.now ≡ length labels.now) }
-        ensures { IsTrue result ↔ AreCountedIn labels.entry.now numbers.entry.now (named_links links.entry.now earlier.entry.now) }
-    { offers_are_counted_by_halves(rt, labels, links, earlier, numbers, halvings - 1) };
-    let back = move || -> bool
-        requires { IsSync R.row × (0 < halvings)
-            × CanCountOffers links.now labels.now later.now × (length numbers.now ≡ length labels.now) }
-        ensures { IsTrue result ↔ AreCountedIn labels.entry.now numbers.entry.now (named_links links.entry.now later.entry.now) }
-    { offers_are_counted_by_halves(rt, labels, links, later, numbers, halvings - 1) };
-    let (early, late) = join(rt, front, back);
-    early && late
-}
-
-// The same in one thread.
-fn offers_are_counted(
-    labels: &EndLabels,
-    links: &[Link],
-    pairs: &[(u32, u32)],
-    numbers: &[u128],
-) -> bool
-    requires can { CanCountOffers links.now labels.now pairs.now }
-    requires each_vertex { length numbers.now ≡ length labels.now }
-    ensures { IsTrue result ↔ AreCountedIn labels.now numbers.now (named_links links.now pairs.now) }
-{
-    for pair in pairs {
-        if !is_counted(labels, links[pair.1 as usize], numbers) {
-            return false;
-        }
-    }
-    true
+    pairs.par_iter().with_min_len(FEW_OFFERS / 2).all(
+        rt,
+        |pair: &(u32, u32)| -> bool
+            requires { CanCountOffers links.now labels.now (pair.now ∷ []) × (length numbers.now ≡ length labels.now) }
+            ensures { (l : TheLink) → slice_get links.entry.now pair.now.1 ≡ Some l
+                → IsTrue result ↔ IsCountedIn labels.entry.now numbers.entry.now l }
+        { is_counted(labels, links[pair.1 as usize], numbers) },
+    )
 }
 
 // Whether the link is below the number of neither of its components.

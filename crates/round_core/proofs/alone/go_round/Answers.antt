@@ -19,20 +19,15 @@ step-requires g c =
     let are : ArePicks p.labels (Contains (joined c.args.cut.now)) c.in_ok-picks.picks = rw (← c.labels.ensures.labels, ← c.links.ensures) c.in_ok-picks.ensures in
     record { picks = picks_of_hearings (joined c.args.cut.now) p.labels c.in_ok-picks.picks are }
 
-pub returns-clause-round : goal.returns-clause-round
-returns-clause-round g c =
+pub returns : goal.returns
+returns g c =
     let p : Progress = c.args.solver.now in
     let links = joined c.args.cut.now in
-    let are : ArePicks p.labels (Contains links) c.in_ok-picks.picks = rw (← c.labels.ensures.labels, ← c.links.ensures) c.in_ok-picks.ensures in
-    IfOk-weaker c.step.result (IsTurn c.in_ok-picks.picks p c.step.new.self) (IsRoundOf links p c.step.new.self)
-    (λ turn is_turn. round_of links p c.in_ok-picks.picks c.labels.ensures.progress (joined_ends (vertices p) c.args.cut.now c.requires.ends) c.requires.so_far are c.step.new.self turn is_turn)
-    c.step.ensures.turn
-
-pub returns-clause-fault : goal.returns-clause-fault
-returns-clause-fault g c =
-    let p : Progress = c.args.solver.now in
-    let links = joined c.args.cut.now in
-    let are : ArePicks p.labels (Contains links) c.in_ok-picks.picks = rw (← c.labels.ensures.labels, ← c.links.ensures) c.in_ok-picks.ensures in
-    IfErr-weaker c.step.result (IsStepFault p c.in_ok-picks.picks) (λ fault. fault ≡ Memory)
-    (λ fault refused. only_memory links p c.in_ok-picks.picks c.labels.ensures.progress (joined_ends (vertices p) c.args.cut.now c.requires.ends) c.requires.so_far are fault refused)
-    c.step.ensures.fault
+    let picks = c.in_ok-picks.picks in
+    let are : ArePicks p.labels (Contains links) picks = rw (← c.labels.ensures.labels, ← c.links.ensures) c.in_ok-picks.ensures in
+    let progress = c.labels.ensures.progress in
+    let ends = joined_ends (vertices p) c.args.cut.now c.requires.ends in
+    record {
+      round = IfOk-weaker c.step.result (IsTurn picks p c.step.new.self) (IsRoundOf links p c.step.new.self) (λ turn. round_of links p picks progress ends c.requires.so_far are c.step.new.self turn) c.step.ensures.turn;
+      fault = IfErr-weaker c.step.result (IsStepFault p picks) (λ fault. fault ≡ Memory) (only_memory links p picks progress ends c.requires.so_far are) c.step.ensures.fault;
+    }

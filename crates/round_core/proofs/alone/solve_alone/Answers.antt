@@ -18,25 +18,15 @@ returns-in_err-forest-clause-fault g c =
     let answered = err_from_is_err_and c.from_residual-in_err-forest.result c.from_residual-in_err-forest.ensures.1 in
     rw (answered.1, answered.2) (finish_only_memory links p c.round-rounds.ensures.progress ends end.so_far end.all c.in_err-forest.field-0.0 c.in_err-forest.ensures.fault)
 
-pub returns-clause-forest : goal.returns-clause-forest
-returns-clause-forest g c =
-    let links = joined c.args.cut.now in
-    let p : Progress = c.go_round.new.solver in
-    let end = ended c.args.n links c.rounds.solver p c.in_ok-go_round.field-0 c.rounds.invariant.same_vertices c.rounds.invariant.so_far c.in_default.is c.in_ok-go_round.ensures.round in
-    is_forest links p end.so_far c.in_ok-forest.forest c.in_ok-forest.ensures.forest
-
-pub returns-clause-rounds : goal.returns-clause-rounds
-returns-clause-rounds g c =
+pub returns : goal.returns
+returns g c =
     let links = joined c.args.cut.now in
     let p : Progress = c.go_round.new.solver in
     let end = ended c.args.n links c.rounds.solver p c.in_ok-go_round.field-0 c.rounds.invariant.same_vertices c.rounds.invariant.so_far c.in_default.is c.in_ok-go_round.ensures.round in
     let number : p.rounds ≡ c.round-rounds.result - 1 = omega (arith, c.round-rounds.ensures.round) in
-    subst (λ r. IsMergingRounds c.args.n links r) number (subst (λ n. IsMergingRounds n links p.rounds) end.same_vertices end.all)
-
-pub returns-clause-in_time : goal.returns-clause-in_time
-returns-clause-in_time g c =
-    let links = joined c.args.cut.now in
-    let p : Progress = c.go_round.new.solver in
-    let end = ended c.args.n links c.rounds.solver p c.in_ok-go_round.field-0 c.rounds.invariant.same_vertices c.rounds.invariant.so_far c.in_default.is c.in_ok-go_round.ensures.round in
-    let number : p.rounds ≡ c.round-rounds.result - 1 = omega (arith, c.round-rounds.ensures.round) in
-    subst (λ (r : ℕ). 2 ^ r ≤ max 1 c.args.n) number (subst (λ (n : ℕ). 2 ^ p.rounds ≤ max 1 n) end.same_vertices c.round-rounds.ensures.progress.in_time)
+    record {
+      forest = is_forest links p end.so_far c.in_ok-forest.forest c.in_ok-forest.ensures.forest;
+      rounds = subst (λ r. IsMergingRounds c.args.n links r) number (subst (λ n. IsMergingRounds n links p.rounds) end.same_vertices end.all);
+      in_time = subst (λ (r : ℕ). 2 ^ r ≤ max 1 c.args.n) number (subst (λ (n : ℕ). 2 ^ p.rounds ≤ max 1 n) end.same_vertices c.round-rounds.ensures.progress.in_time);
+      fault = tt;
+    }

@@ -1,5 +1,6 @@
 use Rattle.std.proofs.Common.{ℕ, Contains, ◌<◌, length, get_or}
 use Rattle.std.proofs.lemmas.List.Elements.{All-contains}
+use Rattle.round_theory.specs.Offers.{IsNamed}
 use Rattle.round_core.specs.Roots.{IsLedBy}
 use Rattle.round_core.proofs.Leading.{rank_of, are_parents, descend_at_first}
 use Rattle.round_core.proofs.roots.join_led.Goals as goal
@@ -19,8 +20,8 @@ jumps-init g c =
         within = λ r r_in. All-contains (λ x. x < length parents) roots r c.requires.within r_in;
         closed = λ r r_in. (can.are_roots.exact (get_or parents r 0)).1 (led r r_in).1;
       };
-      parents = are_parents labels heard picks can.labelled are roots parents can.are_roots leads;
-      descend = descend_at_first labels heard picks can.labelled are roots parents can.are_roots leads;
+      parents = are_parents labels (IsNamed heard) picks can.labelled are roots parents can.are_roots leads;
+      descend = descend_at_first labels (IsNamed heard) picks can.labelled are roots parents can.are_roots leads;
     }
 
 pub jumps-preserved : goal.jumps-preserved

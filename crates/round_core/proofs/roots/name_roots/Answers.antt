@@ -11,8 +11,8 @@ bounds-parents-root c =
     let within : get_or roots i 0 < length c.args.parents.now = c.requires.pointers.within (get_or roots i 0) (Contains-get_or roots i 0 c.loop-root-test.true) in
     omega (arith, within, c.loop-root.auto.parents)
 
-pub bounds-least-parent : goal.bounds-least-parent
-bounds-least-parent c =
+pub bounds-least-name : goal.bounds-least-name
+bounds-least-name c =
     let roots = c.args.roots.now in
     let i = c.loop-root.root-index in
     let r = get_or roots i 0 in
@@ -20,13 +20,6 @@ bounds-least-parent c =
     let parent_in = c.requires.pointers.closed r (Contains-get_or roots i 0 c.loop-root-test.true) in
     let room : get_or c.args.parents.now r 0 < length c.args.least.now = All-contains (λ b. b < length c.args.least.now) roots (get_or c.args.parents.now r 0) c.requires.room parent_in in
     omega (arith, room, had, c.find_least.auto.least)
-
-pub bounds-parents-root-in-loop-root : goal.bounds-parents-root-in-loop-root
-bounds-parents-root-in-loop-root c =
-    let roots = c.args.roots.now in
-    let i = c.loop-root.root-index in
-    let within : get_or roots i 0 < length c.args.parents.now = c.requires.pointers.within (get_or roots i 0) (Contains-get_or roots i 0 c.loop-root-test.true) in
-    omega (arith, within, c.loop-root.auto.parents)
 
 pub loop-root-preserved : goal.loop-root-preserved
 loop-root-preserved c =
