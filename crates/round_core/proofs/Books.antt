@@ -1,9 +1,9 @@
 -- A round's book: how it begins, and what the answers that it keeps name.
-use Rattle.std.proofs.Common.{◌≡◌, ◌≢◌, ℕ, zero, suc, ◌+◌, ◌<◌, ◌≤◌, ◌==◌, ◌↔◌, Bool, true, false, not, cond, ◌&&◌, List, [], ◌∷◌, ◌++◌, length, map, replicate, get_or, take, Contains, Some, None, refl, sym, ap, ◌∙◌, subst, inl, inr, arith}
+use Rattle.std.proofs.Common.{◌≡◌, ◌≢◌, ℕ, zero, suc, ◌+◌, ◌<◌, ◌≤◌, ◌==◌, ◌↔◌, Bool, true, false, not, cond, ◌&&◌, List, [], ◌∷◌, ◌++◌, length, map, replicate, get_or, take, Contains, Some, None, refl, sym, ap, ◌∙◌, subst, inl, inr, eq-eqb, ne_eqb, arith}
 use Rattle.std.specs.Prelude.{Option, All, count_by, slice_get}
 use Rattle.std.specs.List.{list_all}
 use Rattle.std.specs.Option.{option_to_list}
-use Rattle.std.proofs.lemmas.Bool.Decides.{nat_tests}
+use Rattle.std.proofs.lemmas.Bool.{cases_eq}
 use Rattle.std.proofs.lemmas.List.{length-replicate, get_or-replicate, flat_map_more, take_more, get_or_default, length-map, get_or-map}
 use Rattle.std.proofs.lemmas.List.Elements.{All-get_or}
 use Rattle.std.proofs.lemmas.List.Sums.{sum_by-cons}
@@ -17,8 +17,9 @@ use Rattle.links.specs.Cut.{links_at}
 use Rattle.links.proofs.Members.{contains_head, contains_tail, contains_none}
 use Rattle.links.specs.AnswerValue.{AnswerValue}
 use Rattle.round_theory.specs.LinkSet.{SameLinks}
-use Rattle.round_theory.specs.Offers.{Hearing, Names, IsNamed}
+use Rattle.round_theory.specs.Offers.{Leaves, Hearing, Names, IsNamed}
 use Rattle.round_theory.proofs.Cutting.{any_from, flat_map_contains}
+use Rattle.round_theory.proofs.Leaving.{leaves_apart}
 use Rattle.round_core.specs.Picks.{ArePicks, AreNoPicks}
 use Rattle.round_core.specs.PickNumbers.{pick_in}
 use Rattle.round_core.specs.OwnPicks.{AreLeastNumbers}
@@ -79,14 +80,18 @@ pub record IsOffered (links : List Link) (labels : List ℕ) (place : ℕ) : Typ
   pub within : place < length links
   pub apart : (d : Link) → label_of labels (get_or links place d).low ≢ label_of labels (get_or links place d).high
 
-leaving_apart : (labels : List ℕ) (c : ℕ) (l : Link) → is_leaving labels c l ≡ true → label_of labels l.low ≢ label_of labels l.high
-leaving_apart labels c l leaves same =
-    let low : ℕ = label_of labels l.low in
-    let high : ℕ = label_of labels l.high in
-    apart low high leaves same
-  where
-    apart : (low high : ℕ) → cond (low == c) (not (high == c)) (high == c) ≡ true → low ≡ high → ⊥
-    apart low high test is = grind (arith, nat_tests)
+-- the test of an offer, as a relation
+pub leaves_if : (labels : List ℕ) (c : ℕ) (l : Link) → is_leaving labels c l ≡ true → Leaves labels l c
+leaves_if labels c l test = elim (cases_eq (label_of labels l.low) c) [
+  | inl low ↦ elim (cases_eq (label_of labels l.high) c) [
+    | inl high ↦ let wrong : false ≡ true = rw (eq-eqb (label_of labels l.low) c low, eq-eqb (label_of labels l.high) c high) at test in absurd (cc)
+    | inr high ↦ inl (low, high)
+  ]
+  | inr low ↦ elim (cases_eq (label_of labels l.high) c) [
+    | inl high ↦ inr (low, high)
+    | inr high ↦ let wrong : false ≡ true = rw (ne_eqb (label_of labels l.low) c low, ne_eqb (label_of labels l.high) c high) at test in absurd (cc)
+  ]
+]
 
 pub offered : (links : List Link) (labels : List ℕ) (o : Offer) → is_offer links labels o ≡ true → IsOffered links labels o.1
 offered links labels o test = elim ((slice_get_cases links o.1).1) [
@@ -94,7 +99,7 @@ offered links labels o test = elim ((slice_get_cases links o.1).1) [
       let leaves : is_leaving labels o.0 x ≡ true = rw some at test in
       record {
         within = within;
-        apart = λ d. let here : get_or links o.1 d ≡ x = get_or_default links o.1 d x within ∙ at in rw here (leaving_apart labels o.0 x leaves);
+        apart = λ d. let here : get_or links o.1 d ≡ x = get_or_default links o.1 d x within ∙ at in rw here (leaves_apart labels x o.0 (leaves_if labels o.0 x leaves));
       }
   | inr (past, none) ↦ let no : false ≡ true = rw none at test in absurd (cc)
 ]

@@ -71,26 +71,12 @@ same_other labels l c d e (inl (low, high)) (inr (low', high')) = sym high ∙ h
 same_other labels l c d e (inr (low, high)) (inl (low', high')) = sym low ∙ low' ∙ sym high ∙ high'
 same_other labels l c d e (inr (low, high)) (inr (low', high')) = sym low ∙ low'
 
--- where both labels pick the link
-pub led_to_lesser : (labels : List ℕ) (picks : List (Option Link)) (c d p : ℕ) (l : Link) → pick_of picks c ≡ Some l → HasEndLabels labels l c d → pick_of picks d ≡ Some l → p ≡ min c d → IsLed labels picks c p
-led_to_lesser labels picks c d p l here ends there is = record {
+-- where its pick leads a label
+led_to : (labels : List ℕ) (picks : List (Option Link)) (c d p : ℕ) (l : Link) → pick_of picks c ≡ Some l → HasEndLabels labels l c d → (pick_of picks d ≡ Some l → p ≡ min c d) → (pick_of picks d ≢ Some l → p ≡ d) → IsLed labels picks c p
+led_to labels picks c d p l here ends lesser apart = record {
   stays = λ none. let wrong : Some l ≡ None = sym here ∙ none in absurd (cc);
-  to_lesser = λ m e m_here m_ends m_there. is ∙ ap (min c) (other m e m_here m_ends);
-  to_other = λ m e m_here m_ends m_not. absurd (m_not (ap (pick_of picks) (sym (other m e m_here m_ends)) ∙ there ∙ ap Some (same m m_here)));
-}
-  where
-    same : (m : Link) → pick_of picks c ≡ Some m → l ≡ m
-    same m m_here = let both : Some l ≡ Some m = sym here ∙ m_here in cc
-
-    other : (m : Link) (e : ℕ) → pick_of picks c ≡ Some m → HasEndLabels labels m c e → d ≡ e
-    other m e m_here m_ends = same_other labels l c d e ends (subst (λ k. HasEndLabels labels k c e) (sym (same m m_here)) m_ends)
-
--- where the other label doesn't pick the link
-pub led_to_other : (labels : List ℕ) (picks : List (Option Link)) (c d p : ℕ) (l : Link) → pick_of picks c ≡ Some l → HasEndLabels labels l c d → pick_of picks d ≢ Some l → p ≡ d → IsLed labels picks c p
-led_to_other labels picks c d p l here ends not_there is = record {
-  stays = λ none. let wrong : Some l ≡ None = sym here ∙ none in absurd (cc);
-  to_lesser = λ m e m_here m_ends m_there. absurd (not_there (ap (pick_of picks) (other m e m_here m_ends) ∙ m_there ∙ ap Some (sym (same m m_here))));
-  to_other = λ m e m_here m_ends m_not. is ∙ other m e m_here m_ends;
+  to_lesser = λ m e m_here m_ends m_there. lesser (ap (pick_of picks) (other m e m_here m_ends) ∙ m_there ∙ ap Some (sym (same m m_here))) ∙ ap (min c) (other m e m_here m_ends);
+  to_other = λ m e m_here m_ends m_not. apart (λ there. m_not (ap (pick_of picks) (sym (other m e m_here m_ends)) ∙ there ∙ ap Some (same m m_here))) ∙ other m e m_here m_ends;
 }
   where
     same : (m : Link) → pick_of picks c ≡ Some m → l ≡ m
@@ -199,14 +185,13 @@ module _ (labels : List ℕ) (S : LinkSet) (picks : List (Option Link)) (are_lab
 
     -- and where they go
     pub is_led : (paired : Bool) (p : ℕ) → (paired ≡ true) ↔ (pick_of picks c ≡ pick_of picks d) → (((paired && ltb c d) ≡ true) × (p ≡ c)) ⊎ (((paired && ltb c d) ≡ false) × (p ≡ d)) → IsLed labels picks c p
-    is_led true p same (inl (tested, is)) =
-        let lt = ltb-true c d tested in
-        led_to_lesser labels picks c d p l here ends (sym (same.0 refl) ∙ here) (omega (arith, lt, is))
-    is_led true p same (inr (failed, is)) =
-        let ge = ltb-false c d failed in
-        led_to_lesser labels picks c d p l here ends (sym (same.0 refl) ∙ here) (omega (arith, ge, is))
+    is_led true p same cases = led_to labels picks c d p l here ends (λ _. lesser cases) (λ not. absurd (not (sym (same.0 refl) ∙ here)))
+      where
+        lesser : (((true && ltb c d) ≡ true) × (p ≡ c)) ⊎ (((true && ltb c d) ≡ false) × (p ≡ d)) → p ≡ min c d
+        lesser (inl (tested, is)) = let lt = ltb-true c d tested in omega (arith, lt, is)
+        lesser (inr (failed, is)) = let ge = ltb-false c d failed in omega (arith, ge, is)
     is_led false p same (inl (wrong, is)) = absurd (cc)
-    is_led false p same (inr (failed, is)) = led_to_other labels picks c d p l here ends (λ there. let wrong : false ≡ true = same.1 (here ∙ sym there) in absurd (cc)) is
+    is_led false p same (inr (failed, is)) = led_to labels picks c d p l here ends (λ there. let wrong : false ≡ true = same.1 (here ∙ sym there) in absurd (cc)) (λ _. is)
 
   module _ (roots parents : List ℕ) (are_roots : AreRoots labels roots) (led : (c : ℕ) → Contains roots c → IsLed labels picks c (get_or parents c 0)) where
     abbrev up : ℕ → ℕ

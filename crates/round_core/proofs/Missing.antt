@@ -2,9 +2,6 @@
 use Rattle.std.proofs.Common.{◌≡◌, ◌≢◌, ℕ, ◌+◌, ◌<◌, ◌≤◌, Bool, true, false, not, cond, List, [], ◌∷◌, ◌++◌, length, get_or, take, drop, Contains, Some, None, refl, sym, ap, ◌∙◌, inl, inr, eq-eqb, ne_eqb}
 use Rattle.std.specs.Prelude.{All}
 use Rattle.std.specs.List.Sorted.{IsPermutation}
-use Rattle.std.specs.Option.{option_or}
-use Rattle.std.proofs.lemmas.List.{take_more, take-append-drop}
-use Rattle.std.proofs.lemmas.List.Folds.{find-append}
 use Rattle.std.proofs.lemmas.List.Elements.{Contains-get_or, All-contains}
 use Rattle.std.proofs.lemmas.List.Sorted.{Contains-permutation, IsPermutation-sym}
 use Rattle.links.specs.declared.links.Link.{Link}
@@ -20,20 +17,6 @@ use Rattle.links.proofs.Cycles.{no_cycle_part}
 use Rattle.round_theory.proofs.Leaving.{leaves_apart, spans_where_none_leaves}
 use Rattle.round_core.specs.Solver.{Progress, vertices, IsProgress, is_apart, missed, IsFinished}
 
--- one more link, after none was missed
-pub missed_more : (labels : List ℕ) (links : List Link) (i : ℕ) (l : Link) → i < length links → l ≡ get_or links i l → missed labels (take i links) ≡ None
-    → missed labels (take (i + 1) links) ≡ cond (is_apart labels l) (Some l) None
-missed_more labels links i l lt at none =
-    ap (missed labels) (take_more links i l lt ∙ ap (λ x. take i links ++ x ∷ []) (sym at))
-    ∙ find-append (is_apart labels) (take i links) (l ∷ [])
-    ∙ ap (λ o. option_or o (cond (is_apart labels l) (Some l) None)) none
-
--- what is missed at the front is missed
-pub missed_at_front : (labels : List ℕ) (links : List Link) (i : ℕ) (l : Link) → missed labels (take i links) ≡ Some l → missed labels links ≡ Some l
-missed_at_front labels links i l here =
-    ap (missed labels) (sym (take-append-drop i links)) ∙ find-append (is_apart labels) (take i links) (drop i links)
-    ∙ ap (λ o. option_or o (missed labels (drop i links))) here
-
 -- where none is missed each link's ends have one label
 not_apart : (labels : List ℕ) (links : List Link) (l : Link) → missed labels links ≡ None → Contains links l → is_apart labels l ≡ false
 not_apart labels [] l none l_in = absurd (contains_none l l_in)
@@ -46,11 +29,8 @@ not_apart labels (x ∷ links) l none l_in = by_test (is_apart labels x) refl (n
       | inr later ↦ rest (ap (λ b. cond b (Some x) (missed labels links)) (sym is) ∙ none) later
     ]
 
-pub apart_is : (labels : List ℕ) (l : Link) → label_of labels l.low ≢ label_of labels l.high → is_apart labels l ≡ true
+apart_is : (labels : List ℕ) (l : Link) → label_of labels l.low ≢ label_of labels l.high → is_apart labels l ≡ true
 apart_is labels l other = ap not (ne_eqb (label_of labels l.low) (label_of labels l.high) other)
-
-pub not_apart_is : (labels : List ℕ) (l : Link) → label_of labels l.low ≡ label_of labels l.high → is_apart labels l ≡ false
-not_apart_is labels l same = ap not (eq-eqb (label_of labels l.low) (label_of labels l.high) same)
 
 -- so none leaves a label
 pub none_leave : (labels : List ℕ) (links : List Link) → missed labels links ≡ None → (l : Link) (c : ℕ) → Contains links l → ¬ (Leaves labels l c)

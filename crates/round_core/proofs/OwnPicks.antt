@@ -1,5 +1,5 @@
 -- Picks that are found by the components for which links are offered.
-use Rattle.std.proofs.Common.{◌≡◌, ℕ, ◌+◌, ◌-◌, ◌<◌, ◌≤◌, ◌≢◌, ◌⊎◌, ◌↔◌, min, Bool, true, false, List, [], ◌∷◌, ◌++◌, length, map, get_or, set, Contains, Some, refl, sym, ap, ◌∙◌, subst, inl, inr, eq-eqb, ne_eqb, arith}
+use Rattle.std.proofs.Common.{◌≡◌, ℕ, ◌+◌, ◌-◌, ◌<◌, ◌≤◌, ◌≢◌, ◌⊎◌, ◌↔◌, min, Bool, true, false, List, [], ◌∷◌, ◌++◌, length, map, get_or, set, Contains, Some, refl, sym, ap, ◌∙◌, subst, inl, inr, arith}
 use Rattle.std.specs.Prelude.{Option, All, Any, MatchBool, IsTrue, slice_get}
 use Rattle.std.proofs.lemmas.Int.{ints}
 use Rattle.std.specs.List.{list_all}
@@ -19,7 +19,7 @@ use Rattle.round_theory.specs.Offers.{Leaves}
 use Rattle.round_theory.proofs.Cutting.{any_from, flat_map_contains}
 use Rattle.round_theory.proofs.Leaving.{leaves_end, leaves_low, leaves_high}
 use Rattle.round_theory.proofs.Steps.{append_either}
-use Rattle.round_core.proofs.Books.{all_at, offered, offer_at, in_option, map_contains, map_from}
+use Rattle.round_core.proofs.Books.{leaves_if, all_at, offered, offer_at, in_option, map_contains, map_from}
 use Rattle.round_core.specs.PickNumbers.{IsKeyNumber, no_pick}
 use Rattle.round_core.specs.BookValue.{is_leaving, is_offer, named_links, all_named, IsRight, CanCount}
 use Rattle.round_core.specs.OwnPicks.{IsPlaced, IsOfferedBy, IsOfferedIn, AreTakenFrom, IsCountedIn, AreCountedIn, AreLeastNumbers}
@@ -75,19 +75,6 @@ counted_both labels numbers front back whole is = (
     λ l l_in. all l (subst (λ xs. Contains xs l) is (Contains-append_right front back l l_in)),
   ),
 )
-
--- the test of an offer, as a relation
-leaves_if : (labels : List ℕ) (c : ℕ) (l : Link) → is_leaving labels c l ≡ true → Leaves labels l c
-leaves_if labels c l test = elim (cases_eq (label_of labels l.low) c) [
-  | inl low ↦ elim (cases_eq (label_of labels l.high) c) [
-    | inl high ↦ let wrong : false ≡ true = rw (eq-eqb (label_of labels l.low) c low, eq-eqb (label_of labels l.high) c high) at test in absurd (cc)
-    | inr high ↦ inl (low, high)
-  ]
-  | inr low ↦ elim (cases_eq (label_of labels l.high) c) [
-    | inl high ↦ inr (low, high)
-    | inr high ↦ let wrong : false ≡ true = rw (ne_eqb (label_of labels l.low) c low, ne_eqb (label_of labels l.high) c high) at test in absurd (cc)
-  ]
-]
 
 -- a link that is offered for a label is one that the offers name, and leaves it
 pub offered_leaves : (links : List Link) (labels : List ℕ) (offers : List Offer) (c : ℕ) (l : Link) → list_all (is_offer links labels) offers ≡ true → IsOfferedBy links offers c l

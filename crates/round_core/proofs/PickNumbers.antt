@@ -1,6 +1,6 @@
 -- The numbers of picks: each link's number stands for it alone, and the lesser of two numbers is that of the lesser link.
 use Rattle.std.proofs.Common.{◌≡◌, ◌≢◌, ℕ, ◌+◌, ◌-◌, ◌*◌, ◌/◌, ◌%◌, ◌^◌, ◌<◌, ◌≤◌, ◌⊎◌, ◌↔◌, min, ℤ, pos, negsuc, List, length, map, get_or, set, Some, None, refl, sym, ap, ◌∙◌, subst, inl, inr, arith}
-use Rattle.std.specs.Prelude.{All, ◌+ℤ◌, ◌-ℤ◌, FitsSigned}
+use Rattle.std.specs.Prelude.{Option, All, ◌+ℤ◌, ◌-ℤ◌, FitsSigned}
 use Rattle.std.specs.Int.{w64, int_wrap}
 use Rattle.std.proofs.lemmas.Bool.{cases_lt}
 use Rattle.std.proofs.lemmas.Int.{ints, int_wrap_fits}
@@ -13,7 +13,8 @@ use Rattle.links.specs.WideKey.{wide_key}
 use Rattle.links.proofs.Keys.{link_eq}
 use Rattle.links.proofs.WideKeys.{wide_below}
 use Rattle.round_core.specs.PickNumbers.{IsKeyNumber, no_pick, IsPickNumber, link_of, pick_in}
-use Rattle.round_core.specs.Picks.{AreNoPicks}
+use Rattle.round_theory.specs.Labelling.{IsVertex}
+use Rattle.round_core.specs.Picks.{pick_of, AreNoPicks}
 
 -- ends that don't ascend are no link's
 no_link : (above low high : ℕ) (b : (0 < low) ⊎ (low ≤ 0)) (c : (low < high) ⊎ (high ≤ low)) (d : (MAX_VERTICES < high) ⊎ (high ≤ MAX_VERTICES))
@@ -133,6 +134,10 @@ none_where_no_picks numbers are = (to, back)
     back : AreNoPicks (map pick_in numbers) → All (λ k. k ≡ no_pick) numbers
     back none i d lt = at (get_or numbers i d) (are i d lt) (sym (get_or-map pick_in numbers i d None lt) ∙ none i None (omega (arith, lt, length-map numbers pick_in)))
 
--- the pick at a place
-pub pick_at : (numbers : List ℕ) (i x : ℕ) → i < length numbers → x ≡ get_or numbers i x → get_or (map pick_in numbers) i None ≡ pick_in x
-pick_at numbers i x lt at = get_or-map pick_in numbers i x None lt ∙ ap pick_in (sym at)
+-- the pick of a label, whose number stands among those of all
+pub number_at : (numbers : List ℕ) (picks : List (Option Link)) (c x : ℕ) → map pick_in numbers ≡ picks → All IsPickNumber numbers → IsVertex (length picks) c → x ≡ get_or numbers (c - 1) x → IsPickNumber x × (pick_of picks c ≡ pick_in x)
+number_at numbers picks c x picks_are all vertex at =
+    let within : c - 1 < length numbers = omega (arith, vertex.0, vertex.1, ap length picks_are, length-map numbers pick_in) in (
+      subst IsPickNumber (sym at) (all (c - 1) x within),
+      ap (λ (ps : List (Option Link)). get_or ps (c - 1) None) (sym picks_are) ∙ get_or-map pick_in numbers (c - 1) x None within ∙ ap pick_in (sym at),
+    )

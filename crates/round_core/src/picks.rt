@@ -1,4 +1,4 @@
-ghost use Rattle.std.specs.Prelude.{OnOk, ◌≡◌, ◌<◌, ◌≤◌, ◌↔◌, [], length, map, slice_index_or, All, None, IsTrue, IfOk};
+ghost use Rattle.std.specs.Prelude.{OnOk, ◌≡◌, ◌≤◌, ◌↔◌, [], length, map, All, IsTrue, IfOk};
 ghost use Rattle.round_theory.specs.Labelling.{IsVertex};
 ghost use Rattle.round_core.specs.Picks.{pick_of, AreNoPicks, HaveAllPicks};
 ghost use Rattle.round_core.specs.PickNumbers.{IsKeyNumber, IsPickNumber, AreCleared, pick_in};
@@ -109,7 +109,7 @@ impl<A: Allocator> Picks<A> {
         requires to_n { label ≤ length self.now }
         ensures { result ≡ pick_of self.now label }
     {
-        self.at(label as usize - 1)
+        pick_of_number(self.numbers[label as usize - 1])
     }
 
     /// Whether no label has a pick.
@@ -129,13 +129,6 @@ impl<A: Allocator> Picks<A> {
         self.numbers[one as usize - 1] == self.numbers[other as usize - 1]
     }
 
-    // The number of vertices.
-    pub(crate) fn len(&self) -> usize
-        ensures { result ≡ length self.now }
-    {
-        self.numbers.len()
-    }
-
     // Leaves these labels without a pick. Where no other has one, none is left.
     pub(crate) fn clear_each(&mut self, labels: &[u32])
         requires { All (IsVertex (length self.old)) labels.now }
@@ -143,15 +136,6 @@ impl<A: Allocator> Picks<A> {
         ensures none { HaveAllPicks self.old labels.now → AreNoPicks self.new }
     {
         clear_each(self.numbers.as_mut_slice(), labels);
-    }
-
-    // The pick of the vertex that so many vertices stand before.
-    #[inline]
-    pub(crate) fn at(&self, before: usize) -> Option<Link>
-        requires { before < length self.now }
-        ensures { result ≡ slice_index_or self.now before None }
-    {
-        pick_of_number(self.numbers[before])
     }
 }
 

@@ -87,7 +87,12 @@ impl<A: Allocator> Roots<A> {
         requires { All (IsVertex (length picks.now)) self.now }
         ensures { IsTrue result ↔ All (λ c. pick_of picks.now c ≡ None) self.now }
     {
-        have_no_picks(&self.roots, picks)
+        self.roots.iter().all(
+            |root: &u32| -> bool
+                requires { IsVertex (length picks.now) root.now }
+                ensures { IsTrue result ↔ (pick_of picks.entry.now root.entry.now ≡ None) }
+            { picks.of(*root).is_none() },
+        )
     }
 
     // Leaves the roots without a pick. Where no other vertex has one, none is left.
@@ -106,19 +111,6 @@ impl<A: Allocator> Roots<A> {
     {
         keep_own(&mut self.roots, labels);
     }
-}
-
-// Whether none of the vertices has a pick.
-fn have_no_picks<A: Allocator>(vertices: &[u32], picks: &Picks<A>) -> bool
-    requires { All (IsVertex (length picks.now)) vertices.now }
-    ensures { IsTrue result ↔ All (λ c. pick_of picks.now c ≡ None) vertices.now }
-{
-    for vertex in vertices {
-        if picks.of(*vertex).is_some() {
-            return false;
-        }
-    }
-    true
 }
 
 // Keeps the vertices that label themselves, in place. It takes no branch on the labels.
