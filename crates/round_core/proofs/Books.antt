@@ -57,10 +57,6 @@ book_opened round room cut labels looked_up taken answers best are ends few take
       once = λ i j d lt within. absurd (omega (arith, within));
     }
 
--- the ends of a shard's links are vertices
-pub shard_ends : (n : ℕ) (cut : List (List Link)) (s : ℕ) → All (EndsUpTo n) cut → s < length cut → EndsUpTo n (links_at cut s)
-shard_ends n cut s ends lt = All-get_or (EndsUpTo n) cut s [] lt ends
-
 -- a test of all is one of each
 pub all_at : {X : Type 0} (p : X → Bool) (xs : List X) (i : ℕ) (d : X) → i < length xs → list_all p xs ≡ true → p (get_or xs i d) ≡ true
 all_at p [] i d lt all = absurd (omega (arith, lt))

@@ -42,13 +42,6 @@ free_within [] s free = absurd (cc)
 free_within (x ∷ taken) zero free = omega arith
 free_within (x ∷ taken) (suc s) free = omega (arith, free_within taken s free)
 
--- which shards are taken once an answer is
-pub heard_here : (p : BookValue) (a : AnswerValue) (s t : ℕ) → s < length p.taken → a.shard ≡ s → t ≡ s → is_taken (with_answer p a) t ≡ true
-heard_here p a s t within for_s same = ap (λ k. get_or (set p.taken k true) t true) for_s ∙ ap (λ k. get_or (set p.taken s true) k true) same ∙ get_or-set_same p.taken s true true within
-
-pub heard_other : (p : BookValue) (a : AnswerValue) (s t : ℕ) → a.shard ≡ s → t ≢ s → is_taken (with_answer p a) t ≡ is_taken p t
-heard_other p a s t for_s other = ap (λ k. get_or (set p.taken k true) t true) for_s ∙ get_or-set_other p.taken s t true true other
-
 -- what an answer that is taken changes
 module _ (p : BookValue) (s : ℕ) (a : AnswerValue) (is : IsBookValue p) (lt : s < length p.cut) (fits : IsAccepted p s a) where
   in_taken : s < length p.taken
@@ -63,10 +56,10 @@ module _ (p : BookValue) (s : ℕ) (a : AnswerValue) (is : IsBookValue p) (lt : 
       omega (arith, set_one, was, at)
 
   new_taken : (t : ℕ) → t ≡ s → is_taken (with_answer p a) t ≡ true
-  new_taken t same = heard_here p a s t in_taken fits.shard same
+  new_taken t same = ap (λ k. get_or (set p.taken k true) t true) fits.shard ∙ ap (λ k. get_or (set p.taken s true) k true) same ∙ get_or-set_same p.taken s true true in_taken
 
   old_taken : (t : ℕ) → t ≢ s → is_taken (with_answer p a) t ≡ is_taken p t
-  old_taken t other = heard_other p a s t fits.shard other
+  old_taken t other = ap (λ k. get_or (set p.taken k true) t true) fits.shard ∙ get_or-set_other p.taken s t true true other
 
   answered : (t : ℕ) → t < length p.cut → (is_taken (with_answer p a) t ≡ true) ↔ IsAnswered (with_answer p a) t
   answered t within = elim (cases_eq t s) [

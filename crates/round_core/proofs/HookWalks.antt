@@ -10,13 +10,6 @@ use Rattle.round_theory.specs.Labelling.{IsWalkOver, JoinsOver}
 pub over_same : (labels : List ℕ) (S : LinkSet) (u v : ℕ) → label_of labels u ≡ label_of labels v → JoinsOver labels S u v
 over_same labels S u v same = ([], tt, same)
 
--- a link of the set joins its ends, in either direction
-pub over_link : (labels : List ℕ) (S : LinkSet) (l : Link) → S l → JoinsOver labels S l.low l.high
-over_link labels S l is_in = (l ∷ [], (is_in, tt), inl (refl, refl))
-
-pub over_link_back : (labels : List ℕ) (S : LinkSet) (l : Link) → S l → JoinsOver labels S l.high l.low
-over_link_back labels S l is_in = (l ∷ [], (is_in, tt), inr (refl, refl))
-
 -- Whatever relation is transitive and holds between vertices of one label and, both ways, between the ends of each
 -- link of the set holds between any two vertices that the labels and the set join: go along the walk, link by link.
 over_least : (labels : List ℕ) (S : LinkSet) (R : ℕ → ℕ → Type 0) → ((u v : ℕ) → label_of labels u ≡ label_of labels v → R u v) → ((u v w : ℕ) → R u v → R v w → R u w)
@@ -56,4 +49,4 @@ over_more labels S T part u v joined = over_then labels S T part u v v joined (o
 pub over_back : (labels : List ℕ) (S : LinkSet) (u v : ℕ) → JoinsOver labels S u v → JoinsOver labels S v u
 over_back labels S =
     over_least labels S (λ u v. JoinsOver labels S v u) (λ u v same. over_same labels S v u (sym same)) (λ u v w first second. over_then labels S S (λ l is_in. is_in) w v u second first)
-    (λ l is_in. over_link_back labels S l is_in) (λ l is_in. over_link labels S l is_in)
+    (λ l is_in. (l ∷ [], (is_in, tt), inr (refl, refl))) (λ l is_in. (l ∷ [], (is_in, tt), inl (refl, refl)))

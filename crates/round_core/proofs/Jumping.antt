@@ -108,9 +108,6 @@ pub record HaveJumped (roots old new : List ℕ) : Type 0 where
   pub parents : (labels : List ℕ) (picks : List (Option Link)) → AreParents labels roots picks old → AreParents labels roots picks new
   pub descend : (rank : ℕ → ℕ) → Descend roots rank old → Descend roots rank new × (sum_by rank new ≤ sum_by rank old)
 
-pub none_jumped : (roots old : List ℕ) → ArePointers roots old → HaveJumped roots old old
-none_jumped roots old pointers = record { pointers = pointers; parents = λ labels picks are. are; descend = λ rank down. (down, omega arith) }
-
 -- and one more
 pub jumped_more : (roots old new : List ℕ) (c : ℕ) → Contains roots c → HaveJumped roots old new → HaveJumped roots old (jumped new c)
 jumped_more roots old new c c_in have = record {

@@ -28,32 +28,23 @@ unfolding pick_in
 no_pick_is_none k is = no_link (k / 2 ^ 64) (k / 2 ^ 32 % 2 ^ 32) (k % 2 ^ 32) (cases_lt 0 (k / 2 ^ 32 % 2 ^ 32)) (cases_lt (k / 2 ^ 32 % 2 ^ 32) (k % 2 ^ 32)) (cases_lt MAX_VERTICES (k % 2 ^ 32))
     (rw is (omega arith))
 
--- the fields in the number of a link
-pub record HasFields (l : Link) (k : ℕ) : Type 0 where
-  pub above : pos (k / 2 ^ 64) ≡ l.weight +ℤ pos (2 ^ 63)
-  pub low : k / 2 ^ 32 % 2 ^ 32 ≡ l.low
-  pub high : k % 2 ^ 32 ≡ l.high
-
 -- a weight, counted from the least one on
 counted_weight : (w : ℤ) → FitsSigned w64 w → (above : ℕ) × (pos above ≡ w +ℤ pos (2 ^ 63))
 counted_weight (pos n) fits = (n + 2 ^ 63, omega (arith, ints))
 counted_weight (negsuc n) fits = (2 ^ 63 - 1 - n, omega (arith, ints, fits.sfits))
 
-fields_of : (k above low high : ℕ) → low < 2 ^ 32 → high < 2 ^ 32 → k ≡ above * 2 ^ 64 + low * 2 ^ 32 + high → (k / 2 ^ 64 ≡ above) × (k / 2 ^ 32 % 2 ^ 32 ≡ low) × (k % 2 ^ 32 ≡ high)
-fields_of k above low high low_in high_in is = (omega arith, omega arith, omega arith)
-
-pub has_fields : (l : Link) (k : ℕ) → IsKeyNumber l k → HasFields l k
+-- the fields in the number of a link
+has_fields : (l : Link) (k : ℕ) → IsKeyNumber l k → (pos (k / 2 ^ 64) ≡ l.weight +ℤ pos (2 ^ 63)) × (k / 2 ^ 32 % 2 ^ 32 ≡ l.low) × (k % 2 ^ 32 ≡ l.high)
 has_fields l k is =
     let (above, above_is) = counted_weight l.weight l.weight_fits in
     let low_in : l.low < 2 ^ 32 = omega (arith, l.ascending, l.in_limit) in
     let high_in : l.high < 2 ^ 32 = omega (arith, l.in_limit) in
     let sum : k ≡ above * 2 ^ 64 + l.low * 2 ^ 32 + l.high = omega (arith, ints, is, above_is) in
     let fields = fields_of k above l.low l.high low_in high_in sum in
-    record {
-      above = ap pos fields.0 ∙ above_is;
-      low = fields.1;
-      high = fields.2;
-    }
+    (ap pos fields.0 ∙ above_is, fields.1, fields.2)
+  where
+    fields_of : (k above low high : ℕ) → low < 2 ^ 32 → high < 2 ^ 32 → k ≡ above * 2 ^ 64 + low * 2 ^ 32 + high → (k / 2 ^ 64 ≡ above) × (k / 2 ^ 32 % 2 ^ 32 ≡ low) × (k % 2 ^ 32 ≡ high)
+    fields_of k above low high low_in high_in is = (omega arith, omega arith, omega arith)
 
 is_link : (l : Link) (above low high : ℕ) (b : (0 < low) ⊎ (low ≤ 0)) (c : (low < high) ⊎ (high ≤ low)) (d : (MAX_VERTICES < high) ⊎ (high ≤ MAX_VERTICES))
     → pos above ≡ l.weight +ℤ pos (2 ^ 63) → low ≡ l.low → high ≡ l.high → link_of above low high b c d ≡ Some l
@@ -70,7 +61,7 @@ unfolding pick_in
 key_is_pick l k is =
     let fields = has_fields l k is in
     is_link l (k / 2 ^ 64) (k / 2 ^ 32 % 2 ^ 32) (k % 2 ^ 32) (cases_lt 0 (k / 2 ^ 32 % 2 ^ 32)) (cases_lt (k / 2 ^ 32 % 2 ^ 32) (k % 2 ^ 32)) (cases_lt MAX_VERTICES (k % 2 ^ 32))
-    fields.above fields.low fields.high
+    fields.0 fields.1 fields.2
 
 -- each link has a number
 to_number : ℤ → ℕ
@@ -101,7 +92,7 @@ pub pick_is : (k : ℕ) (x : Link) → IsPickNumber k → k ≢ no_pick → pos 
 pick_is k x (inl none) some above low high = absurd (some none)
 pick_is k x (inr (l, is)) some above low high =
     let fields = has_fields l k is in
-    let one : x ≡ l = link_eq x l (omega (arith, ints, above, fields.above)) (sym low ∙ fields.low) (sym high ∙ fields.high) in
+    let one : x ≡ l = link_eq x l (omega (arith, ints, above, fields.0)) (sym low ∙ fields.1) (sym high ∙ fields.2) in
     ap Some one ∙ sym (key_is_pick l k is)
 
 -- two numbers of picks are equal just where they stand for the same pick

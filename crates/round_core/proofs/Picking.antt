@@ -8,7 +8,7 @@ use Rattle.links.proofs.Keys.{link_dec}
 use Rattle.round_theory.specs.Labelling.{IsVertex}
 use Rattle.round_theory.specs.LinkSet.{LinkSet}
 use Rattle.round_theory.specs.Offers.{IsLeastLeaving, IsPick}
-use Rattle.round_theory.proofs.Leaving.{leaves_end, leaves_apart}
+use Rattle.round_theory.proofs.Leaving.{leaves_end}
 use Rattle.round_core.specs.Picks.{pick_of, Picked, IsPickOf, ArePicks}
 use Rattle.round_core.specs.Solver.{IsFirstPickedAt, ArePickedOnce}
 
@@ -44,15 +44,9 @@ picked_is_pick labels S picks l are picked =
     let (i, here) = place_of picks l picked in
     (i + 1, (least_at labels S picks i l are here).least)
 
--- so the label of the place is that of one end, and the ends have different labels
-record EndsAt (labels : List ℕ) (i : ℕ) (l : Link) : Type 0 where
-  apart : label_of labels l.low ≢ label_of labels l.high
-  end : (i + 1 ≡ label_of labels l.low) ⊎ (i + 1 ≡ label_of labels l.high)
-
-ends_at : (labels : List ℕ) (S : LinkSet) (picks : List (Option Link)) (i : ℕ) (l : Link) → ArePicks labels S picks → get_or picks i None ≡ Some l → EndsAt labels i l
-ends_at labels S picks i l are here =
-    let at = least_at labels S picks i l are here in
-    record { apart = leaves_apart labels l (i + 1) at.least.leaves; end = leaves_end labels l (i + 1) at.least.leaves }
+-- so the label of the place is that of one end
+end_at : (labels : List ℕ) (S : LinkSet) (picks : List (Option Link)) (i : ℕ) (l : Link) → ArePicks labels S picks → get_or picks i None ≡ Some l → (i + 1 ≡ label_of labels l.low) ⊎ (i + 1 ≡ label_of labels l.high)
+end_at labels S picks i l are here = leaves_end labels l (i + 1) (least_at labels S picks i l are here).least.leaves
 
 -- the lesser label of a link's ends, as a place
 abbrev pub least_end : List ℕ → Link → ℕ
@@ -65,8 +59,8 @@ first_at labels S picks i l are here test = record { here = here; first = first 
   where
     first : (k : ℕ) → k < i → get_or picks k None ≢ Some l
     first k lt there = elim test [
-      | inl is ↦ absurd (before (label_of labels l.low) (label_of labels l.high) (ends_at labels S picks k l are there).end is)
-      | inr other ↦ other (subst (λ j. get_or picks j None ≡ Some l) (lesser (label_of labels l.low) (label_of labels l.high) (ends_at labels S picks k l are there).end (ends_at labels S picks i l are here).end) there)
+      | inl is ↦ absurd (before (label_of labels l.low) (label_of labels l.high) (end_at labels S picks k l are there) is)
+      | inr other ↦ other (subst (λ j. get_or picks j None ≡ Some l) (lesser (label_of labels l.low) (label_of labels l.high) (end_at labels S picks k l are there) (end_at labels S picks i l are here)) there)
     ]
       where
         before : (a b : ℕ) → (k + 1 ≡ a) ⊎ (k + 1 ≡ b) → min a b - 1 ≡ i → ⊥

@@ -249,8 +249,7 @@ fn jump(roots: &[u32], parents: &mut [u32]) -> bool
 // Gives a root its parent's parent in place of its parent, and says whether that is another.
 #[inline]
 fn jump_once(parents: &mut [u32], root: u32) -> bool
-    requires root { root < length parents.old }
-    requires parent { slice_index parents.old root < length parents.old }
+    requires { (root < length parents.old) × (slice_index parents.old root < length parents.old) }
     ensures jumped { parents.new ≡ jumped parents.old root }
     ensures settled { (result ≡ false) ↔ IsSettled parents.old root }
 {

@@ -207,9 +207,7 @@ impl<A: Allocator> Solver<A> {
     {
         &self.labels
     }
-}
 
-impl<A: Allocator> Solver<A> {
     // The first link of the cut whose ends have different labels.
     fn first_missed(&self, cut: &Cut<A>) -> Option<Link>
         requires { All (EndsUpTo (vertices self.now)) cut.now }

@@ -1,7 +1,7 @@
 use Rattle.std.proofs.Common.{◌≡◌, ℕ, ◌+◌, ◌<◌, ◌⊎◌, Bool, true, false, ◌||◌, List, length, get_or, refl, sym, subst, inl, inr, arith}
 use Rattle.std.proofs.lemmas.List.Elements.{Contains-get_or}
 use Rattle.round_core.specs.Roots.{jumped, IsSettled}
-use Rattle.round_core.proofs.Jumping.{HaveJumped, LowersRanks, none_jumped, jumped_more, lower_by_last, lower_still, settled_on, settled_more}
+use Rattle.round_core.proofs.Jumping.{HaveJumped, LowersRanks, jumped_more, lower_by_last, lower_still, settled_on, settled_more}
 use Rattle.round_core.proofs.Naming.{at_contained}
 use Rattle.round_core.proofs.roots.jump.Goals as goal
 
@@ -28,26 +28,14 @@ within : (roots old new : List ℕ) (k : ℕ) → k < length roots → HaveJumpe
 within roots old new k lt have =
     let c_in = Contains-get_or roots k 0 lt in (have.pointers.within (get_or roots k 0) c_in, have.pointers.within (get_or new (get_or roots k 0) 0) (have.pointers.closed (get_or roots k 0) c_in))
 
-pub jump_once-moved-requires-clause-root : goal.jump_once-moved-requires-clause-root
-jump_once-moved-requires-clause-root c = (within c.args.roots.now c.args.parents.now c.loop-root.parents c.loop-root.root-index c.loop-root-test.true c.loop-root.invariant.jumped).0
+pub jump_once-moved-requires : goal.jump_once-moved-requires
+jump_once-moved-requires c = within c.args.roots.now c.args.parents.now c.loop-root.parents c.loop-root.root-index c.loop-root-test.true c.loop-root.invariant.jumped
 
-pub jump_once-moved-requires-clause-parent : goal.jump_once-moved-requires-clause-parent
-jump_once-moved-requires-clause-parent c = (within c.args.roots.now c.args.parents.now c.loop-root.parents c.loop-root.root-index c.loop-root-test.true c.loop-root.invariant.jumped).1
+pub jump_once-moved-requires-in-loop-root : goal.jump_once-moved-requires-in-loop-root
+jump_once-moved-requires-in-loop-root c = within c.args.roots.now c.args.parents.now c.jump_once-moved.new.parents c.loop-root.root-index c.loop-root-test.true (step c.args.roots.now c.args.parents.now c.loop-root.parents c.jump_once-moved.new.parents c.loop-root.root-index c.loop-root-test.true c.loop-root.invariant.jumped c.jump_once-moved.ensures.jumped)
 
-pub jump_once-moved-requires-in-loop-root-clause-root : goal.jump_once-moved-requires-in-loop-root-clause-root
-jump_once-moved-requires-in-loop-root-clause-root c = (within c.args.roots.now c.args.parents.now c.jump_once-moved.new.parents c.loop-root.root-index c.loop-root-test.true (step c.args.roots.now c.args.parents.now c.loop-root.parents c.jump_once-moved.new.parents c.loop-root.root-index c.loop-root-test.true c.loop-root.invariant.jumped c.jump_once-moved.ensures.jumped)).0
-
-pub jump_once-moved-requires-in-loop-root-clause-parent : goal.jump_once-moved-requires-in-loop-root-clause-parent
-jump_once-moved-requires-in-loop-root-clause-parent c = (within c.args.roots.now c.args.parents.now c.jump_once-moved.new.parents c.loop-root.root-index c.loop-root-test.true (step c.args.roots.now c.args.parents.now c.loop-root.parents c.jump_once-moved.new.parents c.loop-root.root-index c.loop-root-test.true c.loop-root.invariant.jumped c.jump_once-moved.ensures.jumped)).1
-
-pub jump_once-moved-requires-in-loop-root-2-clause-root : goal.jump_once-moved-requires-in-loop-root-2-clause-root
-jump_once-moved-requires-in-loop-root-2-clause-root c = (within c.args.roots.now c.args.parents.now c.jump_once-moved-in-loop-root.new.parents c.loop-root.root-index c.loop-root-test.true (step c.args.roots.now c.args.parents.now c.jump_once-moved.new.parents c.jump_once-moved-in-loop-root.new.parents c.loop-root.root-index c.loop-root-test.true (step c.args.roots.now c.args.parents.now c.loop-root.parents c.jump_once-moved.new.parents c.loop-root.root-index c.loop-root-test.true c.loop-root.invariant.jumped c.jump_once-moved.ensures.jumped) c.jump_once-moved-in-loop-root.ensures.jumped)).0
-
-pub jump_once-moved-requires-in-loop-root-2-clause-parent : goal.jump_once-moved-requires-in-loop-root-2-clause-parent
-jump_once-moved-requires-in-loop-root-2-clause-parent c = (within c.args.roots.now c.args.parents.now c.jump_once-moved-in-loop-root.new.parents c.loop-root.root-index c.loop-root-test.true (step c.args.roots.now c.args.parents.now c.jump_once-moved.new.parents c.jump_once-moved-in-loop-root.new.parents c.loop-root.root-index c.loop-root-test.true (step c.args.roots.now c.args.parents.now c.loop-root.parents c.jump_once-moved.new.parents c.loop-root.root-index c.loop-root-test.true c.loop-root.invariant.jumped c.jump_once-moved.ensures.jumped) c.jump_once-moved-in-loop-root.ensures.jumped)).1
-
-pub loop-root-init : goal.loop-root-init
-loop-root-init c = record { jumped = none_jumped c.args.roots.now c.args.parents.now c.requires; lower = λ wrong. absurd (cc); settled = λ _ k lt. absurd (omega (arith, lt)) }
+pub jump_once-moved-requires-in-loop-root-2 : goal.jump_once-moved-requires-in-loop-root-2
+jump_once-moved-requires-in-loop-root-2 c = within c.args.roots.now c.args.parents.now c.jump_once-moved-in-loop-root.new.parents c.loop-root.root-index c.loop-root-test.true (step c.args.roots.now c.args.parents.now c.jump_once-moved.new.parents c.jump_once-moved-in-loop-root.new.parents c.loop-root.root-index c.loop-root-test.true (step c.args.roots.now c.args.parents.now c.loop-root.parents c.jump_once-moved.new.parents c.loop-root.root-index c.loop-root-test.true c.loop-root.invariant.jumped c.jump_once-moved.ensures.jumped) c.jump_once-moved-in-loop-root.ensures.jumped)
 
 pub loop-root-preserved : goal.loop-root-preserved
 loop-root-preserved c =
