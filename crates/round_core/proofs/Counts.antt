@@ -1,5 +1,5 @@
 -- The numbers of picks, to which links are counted one at a time.
-use Rattle.std.proofs.Common.{◌≡◌, ◌≢◌, ℕ, ◌+◌, ◌-◌, ◌<◌, ◌≤◌, min, List, [], ◌∷◌, ◌++◌, length, map, get_or, set, Contains, Some, None, sym, ap, ◌∙◌, subst, inl, inr, arith}
+use Rattle.std.proofs.Common.{◌≡◌, ◌≢◌, ℕ, ◌+◌, ◌-◌, ◌<◌, ◌≤◌, min, List, [], ◌∷◌, ◌++◌, length, map, get_or, set, Contains, Some, None, sym, ◌∙◌, subst, inl, inr, arith}
 use Rattle.std.specs.Prelude.{Option, All}
 use Rattle.std.proofs.lemmas.Bool.{cases_eq, cases_lt}
 use Rattle.std.proofs.lemmas.Int.{ints}
@@ -13,7 +13,7 @@ use Rattle.round_theory.specs.Labelling.{IsVertex}
 use Rattle.round_theory.specs.Offers.{Leaves}
 use Rattle.round_theory.proofs.Leaving.{leaves_apart, leaves_end, leaves_low, leaves_high}
 use Rattle.round_theory.proofs.Rounds.{least_leaving_alike}
-use Rattle.round_core.specs.Picks.{pick_of, Picked, IsPickOf, ArePicks}
+use Rattle.round_core.specs.Picks.{pick_of, IsPickOf, ArePicks}
 use Rattle.round_core.specs.PickNumbers.{IsKeyNumber, no_pick, IsPickNumber, pick_in}
 use Rattle.round_core.specs.OwnPicks.{IsCountedIn, IsNumberOf, AreLeastNumbers, Counts}
 use Rattle.round_core.proofs.PickNumbers.{number_of, has_number, no_pick_is_none, key_is_pick, key_below_no_pick, below_is_less}

@@ -1,5 +1,5 @@
 -- A jump: a root's parent's parent in place of its parent.
-use Rattle.std.proofs.Common.{◌≡◌, ◌≢◌, ℕ, ◌+◌, ◌<◌, ◌≤◌, ◌⊎◌, List, length, get_or, set, Contains, sym, ap, ◌∙◌, subst, inl, inr, below_more, arith}
+use Rattle.std.proofs.Common.{◌≡◌, ◌≢◌, ℕ, ◌+◌, ◌<◌, ◌≤◌, ◌⊎◌, List, get_or, set, Contains, sym, ap, ◌∙◌, subst, inl, inr, below_more, arith}
 use Rattle.std.specs.Prelude.{Option}
 use Rattle.std.specs.List.{sum_by}
 use Rattle.std.proofs.lemmas.Bool.{cases_eq}

@@ -10,7 +10,6 @@ use Rattle.links.specs.Labels.{label_of, AreLabels}
 use Rattle.links.specs.Forest.{IsForestLink, IsForestOf}
 use Rattle.links.proofs.Members.{contains_none, contains_head, contains_tail}
 use Rattle.round_theory.specs.LinkSet.{IsPartOf, SameLinks}
-use Rattle.round_theory.specs.Labelling.{IsVertex}
 use Rattle.round_theory.specs.Offers.{Leaves, IsPick}
 use Rattle.round_theory.specs.Rounds.{TakenAfter, IsMergingRounds}
 use Rattle.links.proofs.ForestSpans.{spanning_part_is_forest}

@@ -1,7 +1,6 @@
 use Rattle.std.proofs.Common.{ℕ, List, length, refl, sym, ap, ◌∙◌, subst}
 use Rattle.std.specs.Prelude.{All}
 use Rattle.std.proofs.lemmas.List.{with_items_is}
-use Rattle.links.specs.Link.{EndsUpTo}
 use Rattle.round_core.specs.PickNumbers.{IsPickNumber}
 use Rattle.round_core.proofs.Counts.{are_numbers, picks_are}
 use Rattle.round_core.proofs.alone.picks_of_links.Goals as goal

@@ -1,4 +1,4 @@
-use Rattle.std.proofs.Common.{◌≡◌, ℕ, ◌-◌, ◌<◌, length, get_or, subst, arith}
+use Rattle.std.proofs.Common.{◌≡◌, ℕ, length, subst, arith}
 use Rattle.round_core.specs.PickNumbers.{AreCleared}
 use Rattle.round_core.proofs.Clearing.{cleared_more}
 use Rattle.round_core.proofs.picks.clear_each.Goals as goal

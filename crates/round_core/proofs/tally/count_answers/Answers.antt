@@ -1,4 +1,4 @@
-use Rattle.std.proofs.Common.{◌≡◌, ◌++◌, List, get_or, take, sym, subst, take_all, arith}
+use Rattle.std.proofs.Common.{◌≡◌, List, get_or, take, sym, subst, take_all, arith}
 use Rattle.links.specs.declared.links.Link.{Link}
 use Rattle.links.specs.Cut.{links_at}
 use Rattle.links.specs.AnswerValue.{AnswerValue}

@@ -1,6 +1,3 @@
-use Rattle.std.proofs.Common.{◌≡◌, replicate, ◌∙◌, sym, subst}
-use Rattle.std.specs.Prelude.{All, List, ℕ}
-use Rattle.round_core.specs.PickNumbers.{no_pick}
 use Rattle.round_core.proofs.OwnPicks.{placed_of, taken_are_least}
 use Rattle.round_core.proofs.tally.count_by_threads.Goals as goal
 
