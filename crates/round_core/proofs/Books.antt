@@ -20,8 +20,8 @@ use Rattle.round_theory.specs.Offers.{Leaves, Hearing, Names, IsNamed}
 use Rattle.round_theory.proofs.Cutting.{any_from, flat_map_contains}
 use Rattle.round_theory.proofs.Leaving.{leaves_apart}
 use Rattle.round_core.specs.Picks.{ArePicks, AreNoPicks}
-use Rattle.round_core.specs.PickNumbers.{pick_in}
-use Rattle.round_core.specs.OwnPicks.{AreLeastNumbers}
+use Rattle.round_core.specs.PickNumbers.{no_pick, pick_in}
+use Rattle.round_core.specs.OwnPicks.{CanCountInto, AreLeastNumbers}
 use Rattle.round_core.proofs.Counts.{picks_are, picks_alike}
 use Rattle.round_core.specs.BookValue.{opened, is_leaving, is_offer, BookValue, hearing_of, hearings, named_links, all_named, CanCount, IsBookValue, IsBook}
 
@@ -173,13 +173,21 @@ same_named cut answers l = (to, back)
 pub offer_at : (links : List Link) (labels : List ℕ) (offers : List Offer) (i : ℕ) → i < length offers → list_all (is_offer links labels) offers ≡ true → IsOffered links labels (get_or offers i (0, 0)).1
 offer_at links labels offers i lt all = offered links labels (get_or offers i (0, 0)) (all_at (is_offer links labels) offers i (0, 0) lt all)
 
--- the answers of a book can be counted under the labels that it looks up
-pub can_count : (p : BookValue) (looked_up : List ℕ) (answers : List AnswerValue) → IsBookValue p → looked_up ≡ p.labels → answers ≡ p.answers → CanCount p.cut looked_up answers
-can_count p looked_up answers is same answers_are = rw (same, answers_are) (record {
-  labelled = is.labels;
-  ends = is.ends;
-  right = λ i a lt. let right = is.right i a lt in record { round_is = refl; within = right.within; offers = right.offers };
-})
+-- the answers of a book can be counted under the labels that it looks up, into the numbers of its picks
+pub can_close : (p : BookValue) (looked_up : List ℕ) (room : ℕ) (best : List (Option Link)) (answers : List AnswerValue) (items numbers : List ℕ) → IsBook p looked_up room best → answers ≡ p.answers → numbers ≡ items
+    → length items ≡ length best → All (λ k. k ≡ no_pick) items → CanCountInto p.cut looked_up answers numbers
+can_close p looked_up room best answers items numbers is answers_are numbers_are long none = record {
+  can = can;
+  each_vertex = ap length numbers_are ∙ long ∙ is.room_for_picks ∙ ap length (sym is.same_labels);
+  none = rw numbers_are none;
+}
+  where
+    can : CanCount p.cut looked_up answers
+    can = rw (is.same_labels, answers_are) (record {
+      labelled = is.value.labels;
+      ends = is.value.ends;
+      right = λ i a lt. let right = is.value.right i a lt in record { round_is = refl; within = right.within; offers = right.offers };
+    })
 
 -- the least numbers of the links that its answers name make the picks of what it heard
 pub picks_of_numbers : (p : BookValue) (looked_up : List ℕ) (answers : List AnswerValue) (numbers items : List ℕ) (picks : List (Option Link)) → looked_up ≡ p.labels → answers ≡ p.answers → items ≡ numbers → picks ≡ map pick_in items

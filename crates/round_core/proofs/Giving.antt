@@ -101,9 +101,11 @@ none_of_roots picks S labels roots are_labels are_picks are_roots = (to, back)
             let wrong : Some l ≡ None = sym is ∙ ap (λ k. get_or picks k None) (sym back) ∙ All-contains (λ c. pick_of picks c ≡ None) roots (i + 1) none root in
             absurd (cc)
 
-pub none_in_progress : (p : Progress) (roots : List ℕ) (picks : List (Option Link)) → IsProgress p → AreRoots p.labels roots → ArePicksOfHearings p.labels picks → All (λ c. pick_of picks c ≡ None) roots ↔ AreNoPicks picks
-none_in_progress p roots picks is are_roots (heard, are) =
-    none_of_roots picks (IsNamed heard) p.labels roots (labelling_is_labels (vertices p) (Contains p.taken) p.labels is.few_vertices is.labelling) are are_roots
+pub none_in_progress : (p : Progress) (roots : List ℕ) (picks : List (Option Link)) (r : Bool) → IsProgress p → AreRoots p.labels roots → ArePicksOfHearings p.labels picks
+    → (r ≡ true) ↔ All (λ c. pick_of picks c ≡ None) roots → (r ≡ true) ↔ AreNoPicks picks
+none_in_progress p roots picks r is are_roots (heard, are) decides =
+    let none = none_of_roots picks (IsNamed heard) p.labels roots (labelling_is_labels (vertices p) (Contains p.taken) p.labels is.few_vertices is.labelling) are are_roots in
+    (λ yes. none.0 (decides.0 yes), λ none_picked. decides.1 (none.1 none_picked))
 
 -- only roots have picks
 pub all_at_roots : (p : Progress) (roots : List ℕ) (picks : List (Option Link)) → IsProgress p → AreRoots p.labels roots → ArePicksOfHearings p.labels picks → HaveAllPicks picks roots

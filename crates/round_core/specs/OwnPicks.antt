@@ -6,6 +6,7 @@ use Rattle.links.specs.Offers.{Offer}
 use Rattle.links.specs.Cut.{links_at}
 use Rattle.links.specs.AnswerValue.{AnswerValue}
 use Rattle.round_theory.specs.Offers.{Leaves}
+use Rattle.round_core.specs.BookValue.{CanCount}
 use Rattle.round_core.specs.PickNumbers.{IsKeyNumber, no_pick}
 
 -- each offer names a place of the list
@@ -48,6 +49,12 @@ pub record AreLeastNumbers (labels : List ℕ) (links : List Link) (numbers : Li
   pub each_vertex : length numbers ≡ length labels
   pub from : (i : ℕ) → i < length numbers → IsNumberOf labels links (i + 1) (slice_index numbers i)
   pub counted : AreCountedIn labels numbers links
+
+-- answers that can be counted into numbers of no picks
+pub record CanCountInto (cut : List (List Link)) (labels : List ℕ) (answers : List AnswerValue) (numbers : List ℕ) : Type 0 where
+  pub can : CanCount cut labels answers
+  pub each_vertex : length numbers ≡ length labels
+  pub none : All (λ k. k ≡ no_pick) numbers
 
 -- links were counted into the numbers: of whatever list they are the least before, of that list and these links they are the least after
 abbrev pub Counts : List ℕ → List Link → List ℕ → List ℕ → Type 0

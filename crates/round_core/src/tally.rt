@@ -4,11 +4,11 @@
 //! all where answers are light: the link's other component has an offer of its own there, of a link that isn't greater. Whether
 //! it is so is looked at, by several threads for an answer of many offers, which write nothing. Where it isn't, all offers are counted in one thread. So
 //! nothing but the time stands on whether the least was taken: what was taken has to be offered, and the look finds the rest.
-ghost use Rattle.std.specs.Prelude.{◌≡◌, ◌≢◌, [], ◌∷◌, ◌<◌, ◌≤◌, ◌↔◌, length, slice_get, All, Some, IsTrue};
+ghost use Rattle.std.specs.Prelude.{◌≡◌, ◌≢◌, [], ◌∷◌, ◌<◌, ◌≤◌, ◌↔◌, length, slice_get, Some, IsTrue};
 ghost use Rattle.links.specs.declared.links.Link.{Link as TheLink};
 ghost use Rattle.links.specs.Labels.{label_of};
 ghost use Rattle.round_core.specs.BookValue.{named_links, all_named, CanCount, CanCountOffers};
-ghost use Rattle.round_core.specs.OwnPicks.{IsCountedIn, AreCountedIn, AreLeastNumbers, Counts};
+ghost use Rattle.round_core.specs.OwnPicks.{IsCountedIn, AreCountedIn, CanCountInto, AreLeastNumbers, Counts};
 
 use crate::end_labels::EndLabels;
 use crate::own_picks::take_by_parts;
@@ -38,9 +38,7 @@ pub(crate) fn count_by_threads<R: Threads + Sync, A: Allocator + Copy + Send + S
     answers: &[Answer<A>],
     numbers: &mut [u128],
 )
-    requires can { CanCount cut.now labels.now answers.now }
-    requires each_vertex { length numbers.old ≡ length labels.now }
-    requires none { All (λ k. k ≡ NO_PICK) numbers.old }
+    requires into { CanCountInto cut.now labels.now answers.now numbers.old }
     ensures { AreLeastNumbers labels.now (all_named cut.now answers.now) numbers.new }
 {
     if offers_in(answers) < FEW_OFFERS {
@@ -119,9 +117,7 @@ pub(crate) fn count_answers<A: Allocator>(
     answers: &[Answer<A>],
     numbers: &mut [u128],
 )
-    requires can { CanCount cut.now labels.now answers.now }
-    requires each_vertex { length numbers.old ≡ length labels.now }
-    requires none { All (λ k. k ≡ NO_PICK) numbers.old }
+    requires into { CanCountInto cut.now labels.now answers.now numbers.old }
     ensures { AreLeastNumbers labels.now (all_named cut.now answers.now) numbers.new }
 {
     for answer in answers {

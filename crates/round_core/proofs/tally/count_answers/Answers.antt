@@ -9,7 +9,7 @@ use Rattle.round_core.proofs.Counts.{none_are_least}
 use Rattle.round_core.proofs.tally.count_answers.Goals as goal
 
 pub loop-answer-init : goal.loop-answer-init
-loop-answer-init g c = none_are_least c.args.labels.now c.args.numbers.now c.requires.each_vertex c.requires.none
+loop-answer-init g c = none_are_least c.args.labels.now c.args.numbers.now c.requires.into.each_vertex c.requires.into.none
 
 pub loop-answer-preserved : goal.loop-answer-preserved
 loop-answer-preserved g c =

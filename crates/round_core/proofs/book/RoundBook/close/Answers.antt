@@ -1,25 +1,20 @@
-use Rattle.std.proofs.Common.{ℕ, List, length, sym, ap, ◌∙◌, subst}
+use Rattle.std.proofs.Common.{ℕ, List, sym, ◌∙◌, subst}
 use Rattle.std.specs.Prelude.{All}
 use Rattle.std.proofs.lemmas.List.{with_items_is}
 use Rattle.round_theory.specs.Offers.{IsNamed}
 use Rattle.round_core.specs.BookValue.{BookValue, hearings}
 use Rattle.round_core.specs.Picks.{ArePicks}
 use Rattle.round_core.specs.PickNumbers.{IsPickNumber}
-use Rattle.round_core.proofs.Books.{can_count, picks_of_numbers}
+use Rattle.round_core.proofs.Books.{can_close, picks_of_numbers}
 use Rattle.round_core.proofs.Counts.{are_numbers}
 use Rattle.round_core.proofs.book.RoundBook.close.Goals as goal
 
-pub count_answers-requires-clause-can : goal.count_answers-requires-clause-can
-count_answers-requires-clause-can g c =
+pub count_answers-requires : goal.count_answers-requires
+count_answers-requires g c =
     let book = c.self.inside in
     let value : BookValue = record { round = book.round; cut = book.cut.now; labels = book.labels.now; taken = book.taken.items; answers = book.answers.items } in
-    can_count value book.end_labels c.as_slice.result.now c.self.invariant.value c.self.invariant.same_labels c.as_slice.ensures.value
-
-pub count_answers-requires-clause-each_vertex : goal.count_answers-requires-clause-each_vertex
-count_answers-requires-clause-each_vertex g c = ap length c.as_mut_slice.ensures.value ∙ c.into_numbers-numbers.ensures.each_vertex ∙ c.self.invariant.room_for_picks ∙ ap length (sym c.self.invariant.same_labels)
-
-pub count_answers-requires-clause-none : goal.count_answers-requires-clause-none
-count_answers-requires-clause-none g c = rw c.as_mut_slice.ensures.value c.into_numbers-numbers.ensures.none
+    let items = c.into_numbers-numbers in
+    record { into = can_close value book.end_labels _ book.picks c.as_slice.result.now items.result.items c.as_mut_slice.result.now c.self.invariant c.as_slice.ensures.value c.as_mut_slice.ensures.value items.ensures.each_vertex items.ensures.none }
 
 pub of_numbers-requires : goal.of_numbers-requires
 of_numbers-requires g c =
