@@ -14,7 +14,7 @@
 //!   where they span; by the least links it makes just the merging rounds, and the forest.
 //!
 //! Where to start a change: `specs/BookValue` says what a book is and when it refuses, `specs/Picks` what picks are,
-//! `specs/EndLabels` in what labels of ends are looked up, `specs/OwnPicks` how threads count, `specs/Roots` how a solver
+//! `specs/EndLabels` in what labels of ends are looked up, `specs/OwnPicks` how offers are counted, `specs/Roots` how a solver
 //! joins those that are left, and `specs/Solver` what a round and the end are; `laws` ties them to the theory. `book`,
 //! `end_labels`, `tally`, `own_picks`, `picks`, `hooks`, `roots`, `missed`, `solver` and `alone` do it.
 #![tactic(auto)]
