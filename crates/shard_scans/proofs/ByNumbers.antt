@@ -131,6 +131,9 @@ module _ (links : List Link) (labels marks names : List ℕ) (ends : EndsUpTo (l
           let (c, c_is, named, number, b) = kept_label e.0 e.1 ((places.exact e.0 e.1).0 (Contains-get_or pairs k d lt)) in
           (c, c_is, number, b, ap (λ n. get_or names (n - 1) 0) (sym number) ∙ named)
 
+      pub has_name : (k : ℕ) (d : Offer) → k < length pairs → IsVertex (length names) (get_or pairs k d).0
+      has_name k d lt = let (c, c_is, number, b, name) = label_at k d lt in (omega (arith, number), omega (arith, number, within c c_is))
+
       -- so the pairs, by the names of the numbers, are the light offers
       light_by_numbers : AreLightOffers links labels (map (offered names) pairs)
       light_by_numbers = record { ascending = ascending; exact = λ c place. (to c place, back c place) }

@@ -1,6 +1,6 @@
 -- The next scan of links that are listed by numbers.
 use Rattle.std.proofs.Common.{◌≡◌, ℕ, ◌<◌, ◌≤◌, List, length, get_or, map, replicate, All, sym, ap, ◌∙◌, subst, inl, inr, arith}
-use Rattle.std.proofs.lemmas.List.{get_or-map, length-map, same_lists}
+use Rattle.std.proofs.lemmas.List.{get_or-map, length-map, length-replicate, same_lists}
 use Rattle.links.specs.declared.links.Link.{Link}
 use Rattle.links.specs.Labels.{label_of}
 use Rattle.shard_scans.specs.declared.scanning.Best.{Best}
@@ -8,7 +8,7 @@ use Rattle.shard_scans.specs.declared.live.LiveLink.{LiveLink}
 use Rattle.shard_scans.specs.declared.numbers.Word.{Word}
 use Rattle.shard_scans.specs.Scanning.{no_best, AreBestUpTo}
 use Rattle.shard_scans.specs.Live.{AreParallel, places_of, AreLiveLinks, CanBeTakenIn, TakesInLive, relabelled}
-use Rattle.shard_scans.specs.Numbers.{marks_of, IsMarked, marked_in, number_of, numbered, numbered_labels, shown, HasItsName, HasNumbers, AreByNumbers, AreLiveByNumbers, AreNumbered, HaveNames}
+use Rattle.shard_scans.specs.Numbers.{marks_of, marked_in, IsMarked, number_of, numbered, numbered_labels, HasItsName, HasNumbers, AreByNumbers, AreLiveByNumbers, AreNumbered, AreListed}
 use Rattle.shard_scans.proofs.Scans.{best_of_none}
 use Rattle.shard_scans.proofs.Laid.{live_or_aside}
 use Rattle.shard_scans.proofs.Written.{place_in_list, live_ends, live_links_coarser}
@@ -16,19 +16,32 @@ use Rattle.shard_scans.proofs.Numbering.{number_within_names}
 use Rattle.shard_scans.proofs.ByNumbers.{own_label, own_coarsens}
 use Rattle.shard_scans.proofs.Relisting.{number_at, by_numbers_long, shown_again, have_names}
 
-module _ (links : List Link) (labels marks names : List ℕ) (by_labels live : List LiveLink) (are : AreLiveLinks links labels by_labels) (own : All (λ e. relabelled labels e ≡ e) by_labels)
-    (within : (c : ℕ) → IsMarked marks c → number_of marks c ≤ length names) (by : AreByNumbers marks names by_labels live) where
-  -- each can be taken in
-  pub next_can_be_taken_in : (count k : ℕ) (d : LiveLink) → count ≡ length names → k < length live → CanBeTakenIn links count (get_or live k d)
-  next_can_be_taken_in count k d size lt =
-      let in_labels : k < length by_labels = omega (arith, lt, by_numbers_long marks names within by_labels live by) in
-      let e : LiveLink = get_or by_labels k d in
-      let is = by.marked k d in_labels in
-      subst (CanBeTakenIn links count) (sym (number_at marks names within by_labels live by k d in_labels)) (record {
-        low = (omega arith, omega (arith, size, within e.low is.0));
-        high = (omega arith, omega (arith, size, within e.high is.1));
-        in_list = place_in_list links labels by_labels are k in_labels d;
-      })
+module _ (links : List Link) (labels : List ℕ) (words : List Word) (names : List ℕ) (live : List LiveLink) (size : length names ≡ marked_in (marks_of words) (length words))
+    (listed : AreLiveByNumbers links labels (marks_of words) names live) where
+  abbrev marks : List ℕ
+  marks = marks_of words
+
+  abbrev by_labels : List LiveLink
+  by_labels = listed.by_labels
+
+  are : AreLiveLinks links labels by_labels
+  are = listed.live_are
+
+  own : All (λ e. relabelled labels e ≡ e) by_labels
+  own = listed.own
+
+  by : AreByNumbers marks names by_labels live
+  by = listed.by_numbers
+
+  within : (c : ℕ) → IsMarked marks c → number_of marks c ≤ length names
+  within = number_within_names words names size
+
+  -- they are listed, by what they are written with once the numbers have their names
+  pub numbers_are_listed : AreListed links labels names live
+  numbers_are_listed = record {
+    live = subst (AreLiveLinks links labels) (sym (shown_again marks names within by_labels live by)) are;
+    have_names = have_names marks names within by_labels live by;
+  }
 
   -- of a link that is listed the ends have numbers
   listed_has_numbers : (k : ℕ) (l : Link) → k < length (places_of by_labels) → l ≡ get_or links (get_or (places_of by_labels) k 0) l → HasNumbers labels marks names l
@@ -93,26 +106,24 @@ module _ (links : List Link) (labels marks names : List ℕ) (by_labels live : L
       let same : numbered marks e ≡ relabelled mine e = λ j. record { low = low j; high = high j; place = e.place } in
       get_or-map (numbered marks) by_labels k d d in_labels ∙ same ∙ sym (get_or-map (relabelled mine) by_labels k d d in_labels))
 
-  -- once all are taken in, the best places are kept
-  pub next_best : (count : ℕ) (table table' : List Best) → table ≡ replicate count no_best → TakesInLive links live table table'
-      → AreBestUpTo count links (numbered_labels marks labels) 0 (length links) table'
-  next_best count table table' none takes =
-      let mine = numbered_labels marks labels in
-      takes count mine by_labels (live_links_coarser links mine labels by_labels (own_coarsens marks labels) are) written_own
-      (subst (AreBestUpTo count links mine 0 0) (sym none) (best_of_none count links mine 0))
+  -- over a table that keeps nothing yet
+  module _ (table : List Best) (none : table ≡ replicate (length names) no_best) where
+    -- each can be taken in
+    pub next_can_be_taken_in : (k : ℕ) (d : LiveLink) → k < length live → CanBeTakenIn links (length table) (get_or live k d)
+    next_can_be_taken_in k d lt =
+        let in_labels : k < length by_labels = omega (arith, lt, by_numbers_long marks names within by_labels live by) in
+        let e : LiveLink = get_or by_labels k d in
+        let is = by.marked k d in_labels in
+        let long : length table ≡ length names = ap (λ (t : List Best). length t) none ∙ length-replicate (length names) no_best in
+        subst (CanBeTakenIn links (length table)) (sym (number_at marks names within by_labels live by k d in_labels)) (record {
+          low = (omega arith, omega (arith, long, within e.low is.0));
+          high = (omega arith, omega (arith, long, within e.high is.1));
+          in_list = place_in_list links labels by_labels are k in_labels d;
+        })
 
--- live links by labels that stand for themselves, and what is written of them by numbers
-module _ (links : List Link) (labels : List ℕ) (row live : List LiveLink) (row_are : AreLiveLinks links labels row) (own : All (λ e. relabelled labels e ≡ e) row)
-    (words : List Word) (count : ℕ) (counted : count ≡ marked_in (marks_of words) (length words)) (names : List ℕ) (long : length names ≡ count)
-    (by : AreByNumbers (marks_of words) names row live) where
-  within : (d : ℕ) → IsMarked (marks_of words) d → number_of (marks_of words) d ≤ length names
-  within = number_within_names words names (long ∙ counted)
-
-  pub row_by_numbers : AreLiveByNumbers links labels (marks_of words) names live
-  row_by_numbers = record { by_labels = row; live_are = row_are; own = own; by_numbers = by }
-
-  pub row_live : AreLiveLinks links labels (shown names live)
-  row_live = subst (AreLiveLinks links labels) (sym (shown_again (marks_of words) names within row live by)) row_are
-
-  pub row_names : HaveNames names live
-  row_names = have_names (marks_of words) names within row live by
+    -- once all are taken in, the best places are kept
+    pub next_best : (table' : List Best) → TakesInLive links live table table' → AreBestUpTo (length names) links (numbered_labels marks labels) 0 (length links) table'
+    next_best table' takes =
+        let mine = numbered_labels marks labels in
+        takes (length names) mine by_labels (live_links_coarser links mine labels by_labels (own_coarsens marks labels) are) written_own
+        (subst (AreBestUpTo (length names) links mine 0 0) (sym none) (best_of_none (length names) links mine 0))

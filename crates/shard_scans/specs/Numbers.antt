@@ -84,6 +84,11 @@ new_name labels name = slice_index_or labels (name - 1) 1
 abbrev pub shown : List ℕ → List LiveLink → List LiveLink
 shown names live = map (named names) live
 
+-- live links, listed by numbers that have names
+pub record AreListed (links : List Link) (labels names : List ℕ) (listed : List LiveLink) : Type 0 where
+  pub live : AreLiveLinks links labels (shown names listed)
+  pub have_names : HaveNames names listed
+
 -- the labels of both ends are marked, and stand by their numbers among the names
 pub record HasNumbers (labels marks names : List ℕ) (l : Link) : Type 0 where
   pub low_marked : IsMarked marks (label_of labels l.low)

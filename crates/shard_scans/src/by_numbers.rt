@@ -1,12 +1,11 @@
 //! Passes over links by the numbers of their labels.
-ghost use Rattle.std.specs.Prelude.{◌≡◌, ℕ, ◌<◌, ◌≤◌, length, map, slice_index_or, replicate, IfOk};
+ghost use Rattle.std.specs.Prelude.{◌≡◌, ℕ, ◌<◌, ◌≤◌, length, map, slice_index_or, IfOk};
 ghost use Rattle.limits.specs.declared.TheConstants.{MAX_SHARD_LINKS};
 ghost use Rattle.links.specs.Link.{EndsUpTo};
 ghost use Rattle.links.specs.Offers.{Offer};
 ghost use Rattle.round_theory.specs.Labelling.{IsVertex};
 ghost use Rattle.round_theory.specs.Offers.{AreLightOffers};
-ghost use Rattle.shard_scans.specs.Scanning.{no_best, AreBestUpTo};
-ghost use Rattle.shard_scans.specs.Numbers.{marks_of, marked_in, AreCounted, AreNumbered, AreLiveByNumbers, numbered_labels, offered};
+ghost use Rattle.shard_scans.specs.Numbers.{marks_of, marked_in, AreCounted, AreListed, AreLiveByNumbers, offered};
 
 use crate::listed::Listed;
 use crate::live::keep_all;
@@ -15,7 +14,7 @@ use crate::table::Table;
 use links::{Link, Offers};
 use std::alloc::{AllocError, Allocator};
 
-// The offers of live links that are listed by numbers, over a table that keeps nothing yet.
+// The offers of live links that are listed by numbers, over a table that is cleared first.
 pub(crate) fn offers_of_listed<A: Allocator + Copy>(
     links: &[Link],
     labels: &[u32],
@@ -27,32 +26,14 @@ pub(crate) fn offers_of_listed<A: Allocator + Copy>(
     requires ends { EndsUpTo (length labels.now) links.now }
     requires counted { AreCounted numbers.now }
     requires names { length listed.now.names.items ≡ marked_in (marks_of numbers.now) (length numbers.now) }
-    requires none_yet { table.old ≡ replicate (length listed.now.names.items) no_best }
     requires live { AreLiveByNumbers links.now labels.now (marks_of numbers.now) listed.now.names.items listed.now.links.items }
     ensures light { IfOk result (AreLightOffers links.now labels.now) }
+    ensures listed { AreListed links.now labels.now listed.now.names.items listed.now.links.items }
 {
+    table.clear(listed.names.len())?;
     keep_all(links, listed.links.as_slice(), table);
-    offers_by_numbers(links, labels, numbers, listed.names.as_slice(), table)
-}
-
-// The offers of a table by numbers.
-pub(crate) fn offers_by_numbers<A: Allocator + Copy>(
-    links: &[Link],
-    labels: &[u32],
-    numbers: &Numbers<A>,
-    names: &[u32],
-    table: &Table<A>,
-) -> Result<Offers<A>, AllocError>
-    requires few_links { length links.now ≤ MAX_SHARD_LINKS }
-    requires ends { EndsUpTo (length labels.now) links.now }
-    requires counted { AreCounted numbers.now }
-    requires numbered { AreNumbered links.now labels.now (marks_of numbers.now) names.now }
-    requires names { length names.now ≡ marked_in (marks_of numbers.now) (length numbers.now) }
-    requires best { AreBestUpTo (length names.now) links.now (numbered_labels (marks_of numbers.now) labels.now) 0 (length links.now) table.now }
-    ensures light { IfOk result (AreLightOffers links.now labels.now) }
-{
     let mut pairs = table.gather()?;
-    name_each(pairs.as_mut_slice(), names);
+    name_each(pairs.as_mut_slice(), listed.names.as_slice());
     Ok(Offers::of_known(pairs))
 }
 

@@ -4,8 +4,8 @@ ghost use Rattle.links.specs.Link.{EndsUpTo};
 ghost use Rattle.links.specs.Labels.{AreLabels};
 ghost use Rattle.round_theory.specs.Offers.{AreLightOffers};
 ghost use Rattle.shard_scans.specs.Scanning.{short_key, no_best, Says, KeepsLesser, AreBest, TakesIn};
-ghost use Rattle.shard_scans.specs.Live.{AreLiveLinks, CanBeTakenIn};
-ghost use Rattle.shard_scans.specs.Numbers.{HaveNames, shown};
+ghost use Rattle.shard_scans.specs.Live.{CanBeTakenIn};
+ghost use Rattle.shard_scans.specs.Numbers.{AreListed};
 
 use crate::by_numbers::offers_of_listed;
 use crate::listed::Listed;
@@ -111,15 +111,13 @@ impl<A: Allocator + Copy> Scanner<A> {
         requires few_links { length links.now ≤ MAX_SHARD_LINKS }
         requires ends { EndsUpTo (length labels.now) links.now }
         ensures light { IfOk result (λ scanned. AreLightOffers links.now labels.now scanned.0) }
-        ensures live { IfOk result (λ scanned. AreLiveLinks links.now labels.now (shown scanned.1.names.items scanned.1.links.items)) }
-        ensures have_names { IfOk result (λ scanned. HaveNames scanned.1.names.items scanned.1.links.items) }
+        ensures listed { IfOk result (λ scanned. AreListed links.now labels.now scanned.1.names.items scanned.1.links.items) }
     {
         let labels = labels.as_slice();
         let live = write_live(self.table.allocator(), links, labels)?;
         self.numbers.clear(labels.len())?;
         mark_each(live.as_slice(), &mut self.numbers);
         let count = self.numbers.count();
-        self.table.clear(count)?;
         let listed = Listed::new(live, &self.numbers, count)?;
         let offers = offers_of_listed(links, labels, &listed, &self.numbers, &mut self.table)?;
         Ok((offers, listed))
@@ -134,17 +132,14 @@ impl<A: Allocator + Copy> Scanner<A> {
     ) -> Result<Offers<A>, AllocError>
         requires few_links { length links.now ≤ MAX_SHARD_LINKS }
         requires ends { EndsUpTo (length labels.now) links.now }
-        requires live { AreLiveLinks links.now labels.now (shown listed.old.names.items listed.old.links.items) }
-        requires have_names { HaveNames listed.old.names.items listed.old.links.items }
+        requires listed { AreListed links.now labels.now listed.old.names.items listed.old.links.items }
         ensures light { IfOk result (AreLightOffers links.now labels.now) }
-        ensures live { AreLiveLinks links.now labels.now (shown listed.new.names.items listed.new.links.items) }
-        ensures have_names { HaveNames listed.new.names.items listed.new.links.items }
+        ensures listed { AreListed links.now labels.now listed.new.names.items listed.new.links.items }
     {
         let labels = labels.as_slice();
         self.numbers.clear(labels.len())?;
         mark_names(listed.names.as_slice(), labels, &mut self.numbers);
         let count = self.numbers.count();
-        self.table.clear(count)?;
         listed.renumber(labels, &self.numbers, count)?;
         offers_of_listed(links, labels, listed, &self.numbers, &mut self.table)
     }

@@ -4,42 +4,24 @@ use Rattle.shard_scans.specs.Live.{AreLiveLinks, packed}
 use Rattle.shard_scans.specs.Numbers.{shown}
 use Rattle.shard_scans.proofs.Written.{live_ends}
 use Rattle.shard_scans.proofs.Packed.{packed_live, packed_own}
-use Rattle.shard_scans.proofs.NextScan.{row_by_numbers, row_live, row_names}
 use Rattle.shard_scans.proofs.scanning.Scanner.scan_listed.Goals as goal
 
 pub renumber-requires-clause-ends : goal.renumber-requires-clause-ends
 renumber-requires-clause-ends g c =
     let old = shown c.args.listed.now.names.items c.args.listed.now.links.items in
     live_ends c.args.links.now c.as_slice-labels.result.now old
-    (subst (λ (t : List ℕ). AreLiveLinks c.args.links.now t old) (sym c.as_slice-labels.ensures.labels) c.requires.live)
+    (subst (λ (t : List ℕ). AreLiveLinks c.args.links.now t old) (sym c.as_slice-labels.ensures.labels) c.requires.listed.live)
 
 pub offers_of_listed-requires-clause-live : goal.offers_of_listed-requires-clause-live
 offers_of_listed-requires-clause-live g c =
     let links = c.args.links.now in
     let labels = c.as_slice-labels.result.now in
     let old = shown c.args.listed.now.names.items c.args.listed.now.links.items in
-    let are = subst (λ (t : List ℕ). AreLiveLinks links t old) (sym c.as_slice-labels.ensures.labels) c.requires.live in
+    let are = subst (λ (t : List ℕ). AreLiveLinks links t old) (sym c.as_slice-labels.ensures.labels) c.requires.listed.live in
     let labelled = subst AreLabels (sym c.as_slice-labels.ensures.labels) c.as_slice-labels.ensures.are_labels in
-    row_by_numbers links labels (packed labels old) c.renumber.new.self.links.items (packed_live links labels old labelled are) (packed_own links labels old labelled are)
-    c.count-count.new.self c.count-count.result c.count-count.ensures.total c.renumber.new.self.names.items c.in_ok-renumber.ensures.names c.in_ok-renumber.ensures.numbered
-
-pub returns-clause-live : goal.returns-clause-live
-returns-clause-live g c =
-    let links = c.args.links.now in
-    let labels = c.as_slice-labels.result.now in
-    let old = shown c.args.listed.now.names.items c.args.listed.now.links.items in
-    let are = subst (λ (t : List ℕ). AreLiveLinks links t old) (sym c.as_slice-labels.ensures.labels) c.requires.live in
-    let labelled = subst AreLabels (sym c.as_slice-labels.ensures.labels) c.as_slice-labels.ensures.are_labels in
-    subst (λ (t : List ℕ). AreLiveLinks links t (shown c.renumber.new.self.names.items c.renumber.new.self.links.items)) c.as_slice-labels.ensures.labels
-    (row_live links labels (packed labels old) c.renumber.new.self.links.items (packed_live links labels old labelled are) (packed_own links labels old labelled are)
-    c.count-count.new.self c.count-count.result c.count-count.ensures.total c.renumber.new.self.names.items c.in_ok-renumber.ensures.names c.in_ok-renumber.ensures.numbered)
-
-pub returns-clause-have_names : goal.returns-clause-have_names
-returns-clause-have_names g c =
-    let links = c.args.links.now in
-    let labels = c.as_slice-labels.result.now in
-    let old = shown c.args.listed.now.names.items c.args.listed.now.links.items in
-    let are = subst (λ (t : List ℕ). AreLiveLinks links t old) (sym c.as_slice-labels.ensures.labels) c.requires.live in
-    let labelled = subst AreLabels (sym c.as_slice-labels.ensures.labels) c.as_slice-labels.ensures.are_labels in
-    row_names links labels (packed labels old) c.renumber.new.self.links.items (packed_live links labels old labelled are) (packed_own links labels old labelled are)
-    c.count-count.new.self c.count-count.result c.count-count.ensures.total c.renumber.new.self.names.items c.in_ok-renumber.ensures.names c.in_ok-renumber.ensures.numbered
+    record {
+      by_labels = packed labels old;
+      live_are = packed_live links labels old labelled are;
+      own = packed_own links labels old labelled are;
+      by_numbers = c.in_ok-renumber.ensures.numbered;
+    }
