@@ -1,5 +1,6 @@
 -- Numbers of marked labels: they ascend as the labels do.
 use Rattle.std.proofs.Common.{◌≡◌, ◌≢◌, ℕ, zero, suc, ◌+◌, ◌-◌, ◌*◌, ◌/◌, ◌%◌, ◌^◌, ◌<◌, ◌≤◌, ◌⊎◌, List, length, get_or, set, bit_or, count_ones, refl, sym, ap, ◌∙◌, subst, inl, inr, arith, w64}
+use Rattle.std.specs.Prelude.{◌↔◌}
 use Rattle.std.specs.Int.{bit_at}
 use Rattle.std.proofs.lemmas.Bool.{cases_eq, cases_lt}
 use Rattle.std.proofs.lemmas.List.{get_or-set_same, get_or-set_other, get_or_past, get_or_default, length-set}
@@ -119,47 +120,39 @@ module _ (marks : List ℕ) (label : ℕ) (from_one : 1 ≤ label) (within : (la
   small : (k : ℕ) → k % 64 < 64
   small k = omega arith
 
-  pub mark_sets : IsMarked new label
-  mark_sets = record {
+  long : length new ≡ length marks
+  long = length-set marks at (with_bit (get_or marks at 0) bit)
+
+  here : get_or new at 0 ≡ with_bit (get_or marks at 0) bit
+  here = get_or-set_same marks at (with_bit (get_or marks at 0) bit) 0 within
+
+  itself : IsMarked new label
+  itself = record {
     from_one = from_one;
-    in_words = omega (arith, within, length-set marks at (with_bit (get_or marks at 0) bit));
-    bit = rw (get_or-set_same marks at (with_bit (get_or marks at 0) bit) 0 within) (bit_at_set_same w64 (get_or marks at 0) bit (small (label - 1)));
+    in_words = omega (arith, within, long);
+    bit = ap (λ w. bit_at w bit) here ∙ bit_at_set_same w64 (get_or marks at 0) bit (small (label - 1));
   }
 
-  pub mark_keeps : (c : ℕ) → IsMarked marks c → IsMarked new c
-  mark_keeps c is = elim (cases_eq c label) [
-    | inl same ↦ subst (IsMarked new) (sym same) mark_sets
-    | inr other ↦ record {
-      from_one = is.from_one;
-      in_words = omega (arith, is.in_words, length-set marks at (with_bit (get_or marks at 0) bit));
-      bit = elim (cases_eq ((c - 1) / 64) at) [
-        | inl one ↦
-            let apart : (c - 1) % 64 ≢ bit = λ same. other (omega (arith, one, same, is.from_one, from_one)) in
-            rw (one, get_or-set_same marks at (with_bit (get_or marks at 0) bit) 0 within, bit_at_set_other w64 (get_or marks at 0) bit (small (label - 1)) ((c - 1) % 64) apart)
-            (subst (λ w. bit_at (get_or marks w 0) ((c - 1) % 64) ≡ 1) one is.bit)
-        | inr far ↦ rw (get_or-set_other marks at ((c - 1) / 64) (with_bit (get_or marks at 0) bit) 0 far) is.bit
-      ];
-    }
+  -- the bits of other labels stay
+  other_bit : (c : ℕ) → 1 ≤ c → c ≢ label → bit_at (get_or new ((c - 1) / 64) 0) ((c - 1) % 64) ≡ bit_at (get_or marks ((c - 1) / 64) 0) ((c - 1) % 64)
+  other_bit c c_from_one other = elim (cases_eq ((c - 1) / 64) at) [
+    | inl one ↦
+        let apart : (c - 1) % 64 ≢ bit = λ same. other (omega (arith, one, same, c_from_one, from_one)) in
+        subst (λ w. bit_at (get_or new w 0) ((c - 1) % 64) ≡ bit_at (get_or marks w 0) ((c - 1) % 64)) (sym one)
+        (ap (λ w. bit_at w ((c - 1) % 64)) here ∙ bit_at_set_other w64 (get_or marks at 0) bit (small (label - 1)) ((c - 1) % 64) apart)
+    | inr far ↦ ap (λ w. bit_at w ((c - 1) % 64)) (get_or-set_other marks at ((c - 1) / 64) (with_bit (get_or marks at 0) bit) 0 far)
   ]
 
-  -- no other label gets a mark
-  pub mark_only : (c : ℕ) → IsMarked new c → (c ≡ label) ⊎ IsMarked marks c
-  mark_only c is = elim (cases_eq c label) [
-    | inl same ↦ inl same
-    | inr other ↦ inr (record {
-      from_one = is.from_one;
-      in_words = omega (arith, is.in_words, length-set marks at (with_bit (get_or marks at 0) bit));
-      bit = elim (cases_eq ((c - 1) / 64) at) [
-        | inl one ↦
-            let apart : (c - 1) % 64 ≢ bit = λ same. other (omega (arith, one, same, is.from_one, from_one)) in
-            let there : bit_at (with_bit (get_or marks at 0) bit) ((c - 1) % 64) ≡ 1 =
-            ap (λ w. bit_at w ((c - 1) % 64)) (sym (get_or-set_same marks at (with_bit (get_or marks at 0) bit) 0 within))
-            ∙ subst (λ w. bit_at (get_or new w 0) ((c - 1) % 64) ≡ 1) one is.bit in
-            subst (λ w. bit_at (get_or marks w 0) ((c - 1) % 64) ≡ 1) (sym one)
-            (sym (bit_at_set_other w64 (get_or marks at 0) bit (small (label - 1)) ((c - 1) % 64) apart) ∙ there)
-        | inr far ↦ ap (λ w. bit_at w ((c - 1) % 64)) (sym (get_or-set_other marks at ((c - 1) / 64) (with_bit (get_or marks at 0) bit) 0 far)) ∙ is.bit
-      ];
-    })
+  pub mark_more : (c : ℕ) → IsMarked new c ↔ ((c ≡ label) ⊎ IsMarked marks c)
+  mark_more c = elim (cases_eq c label) [
+    | inl same ↦ (λ is. inl same, λ either. subst (IsMarked new) (sym same) itself)
+    | inr other ↦ (
+      λ is. inr (record { from_one = is.from_one; in_words = omega (arith, is.in_words, long); bit = sym (other_bit c is.from_one other) ∙ is.bit }),
+      λ either. elim either [
+        | inl same ↦ absurd (other same)
+        | inr is ↦ record { from_one = is.from_one; in_words = omega (arith, is.in_words, long); bit = other_bit c is.from_one other ∙ is.bit }
+      ],
+    )
   ]
 
 abbrev marks_in : Word → ℕ
@@ -178,21 +171,18 @@ module _ (words : List Word) (label : ℕ) (from_one : 1 ≤ label) (within : (l
   in_marks : (label - 1) / 64 < length (marks_of words)
   in_marks = omega (arith, within, length-map words marks_in)
 
-  pub word_sets : IsMarked (marks_of (set words ((label - 1) / 64) new)) label
-  word_sets = subst (λ m. IsMarked m label) (sym (marks_set words ((label - 1) / 64) ((label - 1) % 64) w new within read new_is)) (mark_sets (marks_of words) label from_one in_marks)
-
-  pub word_keeps : (d : ℕ) → IsMarked (marks_of words) d → IsMarked (marks_of (set words ((label - 1) / 64) new)) d
-  word_keeps d is = subst (λ m. IsMarked m d) (sym (marks_set words ((label - 1) / 64) ((label - 1) % 64) w new within read new_is)) (mark_keeps (marks_of words) label from_one in_marks d is)
-
-  pub word_only : (d : ℕ) → IsMarked (marks_of (set words ((label - 1) / 64) new)) d → (d ≡ label) ⊎ IsMarked (marks_of words) d
-  word_only d is = mark_only (marks_of words) label from_one in_marks d (subst (λ m. IsMarked m d) (marks_set words ((label - 1) / 64) ((label - 1) % 64) w new within read new_is) is)
+  pub word_marks : (d : ℕ) → IsMarked (marks_of (set words ((label - 1) / 64) new)) d ↔ ((d ≡ label) ⊎ IsMarked (marks_of words) d)
+  word_marks d =
+      subst (λ m. IsMarked m d ↔ ((d ≡ label) ⊎ IsMarked (marks_of words) d)) (sym (marks_set words ((label - 1) / 64) ((label - 1) % 64) w new within read new_is))
+      (mark_more (marks_of words) label from_one in_marks d)
 
 -- the number that a word gives
-pub number_is : (words : List Word) (c : ℕ) (w : Word) → AreCounted words → (c - 1) / 64 < length words → w ≡ get_or words ((c - 1) / 64) w
-    → w.before + count_ones (w.marks % (1 * 2 ^ ((c - 1) % 64) % 18446744073709551616)) + 1 ≡ number_of (marks_of words) c
-number_is words c w counted within read =
+pub number_is : (inside words : List Word) (c : ℕ) (w : Word) → inside ≡ words → AreCounted words → (c - 1) / 64 < length words → w ≡ get_or inside ((c - 1) / 64) w
+    → (w.before + count_ones (w.marks % (1 * 2 ^ ((c - 1) % 64) % 18446744073709551616)) + 1 ≡ number_of (marks_of words) c) × (number_of (marks_of words) c ≤ 2 ^ 28 + 65)
+number_is inside words c w same counted within inside_read =
     let at = (c - 1) / 64 in
     let bit = (c - 1) % 64 in
+    let read : w ≡ get_or words at w = inside_read ∙ ap (λ (t : List Word). get_or t at w) same in
     let before : w.before ≡ marked_in (marks_of words) at = ap (λ (x : Word). x.before) read ∙ counted.before at w within in
     let marks : w.marks ≡ get_or (marks_of words) at 0 = ap marks_in read ∙ sym (get_or-map marks_in words at w 0 within) in
     let shift : 1 * 2 ^ bit % 18446744073709551616 ≡ 2 ^ bit = one_shl bit 64 (omega arith) in
@@ -201,10 +191,7 @@ number_is words c w counted within read =
     let there : bit + at * 64 ≡ c - 1 = omega arith in
     let all : marked_to (marks_of words) (c - 1) ≡ count_ones (get_or (marks_of words) at 0 % 2 ^ bit) + marked_in (marks_of words) at =
     ap (marked_to (marks_of words)) (sym there) ∙ marked_within (marks_of words) at bit (omega arith) in
-    omega (arith, before, ones, all)
-
-pub number_fits : (words : List Word) (c : ℕ) → AreCounted words → (c - 1) / 64 < length words → number_of (marks_of words) c ≤ 2 ^ 28 + 65
-number_fits words c counted within = omega (arith, marked_rise (marks_of words) (c - 1) (length words * 64) (omega (arith, within)), counted.few)
+    (omega (arith, before, ones, all), omega (arith, marked_rise (marks_of words) (c - 1) (length words * 64) (omega (arith, within)), counted.few))
 
 -- the number of a marked label has a place among the names
 pub number_within_names : (words : List Word) (names : List ℕ) → length names ≡ marked_in (marks_of words) (length words) → (c : ℕ) → IsMarked (marks_of words) c → number_of (marks_of words) c ≤ length names

@@ -3,4 +3,3 @@ pub mod Live
 pub mod Parts
 pub mod Tables
 pub mod Numbers
-pub mod Laws

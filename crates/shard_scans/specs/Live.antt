@@ -3,7 +3,7 @@ use Rattle.std.specs.Prelude.{◌≡◌, ℕ, ◌+◌, ◌<◌, ◌≤◌, ◌�
 use Rattle.std.specs.Prelude.{Option, None, Some, IfSome}
 use Rattle.links.specs.declared.links.Link.{Link}
 use Rattle.links.specs.Link.{EndsUpTo}
-use Rattle.links.specs.Labels.{label_of}
+use Rattle.links.specs.Labels.{label_of, Coarsens}
 use Rattle.links.specs.Offers.{Offer}
 use Rattle.round_theory.specs.Labelling.{IsVertex}
 use Rattle.round_theory.specs.Offers.{AreLightOffers}
@@ -109,3 +109,7 @@ IsLive labels kept = IfSome kept.live (AreLiveLinks kept.links labels)
 -- all links are live
 abbrev pub IsAllLive : KeptShardState → Type 0
 IsAllLive kept = kept.live ≡ None
+
+-- what is live of a shard under labels is so under labels that coarsen them
+abbrev pub LiveUnderCoarser : Type 0
+LiveUnderCoarser = (kept : KeptShardState) (labels finer : List ℕ) → Coarsens labels finer → IsLive finer kept → IsLive labels kept

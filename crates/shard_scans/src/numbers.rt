@@ -4,7 +4,7 @@
 //! processor's cache where one of what is kept for each label of the graph doesn't. So the labels that live
 //! links have are marked, a bit each, and numbered in their order: the number of a label is one more than there are marked
 //! labels below it, which are counted a word of bits at a time.
-ghost use Rattle.std.specs.Prelude.{◌≡◌, ℕ, ◌+◌, ◌-◌, ◌*◌, ◌/◌, ◌^◌, ◌<◌, ◌≤◌, ◌⊎◌, [], length, map, All, slice_index, replicate, set, count_ones, OnOk};
+ghost use Rattle.std.specs.Prelude.{◌≡◌, ℕ, ◌+◌, ◌-◌, ◌*◌, ◌/◌, ◌^◌, ◌<◌, ◌≤◌, ◌↔◌, ◌⊎◌, [], length, map, All, slice_index, replicate, set, count_ones, OnOk};
 ghost use Rattle.links.specs.Labels.{AreLabels};
 ghost use Rattle.round_theory.specs.Labelling.{IsVertex};
 ghost use Rattle.shard_scans.specs.declared.live.LiveLink.{LiveLink};
@@ -77,9 +77,7 @@ impl<A: Allocator + Copy> Numbers<A> {
         requires from_one { 1 ≤ label }
         requires in_words { (label - 1) / 64 < length self.old }
         ensures words { length self.new ≡ length self.old }
-        ensures marked { IsMarked (marks_of self.new) label }
-        ensures more { (c : ℕ) → IsMarked (marks_of self.old) c → IsMarked (marks_of self.new) c }
-        ensures only { (c : ℕ) → IsMarked (marks_of self.new) c → (c ≡ label) ⊎ IsMarked (marks_of self.old) c }
+        ensures marked { (c : ℕ) → IsMarked (marks_of self.new) c ↔ ((c ≡ label) ⊎ IsMarked (marks_of self.old) c) }
     {
         let at = label as usize - 1;
         self.words[at / 64].marks |= 1 << (at % 64);

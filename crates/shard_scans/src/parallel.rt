@@ -3,8 +3,9 @@ ghost use Rattle.std.specs.Prelude.{◌≡◌, ◌<◌, ◌≤◌, length, IfOk}
 ghost use denote.Param.Send.{IsSync, IsSend, Frees};
 ghost use Rattle.shard_scans.specs.Parts.{CanScan, IsPartOf, AreBestOf, SayPlaces, Merges};
 
+use crate::live::{LiveLink, label_at};
 use crate::parts::{Part, Scanned};
-use crate::scanning::{Best, NO_PLACE, find_best};
+use crate::scanning::{Best, NO_PLACE, keep_next};
 use crate::table::Table;
 use limits::MAX_SHARD_LINKS;
 use links::Link;
@@ -77,9 +78,18 @@ fn best_alone<A: Allocator + Copy>(
     requires part { IsPartOf scanned part }
     ensures best { IfOk result (AreBestOf scanned.entry part) }
 {
+    let Scanned { links, labels } = scanned;
     let mut table = Table::new(alloc);
-    table.clear(scanned.labels.len())?;
-    find_best(scanned.links, scanned.labels, part, &mut table);
+    table.clear(labels.len())?;
+    for place in part.from..part.to {
+        let link = links[place];
+        let next = LiveLink {
+            low: label_at(labels, link.low),
+            high: label_at(labels, link.high),
+            place: place as u32,
+        };
+        keep_next(links, next, &mut table);
+    }
     Ok(table)
 }
 

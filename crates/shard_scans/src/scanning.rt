@@ -1,15 +1,14 @@
 //! The light offers of a shard, in one pass over its links.
-ghost use Rattle.std.specs.Prelude.{◌≡◌, ◌≤◌, length, replicate, Some, IfOk};
+ghost use Rattle.std.specs.Prelude.{◌≡◌, ◌≤◌, length, Some, IfOk};
 ghost use Rattle.links.specs.Link.{EndsUpTo};
-ghost use Rattle.links.specs.Labels.{AreLabels};
 ghost use Rattle.round_theory.specs.Offers.{AreLightOffers};
-ghost use Rattle.shard_scans.specs.Scanning.{short_key, no_best, Says, KeepsLesser, AreBest, TakesIn};
+ghost use Rattle.shard_scans.specs.Scanning.{short_key, Says, KeepsLesser, TakesIn};
 ghost use Rattle.shard_scans.specs.Live.{CanBeTakenIn};
 ghost use Rattle.shard_scans.specs.Numbers.{AreListed};
 
 use crate::by_numbers::offers_of_listed;
 use crate::listed::Listed;
-use crate::live::{LiveLink, label_at, write_live};
+use crate::live::{LiveLink, write_live};
 use crate::numbers::{Numbers, mark_each, mark_names};
 use crate::parallel::{best_between, halvings_of};
 use crate::parts::{Part, Scanned};
@@ -172,31 +171,6 @@ impl<A: Allocator + Copy + Send + Sync> Scanner<A> {
         };
         let table = best_between(rt, self.table.allocator(), scanned, whole, halvings)?;
         Ok(Offers::of_known(table.gather()?))
-    }
-}
-
-// The pass over a part of the links.
-pub(crate) fn find_best<A: Allocator + Copy>(
-    links: &[Link],
-    labels: &[u32],
-    part: Part,
-    table: &mut Table<A>,
-)
-    requires few_links { length links.now ≤ MAX_SHARD_LINKS }
-    requires ends { EndsUpTo (length labels.now) links.now }
-    requires labels { AreLabels labels.now }
-    requires in_list { part.to ≤ length links.now }
-    requires none_yet { table.old ≡ replicate (length labels.now) no_best }
-    ensures best { AreBest links.now labels.now part.from part.to table.new }
-{
-    for place in part.from..part.to {
-        let link = links[place];
-        let next = LiveLink {
-            low: label_at(labels, link.low),
-            high: label_at(labels, link.high),
-            place: place as u32,
-        };
-        keep_next(links, next, table);
     }
 }
 

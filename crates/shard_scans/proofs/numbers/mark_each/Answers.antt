@@ -1,4 +1,4 @@
-use Rattle.std.proofs.Common.{◌≡◌, get_or, sym, ◌∙◌, subst, inl, inr, arith}
+use Rattle.std.proofs.Common.{◌≡◌, get_or, refl, sym, ◌∙◌, subst, inl, inr, arith}
 use Rattle.std.proofs.lemmas.Bool.{cases_lt}
 use Rattle.std.proofs.lemmas.List.{get_or_default}
 use Rattle.shard_scans.specs.declared.live.LiveLink.{LiveLink}
@@ -23,13 +23,13 @@ loop-link-preserved g c =
     let i = c.loop-link.link-index in
     let live = c.args.live.now in
     let none : LiveLink = record { low = 0; high = 0; place = 0 } in
-    let first = c.mark.ensures in
-    let second = c.mark-in-loop-link.ensures in
-    let both : AreBothMarked (marks_of c.mark-in-loop-link.new.self) (get_or live i none) = (second.more _ first.marked, second.marked) in
+    let first = c.mark.ensures.marked in
+    let second = c.mark-in-loop-link.ensures.marked in
+    let both : AreBothMarked (marks_of c.mark-in-loop-link.new.self) (get_or live i none) = ((second _).1 (inr ((first _).1 (inl refl))), (second _).1 (inl refl)) in
     record {
-      words = second.words ∙ first.words ∙ seen.words;
+      words = c.mark-in-loop-link.ensures.words ∙ c.mark.ensures.words ∙ seen.words;
       marked = λ k d lt. elim (cases_lt k i) [
-        | inl less ↦ let before = seen.marked k d less in (second.more _ (first.more _ before.0), second.more _ (first.more _ before.1))
+        | inl less ↦ let before = seen.marked k d less in ((second _).1 (inr ((first _).1 (inr before.0))), (second _).1 (inr ((first _).1 (inr before.1))))
         | inr le ↦
             let at : k ≡ i = omega (arith, lt, le) in
             subst (λ n. AreBothMarked (marks_of c.mark-in-loop-link.new.self) (get_or live n d)) (sym at)

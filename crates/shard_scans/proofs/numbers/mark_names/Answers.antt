@@ -1,4 +1,4 @@
-use Rattle.std.proofs.Common.{◌≡◌, get_or, sym, ◌∙◌, subst, inl, inr, arith}
+use Rattle.std.proofs.Common.{◌≡◌, get_or, refl, sym, ◌∙◌, subst, inl, inr, arith}
 use Rattle.std.proofs.lemmas.Bool.{cases_lt}
 use Rattle.shard_scans.specs.Numbers.{marks_of, IsMarked, new_name}
 use Rattle.shard_scans.proofs.Numbering.{new_name_has_word}
@@ -17,10 +17,10 @@ loop-i-preserved g c =
     record {
       words = c.mark.ensures.words ∙ seen.words;
       marked = λ k lt. elim (cases_lt k i) [
-        | inl less ↦ c.mark.ensures.more _ (seen.marked k less)
+        | inl less ↦ (c.mark.ensures.marked _).1 (inr (seen.marked k less))
         | inr le ↦
             let at : k ≡ i = omega (arith, lt, le) in
             subst (λ n. IsMarked (marks_of c.mark.new.self) (new_name c.args.labels.now (get_or c.args.names.now n 0))) (sym at)
-            (subst (IsMarked (marks_of c.mark.new.self)) c.new_name.ensures c.mark.ensures.marked)
+            (subst (IsMarked (marks_of c.mark.new.self)) c.new_name.ensures ((c.mark.ensures.marked _).1 (inl refl)))
       ];
     }
