@@ -3,7 +3,7 @@
 -- The numbers of the labels of all vertices are a coarser labelling: vertices of one label have one number. A link whose
 -- ends have marked labels leaves a number exactly where it leaves that number's label, since marked labels have numbers of
 -- their own. So the best places by numbers are those by labels, and as numbers ascend with the labels, so do the offers.
-use Rattle.std.proofs.Common.{◌≡◌, ◌≢◌, ℕ, ◌-◌, ◌<◌, ◌≤◌, ◌^◌, ◌⊎◌, List, ◌++◌, length, get_or, take, drop, map, Contains, refl, sym, ap, ◌∙◌, subst, inl, inr, arith}
+use Rattle.std.proofs.Common.{◌≡◌, ◌≢◌, ℕ, ◌+◌, ◌-◌, ◌<◌, ◌≤◌, ◌^◌, ◌⊎◌, List, ◌++◌, length, get_or, take, drop, map, Contains, refl, sym, ap, ◌∙◌, subst, inl, inr, arith}
 use Rattle.std.proofs.Math.Seq.{take-append_seam}
 use Rattle.std.proofs.lemmas.List.{get_or-map, length-map}
 use Rattle.std.proofs.lemmas.List.Elements.{Contains-get_or}
@@ -16,11 +16,11 @@ use Rattle.round_theory.specs.Offers.{Leaves, IsLightOffer, AreLightOffers}
 use Rattle.round_theory.proofs.Leaving.{leaves_apart, leaves_end}
 use Rattle.shard_scans.specs.declared.scanning.Best.{Best}
 use Rattle.shard_scans.specs.Scanning.{no_best, IsBestPlace, best_of, AreBestUpTo}
-use Rattle.shard_scans.specs.Tables.{IsKept, ArePlaces}
+use Rattle.shard_scans.specs.Tables.{IsKept, ArePlacesBelow}
 use Rattle.shard_scans.specs.Numbers.{IsMarked, number_of, numbered_labels, HasItsName, offered, HasNumbers, AreNumbered}
 use Rattle.shard_scans.proofs.BestSoFar.{best_is_light, none_leaves}
 use Rattle.shard_scans.proofs.Scans.{kept_place, kept_none, end_at}
-use Rattle.shard_scans.proofs.Tables.{kept_below, same_place}
+use Rattle.shard_scans.proofs.Tables.{same_place}
 use Rattle.shard_scans.proofs.Numbering.{numbers_apart, ascends_back}
 
 -- a slice that is written back stands for the whole list
@@ -89,10 +89,10 @@ module _ (links : List Link) (labels marks names : List ℕ) (ends : EndsUpTo (l
   module _ (few : length links ≤ 2 ^ 24) (within : (c : ℕ) → IsMarked marks c → number_of marks c ≤ length names) (table : List Best)
       (best : AreBestUpTo (length names) links (numbered_labels marks labels) 0 (length links) table) where
     -- where a place is kept for a number, it is the best one for the label of the number
-    kept_label : (p place : ℕ) → IsKept table p place → (c : ℕ) × IsMarked marks c × HasItsName marks names c × (number_of marks c ≡ p) × IsBestPlace links labels 0 (length links) c place
-    kept_label p place kept =
+    kept_label : (p place : ℕ) → p < length table + 1 → IsKept table p place → (c : ℕ) × IsMarked marks c × HasItsName marks names c × (number_of marks c ≡ p) × IsBestPlace links labels 0 (length links) c place
+    kept_label p place lt kept =
         let own = numbered_labels marks labels in
-        let vertex : IsVertex (length names) p = (kept.from_one, omega (arith, kept_below table p place kept, best.each_vertex)) in
+        let vertex : IsVertex (length names) p = (kept.from_one, omega (arith, lt, best.each_vertex)) in
         let b = kept_place links own 0 (length links) p (best_of table p) (best.best p vertex) (λ none. kept.some (sym kept.here ∙ none)) in
         let at = subst (IsBestPlace links own 0 (length links) p) kept.here b in
         let (c, c_is, named, number, leaves) = leaves_back marks labels names at.link (end_at (length labels) links place at.link ends at.in_list at.here) (has place at.link at.in_list at.here) p at.leaves in
@@ -109,7 +109,7 @@ module _ (links : List Link) (labels marks names : List ℕ) (ends : EndsUpTo (l
     ]
 
     -- a light offer is kept for the number of its label
-    light_kept : (c place : ℕ) → IsLightOffer links labels c place → IsKept table (number_of marks c) place × HasItsName marks names c
+    light_kept : (c place : ℕ) → IsLightOffer links labels c place → ((number_of marks c < length table + 1) × IsKept table (number_of marks c) place) × HasItsName marks names c
     light_kept c place (l, least, at) =
         let own = numbered_labels marks labels in
         let (c_is, named) = left_has_number l place c at.within (sym at.here) least.leaves in
@@ -120,15 +120,16 @@ module _ (links : List Link) (labels marks names : List ℕ) (ends : EndsUpTo (l
         let some : (best_of table p).place ≢ no_best.place = λ none. none_leaves links own p (kept_none links own 0 (length links) p (best_of table p) keeps few none) l least.member leaves in
         let found = best_from_own c (best_of table p).place c_is (kept_place links own 0 (length links) p (best_of table p) keeps some) in
         let same = same_place links labels c (best_of table p).place place found (l, least, at) in
-        (record { from_one = omega arith; here = same; some = λ none. some (same ∙ none) }, named)
+        ((omega (arith, vertex.1, best.each_vertex), record { from_one = omega arith; here = same; some = λ none. some (same ∙ none) }), named)
 
-    module _ (pairs : List Offer) (places : ArePlaces table pairs) where
+    module _ (pairs : List Offer) (places : ArePlacesBelow table (length table + 1) pairs) where
       -- what stands behind so many pairs
       label_at : (k : ℕ) (d : Offer) → k < length pairs → (c : ℕ) × IsMarked marks c × (number_of marks c ≡ (get_or pairs k d).0)
           × IsBestPlace links labels 0 (length links) c (get_or pairs k d).1 × (get_or names ((get_or pairs k d).0 - 1) 0 ≡ c)
       label_at k d lt =
           let e = get_or pairs k d in
-          let (c, c_is, named, number, b) = kept_label e.0 e.1 ((places.exact e.0 e.1).0 (Contains-get_or pairs k d lt)) in
+          let (below, kept) = (places.exact e.0 e.1).0 (Contains-get_or pairs k d lt) in
+          let (c, c_is, named, number, b) = kept_label e.0 e.1 below kept in
           (c, c_is, number, b, ap (λ n. get_or names (n - 1) 0) (sym number) ∙ named)
 
       pub has_name : (k : ℕ) (d : Offer) → k < length pairs → IsVertex (length names) (get_or pairs k d).0

@@ -1,7 +1,7 @@
 -- Live links under new labels, without those whose ends fall together.
-use Rattle.std.proofs.Common.{◌≡◌, ◌≢◌, ℕ, suc, ◌+◌, List, [], ◌∷◌, ◌++◌, length, get_or, All, cond, refl, sym, ap, ◌∙◌, subst, inl, inr, arith}
+use Rattle.std.proofs.Common.{◌≡◌, ◌≢◌, ℕ, ◌+◌, List, [], ◌∷◌, ◌++◌, length, get_or, All, cond, refl, sym, ap, ◌∙◌, subst, inl, inr, arith}
 use Rattle.std.proofs.lemmas.Bool.Decides.{eqb_tells}
-use Rattle.std.proofs.lemmas.List.Elements.{All-cons, All-nil}
+use Rattle.std.proofs.lemmas.List.Elements.{All-cons, All-head, All-nil, All-tail}
 use Rattle.links.specs.declared.links.Link.{Link}
 use Rattle.links.specs.Labels.{label_of, AreLabels}
 use Rattle.round_theory.specs.Labelling.{IsVertex}
@@ -9,13 +9,6 @@ use Rattle.shard_scans.specs.declared.live.LiveLink.{LiveLink}
 use Rattle.shard_scans.specs.Live.{IsInside, AreLive, IsEntryOf, places_of, AreLiveLinks, relabelled, packed}
 use Rattle.shard_scans.proofs.Laid.{live_without}
 use Rattle.shard_scans.proofs.Written.{relabelled_written, relabelled_stands, live_ends}
-
--- what holds of all holds of the first and of the others
-pub all_head : {X : Type 0} (P : X → Type 0) (x : X) (xs : List X) → All P (x ∷ xs) → P x
-all_head P x xs all = all 0 x (omega arith)
-
-pub all_tail : {X : Type 0} (P : X → Type 0) (x : X) (xs : List X) → All P (x ∷ xs) → All P xs
-all_tail P x xs all = λ k d lt. all (suc k) d (omega (arith, lt))
 
 module _ (labels : List ℕ) where
   pub packed_same : (l : LiveLink) (live : List LiveLink) → label_of labels l.low ≡ label_of labels l.high → packed labels (l ∷ live) ≡ packed labels live
@@ -41,9 +34,9 @@ module _ (labels : List ℕ) where
   pub packed_all : (P : LiveLink → Type 0) (live : List LiveLink) → All (λ l. P (relabelled labels l)) live → All P (packed labels live)
   packed_all P [] all = All-nil P
   packed_all P (x ∷ live) all = elim (eqb_tells (label_of labels x.low) (label_of labels x.high)) [
-    | inl (test, same) ↦ subst (All P) (sym (packed_same x live same)) (packed_all P live (all_tail (λ l. P (relabelled labels l)) x live all))
+    | inl (test, same) ↦ subst (All P) (sym (packed_same x live same)) (packed_all P live (All-tail (λ l. P (relabelled labels l)) x live all))
     | inr (test, apart) ↦ subst (All P) (sym (packed_apart x live apart))
-        (All-cons P (relabelled labels x) (packed labels live) (all_head (λ l. P (relabelled labels l)) x live all) (packed_all P live (all_tail (λ l. P (relabelled labels l)) x live all)))
+        (All-cons P (relabelled labels x) (packed labels live) (All-head (λ l. P (relabelled labels l)) x live all) (packed_all P live (All-tail (λ l. P (relabelled labels l)) x live all)))
   ]
 
   -- the labels of vertices stand for themselves
@@ -63,10 +56,10 @@ module _ (links : List Link) (labels : List ℕ) where
   packed_places : (from to : ℕ) (live : List LiveLink) → All Written live → AreLive links labels from to (places_of live) → AreLive links labels from to (places_of (packed labels live))
   packed_places from to [] all is = is
   packed_places from to (e ∷ live) all (le, aside, rest) =
-      let later = packed_places (e.place + 1) to live (all_tail Written e live all) rest in
+      let later = packed_places (e.place + 1) to live (All-tail Written e live all) rest in
       elim (eqb_tells (label_of labels e.low) (label_of labels e.high)) [
         | inl (test, same) ↦ subst (λ t. AreLive links labels from to (places_of t)) (sym (packed_same labels e live same))
-            (live_without links labels from e.place to (places_of (packed labels live)) le aside (left_out e (all_head Written e live all) same) later)
+            (live_without links labels from e.place to (places_of (packed labels live)) le aside (left_out e (All-head Written e live all) same) later)
         | inr (test, apart) ↦ subst (λ t. AreLive links labels from to (places_of t)) (sym (packed_apart labels e live apart)) (le, aside, later)
       ]
 

@@ -2,12 +2,13 @@
 use Rattle.std.proofs.Common.{◌≡◌, ◌≢◌, ℕ, ◌-◌, ◌<◌, ◌≤◌, List, [], ◌∷◌, length, get_or, map, All, refl, sym, ap, ◌∙◌, subst, inl, inr, arith}
 use Rattle.std.proofs.lemmas.Bool.Decides.{eqb_tells}
 use Rattle.std.proofs.lemmas.List.{get_or-map, length-map, get_or_default, same_lists}
+use Rattle.std.proofs.lemmas.List.Elements.{All-head, All-tail}
 use Rattle.links.specs.Labels.{label_of}
 use Rattle.round_theory.specs.Labelling.{IsVertex}
 use Rattle.shard_scans.specs.declared.live.LiveLink.{LiveLink}
 use Rattle.shard_scans.specs.Live.{relabelled, packed}
 use Rattle.shard_scans.specs.Numbers.{IsMarked, number_of, numbered, named, HasItsName, AreBothMarked, AreBothNamed, HaveNames, HaveMarks, new_name, shown, AreByNumbers}
-use Rattle.shard_scans.proofs.Packed.{all_head, all_tail, packed_same, packed_apart, packed_all}
+use Rattle.shard_scans.proofs.Packed.{packed_same, packed_apart, packed_all}
 use Rattle.shard_scans.proofs.Numbering.{numbers_apart}
 
 -- what is written with numbers, by their names, is what was written with labels
@@ -68,11 +69,11 @@ module _ (labels marks names names' changed : List ℕ) (marked : HaveMarks labe
   packed_numbers [] have ends = refl
   packed_numbers (l ∷ live) have ends =
       let e : LiveLink = named names l in
-      let x = all_head Ends l live have in
-      let v = all_head Vertices e (shown names live) ends in
+      let x = All-head Ends l live have in
+      let v = All-head Vertices e (shown names live) ends in
       let low = at_end l.low x.0 v.0 in
       let high = at_end l.high x.1 v.1 in
-      let later = packed_numbers live (all_tail Ends l live have) (all_tail Vertices e (shown names live) ends) in
+      let later = packed_numbers live (All-tail Ends l live have) (All-tail Vertices e (shown names live) ends) in
       elim (eqb_tells (label_of labels e.low) (label_of labels e.high)) [
         | inl (test, same) ↦
             packed_same changed l live (low.0 ∙ ap (number_of marks) same ∙ sym high.0)

@@ -1,5 +1,5 @@
 -- A pass over a shard's links, with a table of the best place for each label.
-use Rattle.std.proofs.Common.{◌≡◌, ◌≢◌, ℕ, ◌+◌, ◌-◌, ◌<◌, ◌≤◌, ◌^◌, ℤ, w32, to_z, of_z, List, length, get_or, set, replicate, true, false, is_le, Option, Some, None, Ordering, Less, Greater, nat_cmp, refl, sym, ap, ◌∙◌, subst, inl, inr, arith}
+use Rattle.std.proofs.Common.{◌≡◌, ◌≢◌, ℕ, ◌+◌, ◌-◌, ◌<◌, ◌≤◌, ◌^◌, ℤ, w32, w64, FitsSigned, to_z, of_z, List, length, get_or, set, replicate, true, Option, Some, None, Ordering, Less, nat_cmp, refl, sym, ap, ◌∙◌, subst, inl, inr, arith}
 use Rattle.std.specs.Int.Signed.{◌<ℤ◌, lt_z}
 use Rattle.std.specs.Ordering.{ordering_then}
 use Rattle.std.specs.Cmp.{int_cmp_is}
@@ -7,45 +7,36 @@ use Rattle.std.proofs.lemmas.Int.{ints, to_z-of_z, by_lt_z}
 use Rattle.std.proofs.lemmas.Bool.{cases_eq}
 use Rattle.std.proofs.lemmas.List.{length-replicate, get_or-replicate, get_or_default, get_or-set_same, get_or-set_other, length-set}
 use Rattle.links.specs.declared.links.Link.{Link}
-use Rattle.links.specs.Link.{EndsUpTo, key_cmp}
+use Rattle.links.specs.Link.{EndsUpTo, IsBelow}
 use Rattle.links.specs.Labels.{label_of}
 use Rattle.round_theory.specs.Labelling.{IsVertex}
 use Rattle.round_theory.specs.Offers.{Leaves}
 use Rattle.round_theory.proofs.Leaving.{leaves_apart, leaves_end}
-use Rattle.shard_scans.proofs.BestSoFar.{one_read, not_below_from_le, below_from_gt, best_goes_on, best_first, best_stays, best_new}
+use Rattle.shard_scans.proofs.BestSoFar.{one_read, best_goes_on, best_first, best_stays, best_new}
 use Rattle.shard_scans.proofs.ShortKeys.{key_fits, not_above_all, keys_keep_order}
 use Rattle.shard_scans.specs.declared.scanning.Best.{Best}
 use Rattle.shard_scans.specs.Scanning.{short_key, no_best, IsBestPlace, NoneLeavesIn, IsBest, Says, Keeps, best_of, AreBestUpTo}
 
--- of two links the one of the smaller weight is below the other
-lighter_is_below : (l m : Link) → l.weight <ℤ m.weight → is_le (key_cmp l m) ≡ true
-lighter_is_below l m lt = subst (λ (o : Ordering). is_le (ordering_then o (ordering_then (nat_cmp l.low m.low) (nat_cmp l.high m.high))) ≡ true) (int_cmp_is l.weight m.weight Less lt) refl
-
-heavier_is_above : (l m : Link) → m.weight <ℤ l.weight → is_le (key_cmp l m) ≡ false
-heavier_is_above l m lt = subst (λ (o : Ordering). is_le (ordering_then o (ordering_then (nat_cmp l.low m.low) (nat_cmp l.high m.high))) ≡ false) (int_cmp_is l.weight m.weight Greater lt) refl
-
--- of two weights the one of the lesser key is the lesser one
-lesser_by_key : (v w : ℤ) → short_key v <ℤ short_key w → v <ℤ w
-lesser_by_key v w lt = by_lt_z v w (λ less. less) (λ ge. absurd (keys_keep_order w v ge lt))
-
--- keys compare as those that they are equal to
-lesser_as : (a a' b b' : ℤ) → a' ≡ a → b' ≡ b → lt_z a' b' ≡ true → a <ℤ b
-lesser_as a a' b b' a_is b_is test =
-    let lt : a' <ℤ b' = omega (arith, ints, test) in
-    subst (λ w. a <ℤ w) b_is (subst (λ w. w <ℤ b') a_is lt)
+-- what the test for `<` of two keys says
+less_by_test : (a b : ℤ) → lt_z a b ≡ true → a <ℤ b
+less_by_test a b test = omega (arith, ints, test)
 
 -- a key that is kept is one of 32 bits
-said_key : (links : List Link) (kept : Best) (best : Option ℕ) → Says links kept best → Link → to_z w32 (of_z w32 kept.key) ≡ kept.key
-said_key links kept best says x = go best says
-  where
-    by : (w : ℤ) → kept.key ≡ w → to_z w32 (of_z w32 w) ≡ w → to_z w32 (of_z w32 kept.key) ≡ kept.key
-    by w is fits = ap (λ k. to_z w32 (of_z w32 k)) is ∙ fits ∙ sym is
+key_is : (w k : ℤ) → FitsSigned w64 w → k ≡ short_key w → to_z w32 (of_z w32 k) ≡ short_key w
+key_is w k fits is = ap (λ j. to_z w32 (of_z w32 j)) is ∙ to_z-of_z w32 (short_key w) (key_fits w fits)
 
-    go : (best : Option ℕ) → Says links kept best → to_z w32 (of_z w32 kept.key) ≡ kept.key
-    go None says = by no_best.key (ap (λ (b : Best). b.key) says) refl
-    go (Some p) says =
-        let l : Link = get_or links p x in
-        by (short_key l.weight) (says.2 l (get_or_default links p x l says.1)) (to_z-of_z w32 (short_key l.weight) (key_fits l.weight l.weight_fits))
+-- of two links the one of the lesser key weighs less, and so is below the other
+pub lesser_key_is_below : (l m : Link) (k j : ℤ) → k ≡ short_key l.weight → j ≡ short_key m.weight → lt_z (to_z w32 (of_z w32 k)) (to_z w32 (of_z w32 j)) ≡ true → IsBelow l m
+lesser_key_is_below l m k j k_is j_is test =
+    let keys = less_by_test (short_key l.weight) (short_key m.weight) (subst (λ a. lt_z a (short_key m.weight) ≡ true) (key_is l.weight k l.weight_fits k_is)
+    (subst (λ b. lt_z (to_z w32 (of_z w32 k)) b ≡ true) (key_is m.weight j m.weight_fits j_is) test)) in
+    let lighter = by_lt_z l.weight m.weight (λ less. less) (λ ge. absurd (keys_keep_order m.weight l.weight ge keys)) in
+    subst (λ (o : Ordering). ordering_then o (ordering_then (nat_cmp l.low m.low) (nat_cmp l.high m.high)) ≡ Less) (int_cmp_is l.weight m.weight Less lighter) refl
+
+-- the key of no link is less than none
+pub no_key_is_lesser : (l : Link) (k : ℤ) → k ≡ short_key l.weight → ¬ (lt_z (to_z w32 (of_z w32 no_best.key)) (to_z w32 (of_z w32 k)) ≡ true)
+no_key_is_lesser l k k_is test =
+    not_above_all l.weight l.weight_fits (less_by_test no_best.key (short_key l.weight) (subst (λ b. lt_z no_best.key b ≡ true) (key_is l.weight k l.weight_fits k_is) test))
 
 -- a table of nothing keeps the best places of no links
 pub best_of_none : (count : ℕ) (links : List Link) (labels : List ℕ) (from : ℕ) → AreBestUpTo count links labels from from (replicate count no_best)
@@ -71,87 +62,33 @@ module _ (links : List Link) (labels : List ℕ) (from to c : ℕ) (kept : Best)
       go None says is = is
       go (Some place) says is = absurd (omega (arith, few, says.0, says.1, none))
 
-  -- its key is one of 32 bits
-  kept_key : Keeps links labels from to c kept → Link → to_z w32 (of_z w32 kept.key) ≡ kept.key
-  kept_key keeps x = said_key links kept keeps.best keeps.says x
+module _ (links : List Link) (labels : List ℕ) (c from at to : ℕ) (le : from ≤ at) (next : Best) (next_says : Says links next (Some next.place)) (next_is : IsBestPlace links labels at to c next.place) (kept : Best)
+    (keeps : Keeps links labels from at c kept) where
+  -- what is known of the link that is kept
+  abbrev OfKept : (Link → Type 0) → Type 0
+  OfKept P = (l : Link) → kept.place < length links → l ≡ get_or links kept.place l → kept.key ≡ short_key l.weight → P l
 
-module _ (links : List Link) (labels : List ℕ) (c from at to : ℕ) (le : from ≤ at) (few : length links ≤ 2 ^ 24) (next : Best) (next_says : Says links next (Some next.place)) (x : Link) (read : x ≡ get_or links next.place x) (next_is : IsBestPlace links labels at to c next.place) (kept : Best) (keeps : Keeps links labels from at c kept) where
-  -- the link that is said is the best one
-  is_next : x ≡ next_is.link
-  is_next = one_read links next.place x next_is.link next_is.in_list read next_is.here
-
-  -- the keys are compared as numbers of 32 bits
-  next_key : to_z w32 (of_z w32 next.key) ≡ next.key
-  next_key = said_key links next (Some next.place) next_says x
-
-  key_kept : to_z w32 (of_z w32 kept.key) ≡ kept.key
-  key_kept = kept_key links labels from at c kept keeps x
-
-  -- what is kept has a lesser key, and so weighs less
-  keeps_less : kept.key <ℤ next.key → Keeps links labels from to c kept
-  keeps_less lt = go keeps.best keeps.says keeps.is
+  -- a link is kept, and the next one isn't below it
+  pub keeps_old : kept ≢ no_best → OfKept (λ l. ¬ (IsBelow next_is.link l)) → Keeps links labels from to c kept
+  keeps_old some not_below = go keeps.best keeps.says keeps.is
     where
       go : (best : Option ℕ) → Says links kept best → IsBest links labels from at c best → Keeps links labels from to c kept
-      go None says is = absurd (not_above_all x.weight x.weight_fits (subst (λ k. k <ℤ short_key x.weight) (ap (λ (b : Best). b.key) says) (subst (λ k. kept.key <ℤ k) (next_says.2 x read) lt)))
+      go None says is = absurd (some says)
       go (Some p) says is =
-          let l : Link = is.link in
-          let lower = subst (λ k. short_key l.weight <ℤ k) (next_says.2 next_is.link next_is.here) (subst (λ k. k <ℤ next.key) (says.2 l is.here) lt) in
-          let lighter = lesser_by_key l.weight next_is.link.weight lower in
-          record { best = Some p; says = says; is = best_stays links labels c from at to next.place le next_is p is (not_below_from_le l next_is.link (lighter_is_below l next_is.link lighter)) }
+          let read : is.link ≡ get_or links kept.place is.link = subst (λ k. is.link ≡ get_or links k is.link) (sym says.0) is.here in
+          let within : kept.place < length links = omega (arith, says.0, says.1) in
+          record { best = Some p; says = says; is = best_stays links labels c from at to next.place le next_is p is (not_below is.link within read (says.2 is.link is.here)) }
 
-  -- it has a greater one
-  keeps_new_less : next.key <ℤ kept.key → Keeps links labels from to c next
-  keeps_new_less lt = record { best = Some next.place; says = next_says; is = go keeps.best keeps.says keeps.is }
+  -- no link is kept, or the next one is below it
+  pub keeps_new : OfKept (λ l. IsBelow next_is.link l) → Keeps links labels from to c next
+  keeps_new below = record { best = Some next.place; says = next_says; is = go keeps.best keeps.says keeps.is }
     where
       go : (best : Option ℕ) → Says links kept best → IsBest links labels from at c best → IsBestPlace links labels from to c next.place
       go None says is = best_first links labels c from at to next.place le next_is is
       go (Some p) says is =
-          let l : Link = is.link in
-          let above = subst (λ k. short_key next_is.link.weight <ℤ k) (says.2 l is.here) (subst (λ k. k <ℤ kept.key) (next_says.2 next_is.link next_is.here) lt) in
-          let lighter = lesser_by_key next_is.link.weight l.weight above in
-          best_new links labels c from at to next.place le next_is p is (below_from_gt l next_is.link (heavier_is_above l next_is.link lighter))
-
-  pub keeps_lighter : lt_z (to_z w32 (of_z w32 kept.key)) (to_z w32 (of_z w32 next.key)) ≡ true → Keeps links labels from to c kept
-  keeps_lighter test = keeps_less (lesser_as kept.key (to_z w32 (of_z w32 kept.key)) next.key (to_z w32 (of_z w32 next.key)) key_kept next_key test)
-
-  pub keeps_new_lighter : lt_z (to_z w32 (of_z w32 next.key)) (to_z w32 (of_z w32 kept.key)) ≡ true → Keeps links labels from to c next
-  keeps_new_lighter test = keeps_new_less (lesser_as next.key (to_z w32 (of_z w32 next.key)) kept.key (to_z w32 (of_z w32 kept.key)) next_key key_kept test)
-
-  -- no link is kept
-  pub keeps_new_first : length links ≤ kept.place → Keeps links labels from to c next
-  keeps_new_first past = record { best = Some next.place; says = next_says; is = go keeps.best keeps.says keeps.is }
-    where
-      go : (best : Option ℕ) → Says links kept best → IsBest links labels from at c best → IsBestPlace links labels from to c next.place
-      go None says is = best_first links labels c from at to next.place le next_is is
-      go (Some p) says is = absurd (omega (arith, says.0, says.1, past))
-
-  module _ (e : Link) (e_within : kept.place < length links) (e_read : e ≡ get_or links kept.place e) where
-    -- the link that is kept
-    is_kept : (p : ℕ) (l : Link) → kept.place ≡ p → l ≡ get_or links p l → e ≡ l
-    is_kept p l at l_read = one_read links kept.place e l e_within e_read (subst (λ k. l ≡ get_or links k l) (sym at) l_read)
-
-    -- it is at most the next one
-    pub keeps_earlier : is_le (key_cmp e x) ≡ true → Keeps links labels from to c kept
-    keeps_earlier le_test = go keeps.best keeps.says keeps.is
-      where
-        go : (best : Option ℕ) → Says links kept best → IsBest links labels from at c best → Keeps links labels from to c kept
-        go None says is = absurd (omega (arith, few, ap (λ (b : Best). b.place) says, e_within))
-        go (Some p) says is = record {
-          best = Some p;
-          says = says;
-          is = best_stays links labels c from at to next.place le next_is p is
-              (not_below_from_le is.link next_is.link (subst (λ k. is_le (key_cmp k next_is.link) ≡ true) (is_kept p is.link says.0 is.here) (subst (λ k. is_le (key_cmp e k) ≡ true) is_next le_test)));
-        }
-
-    -- it is greater
-    pub keeps_new : is_le (key_cmp e x) ≡ false → Keeps links labels from to c next
-    keeps_new gt = record { best = Some next.place; says = next_says; is = go keeps.best keeps.says keeps.is }
-      where
-        go : (best : Option ℕ) → Says links kept best → IsBest links labels from at c best → IsBestPlace links labels from to c next.place
-        go None says is = absurd (omega (arith, few, ap (λ (b : Best). b.place) says, e_within))
-        go (Some p) says is =
-            best_new links labels c from at to next.place le next_is p is
-            (below_from_gt is.link next_is.link (subst (λ k. is_le (key_cmp k next_is.link) ≡ false) (is_kept p is.link says.0 is.here) (subst (λ k. is_le (key_cmp e k) ≡ false) is_next gt)))
+          let read : is.link ≡ get_or links kept.place is.link = subst (λ k. is.link ≡ get_or links k is.link) (sym says.0) is.here in
+          let within : kept.place < length links = omega (arith, says.0, says.1) in
+          best_new links labels c from at to next.place le next_is p is (below is.link within read (says.2 is.link is.here))
 
 -- links that leave no label change nothing
 pub keeps_out : (links : List Link) (labels : List ℕ) (from at to c : ℕ) (kept : Best) → at ≤ to → NoneLeavesIn links labels at to c → Keeps links labels from at c kept → Keeps links labels from to c kept

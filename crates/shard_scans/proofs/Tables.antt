@@ -1,7 +1,6 @@
 -- A table of what is kept for each label, and the offers that it gives.
 use Rattle.std.proofs.Common.{◌≡◌, ◌≢◌, ℕ, ◌+◌, ◌-◌, ◌<◌, ◌≤◌, ◌^◌, List, [], ◌∷◌, ◌++◌, length, get_or, Contains, sym, ap, ◌∙◌, subst, inl, inr, arith}
 use Rattle.std.proofs.lemmas.Bool.{cases_lt}
-use Rattle.std.proofs.lemmas.List.{get_or_past}
 use Rattle.std.proofs.lemmas.List.Elements.{Contains-get_or, Contains-append_left, Contains-push, Contains-push_cases}
 use Rattle.std.proofs.lemmas.List.Quantifiers.{all_pairs_push}
 use Rattle.links.specs.declared.links.Link.{Link}
@@ -15,7 +14,7 @@ use Rattle.round_theory.proofs.Lists.{set_ends}
 use Rattle.round_theory.proofs.OfferSteps.{left_label_is_vertex}
 use Rattle.shard_scans.specs.declared.scanning.Best.{Best}
 use Rattle.shard_scans.specs.Scanning.{no_best, IsBestPlace, best_of, AreBest}
-use Rattle.shard_scans.specs.Tables.{IsKept, ArePlacesBelow, ArePlaces}
+use Rattle.shard_scans.specs.Tables.{IsKept, ArePlacesBelow}
 use Rattle.shard_scans.proofs.BestSoFar.{best_is_light, none_leaves}
 use Rattle.shard_scans.proofs.Scans.{kept_place, kept_none}
 
@@ -78,23 +77,6 @@ same_place links labels label p place best (l, least, at) = elim (best.first pla
   ]
 ]
 
--- a place is kept for a label of the table alone
-pub kept_below : (bests : List Best) (label place : ℕ) → IsKept bests label place → label < length bests + 1
-kept_below bests label place kept = elim (cases_lt label (length bests + 1)) [
-  | inl lt ↦ lt
-  | inr le ↦ absurd (kept.some (sym kept.here ∙ ap (λ (b : Best). b.place) (get_or_past bests (label - 1) no_best (omega (arith, le)))))
-]
-
--- below a bound behind the last label are all that are kept
-pub places_all : (bests : List Best) (bound : ℕ) (pairs : List Offer) → length bests < bound → ArePlacesBelow bests bound pairs → ArePlaces bests pairs
-places_all bests bound pairs past are = record {
-  ascending = are.ascending;
-  exact = λ label place. (
-    λ is_in. ((are.exact label place).0 is_in).1,
-    λ kept. (are.exact label place).1 (omega (arith, kept_below bests label place kept, past), kept),
-  );
-}
-
 -- the best places are the light offers
 module _ (links : List Link) (labels : List ℕ) (bests : List Best) (few : length links ≤ 2 ^ 24) (ends : EndsUpTo (length labels) links) (all : AreLabels labels) (are : AreBest links labels 0 (length links) bests) where
   kept_is_light : (label place : ℕ) → label < length bests + 1 → IsKept bests label place → IsLightOffer links labels label place
@@ -111,11 +93,11 @@ module _ (links : List Link) (labels : List ℕ) (bests : List Best) (few : leng
       let same = same_place links labels label (best_of bests label).place place (kept_place links labels 0 (length links) label (best_of bests label) keeps some) (l, least, at) in
       (omega (arith, vertex, are.each_vertex), record { from_one = vertex.0; here = same; some = λ none. some (same ∙ none) })
 
-  pub places_are_light : (pairs : List Offer) → ArePlaces bests pairs → AreLightOffers links labels pairs
+  pub places_are_light : (pairs : List Offer) → ArePlacesBelow bests (length bests + 1) pairs → AreLightOffers links labels pairs
   places_are_light pairs places = record {
     ascending = places.ascending;
     exact = λ label place. (
-      λ is_in. let kept = (places.exact label place).0 is_in in kept_is_light label place (kept_below bests label place kept) kept,
-      λ light. (places.exact label place).1 (light_is_kept label place light).1,
+      λ is_in. let (lt, kept) = (places.exact label place).0 is_in in kept_is_light label place lt kept,
+      λ light. (places.exact label place).1 (light_is_kept label place light),
     );
   }

@@ -21,8 +21,3 @@ pub record IsKept (bests : List Best) (label place : ℕ) : Type 0 where
 pub record ArePlacesBelow (bests : List Best) (bound : ℕ) (pairs : List Offer) : Type 0 where
   pub ascending : AreOffers pairs
   pub exact : (label place : ℕ) → Contains pairs (label, place) ↔ ((label < bound) × IsKept bests label place)
-
--- all places that are kept, each with its label, labels ascending
-pub record ArePlaces (bests : List Best) (pairs : List Offer) : Type 0 where
-  pub ascending : AreOffers pairs
-  pub exact : (label place : ℕ) → Contains pairs (label, place) ↔ IsKept bests label place

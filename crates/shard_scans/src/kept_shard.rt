@@ -89,7 +89,7 @@ impl<A: Allocator + Copy> KeptShard<A> {
             return Ok(Some(offers));
         }
         let (offers, mut listed) = scanner.scan_and_list(self.links.as_slice(), labels)?;
-        listed.shrink();
+        listed.links.shrink_to_fit();
         self.live = Some(listed);
         self.scanned = true;
         Ok(Some(offers))

@@ -33,14 +33,6 @@ impl<A: Allocator + Copy> Listed<A> {
         Ok(Listed { names, links })
     }
 
-    // Gives back the room that the links don't fill.
-    pub(crate) fn shrink(&mut self)
-        ensures names { self.new.names.items ≡ self.old.names.items }
-        ensures links { self.new.links.items ≡ self.old.links.items }
-    {
-        self.links.shrink_to_fit();
-    }
-
     // Writes the links with the numbers of their new labels, without those whose ends fall together.
     pub(crate) fn renumber(
         &mut self,

@@ -1,8 +1,8 @@
 //! What a scan keeps for each label.
-ghost use Rattle.std.specs.Prelude.{◌≡◌, ◌^◌, ◌<◌, ◌≤◌, [], length, replicate, Some, IfOk, OnOk};
+ghost use Rattle.std.specs.Prelude.{◌≡◌, ◌+◌, ◌^◌, ◌<◌, ◌≤◌, [], length, replicate, Some, IfOk, OnOk};
 ghost use Rattle.limits.specs.declared.TheConstants.{MAX_SHARD_LINKS};
 ghost use Rattle.shard_scans.specs.Scanning.{no_best, Says};
-ghost use Rattle.shard_scans.specs.Tables.{KeepsAt, ArePlaces};
+ghost use Rattle.shard_scans.specs.Tables.{KeepsAt, ArePlacesBelow};
 
 use crate::scanning::{Best, NO_KEY, NO_PLACE, keep_lesser};
 use links::Link;
@@ -71,7 +71,7 @@ impl<A: Allocator + Copy> Table<A> {
     // The labels that have a best place, each with it, in ascending order.
     pub(crate) fn gather(&self) -> Result<Vec<(u32, u32), A>, AllocError>
         requires few { length self.now < 2 ^ 32 }
-        ensures places { IfOk result (λ pairs. ArePlaces self.now pairs.items) }
+        ensures places { IfOk result (λ pairs. ArePlacesBelow self.now (length self.now + 1) pairs.items) }
     {
         let bests = self.bests.as_slice();
         let mut pairs = Vec::new(*self.bests.allocator());

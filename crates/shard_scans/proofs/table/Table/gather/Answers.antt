@@ -1,9 +1,9 @@
-use Rattle.std.proofs.Common.{◌≡◌, ◌+◌, pos, get_or, ap, ◌∙◌, subst, arith}
+use Rattle.std.proofs.Common.{◌≡◌, ◌+◌, pos, get_or, length, ap, ◌∙◌, subst, arith}
 use Rattle.std.proofs.lemmas.List.{get_or_default}
 use Rattle.shard_scans.specs.declared.scanning.Best.{Best}
 use Rattle.shard_scans.specs.Scanning.{no_best}
-use Rattle.shard_scans.specs.Tables.{ArePlaces}
-use Rattle.shard_scans.proofs.Tables.{places_none, places_skip, places_push, places_all}
+use Rattle.shard_scans.specs.Tables.{ArePlacesBelow}
+use Rattle.shard_scans.proofs.Tables.{places_none, places_skip, places_push}
 use Rattle.shard_scans.proofs.table.Table.gather.Goals as goal
 use Rattle.shard_scans.proofs.table.Table.gather.Goals.{then-place+in_ok-push, else-place}
 
@@ -26,5 +26,6 @@ loop-before-preserved g c =
 pub returns : goal.returns
 returns g c =
     let bests = c.as_slice-bests.result.now in
-    let all : ArePlaces bests c.loop-before.pairs.items = places_all bests (c.loop-before.before + 1) c.loop-before.pairs.items (omega (arith, c.loop-before-test.false)) c.loop-before.invariant in
-    record { places = subst (λ t. ArePlaces t c.loop-before.pairs.items) (c.as_slice-bests.ensures.value ∙ c.self.view_is) all }
+    let end : c.loop-before.before + 1 ≡ length bests + 1 = omega (arith, c.loop-before-test.false, c.loop-before.auto.before-end) in
+    let all = subst (λ n. ArePlacesBelow bests n c.loop-before.pairs.items) end c.loop-before.invariant in
+    record { places = subst (λ t. ArePlacesBelow t (length t + 1) c.loop-before.pairs.items) (c.as_slice-bests.ensures.value ∙ c.self.view_is) all }
