@@ -3,9 +3,9 @@
 -- The numbers of the labels of all vertices are a coarser labelling: vertices of one label have one number. A link whose
 -- ends have marked labels leaves a number exactly where it leaves that number's label, since marked labels have numbers of
 -- their own. So the best places by numbers are those by labels, and as numbers ascend with the labels, so do the offers.
-use Rattle.std.proofs.Common.{◌≡◌, ◌≢◌, ℕ, ◌+◌, ◌-◌, ◌<◌, ◌≤◌, ◌^◌, ◌⊎◌, List, ◌++◌, length, get_or, take, drop, map, Contains, refl, sym, ap, ◌∙◌, subst, inl, inr, arith}
+use Rattle.std.proofs.Common.{take_all, ◌≡◌, ◌≢◌, ℕ, ◌+◌, ◌-◌, ◌<◌, ◌≤◌, ◌^◌, ◌⊎◌, List, ◌++◌, length, get_or, take, drop, map, Contains, refl, sym, ap, ◌∙◌, subst, inl, inr, arith}
 use Rattle.std.proofs.Math.Seq.{take-append_seam}
-use Rattle.std.proofs.lemmas.List.{get_or-map, length-map}
+use Rattle.std.proofs.lemmas.List.{get_or-map, length-map, length-take, drop_more, drop_all, get_or_at, append-nil}
 use Rattle.std.proofs.lemmas.List.Elements.{Contains-get_or}
 use Rattle.links.specs.declared.links.Link.{Link}
 use Rattle.links.specs.Link.{EndsUpTo}
@@ -26,6 +26,16 @@ use Rattle.shard_scans.proofs.Numbering.{numbers_apart, ascends_back}
 -- a slice that is written back stands for the whole list
 pub written_back : {X : Type 0} (n : ℕ) (xs ys : List X) → length ys ≡ n → take n (ys ++ drop (length ys) xs) ≡ ys
 written_back n xs ys size = subst (λ k. take k (ys ++ drop (length ys) xs) ≡ ys) size (take-append_seam ys (drop (length ys) xs))
+
+-- a list over whose first elements f is written
+module _ {X : Type 0} (f : X → X) (xs ys : List X) (i : ℕ) (so_far : ys ≡ map f (take i xs) ++ drop i xs) where
+  pub next_stands : (d : X) → i < length xs → get_or ys i d ≡ get_or xs i d
+  next_stands d lt =
+      ap (λ t. get_or t i d) (so_far ∙ ap (λ t. map f (take i xs) ++ t) (drop_more xs i d lt))
+      ∙ get_or_at (map f (take i xs)) _ _ d i (length-map (take i xs) f ∙ omega (arith, length-take i xs, lt))
+
+  pub all_over : length xs ≤ i → ys ≡ map f xs
+  all_over le = so_far ∙ ap (λ t. map f t ++ drop i xs) (take_all i xs le) ∙ ap (λ t. map f xs ++ t) (drop_all i xs le) ∙ append-nil (map f xs)
 
 module _ (marks labels : List ℕ) where
   -- the number of a vertex is that of its label

@@ -8,7 +8,7 @@ use Rattle.links.specs.Offers.{Offer}
 use Rattle.round_theory.specs.Labelling.{IsVertex}
 use Rattle.shard_scans.specs.declared.live.LiveLink.{LiveLink}
 use Rattle.shard_scans.specs.declared.numbers.Word.{Word}
-use Rattle.shard_scans.specs.Live.{AreLiveLinks, relabelled, packed}
+use Rattle.shard_scans.specs.Live.{AreLiveLinks, relabelled}
 
 -- no label of a word is marked
 abbrev pub no_marks : Word
@@ -110,10 +110,6 @@ pub record AreByNumbers (marks names : List ℕ) (by_labels live : List LiveLink
   pub numbered_are : live ≡ map (numbered marks) by_labels
   pub marked : All (AreBothMarked marks) by_labels
   pub named_are : All (AreBothNamed marks names) by_labels
-
--- a list by names is written anew under labels: without the links whose ends fall together, and with the numbers of the labels
-abbrev pub AreRenumbered : List ℕ → List ℕ → List ℕ → List LiveLink → List ℕ → List LiveLink → Type 0
-AreRenumbered labels marks names live names' live' = AreByNumbers marks names' (packed labels (shown names live)) live'
 
 -- live links by labels that stand for themselves are written with the numbers of these labels, which have names
 pub record AreLiveByNumbers (links : List Link) (labels marks names : List ℕ) (live : List LiveLink) : Type 0 where

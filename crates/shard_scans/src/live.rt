@@ -50,18 +50,6 @@ impl LiveLink {
         }
     }
 
-    // The same with other ends.
-    #[inline]
-    pub(crate) fn between(self, low: u32, high: u32) -> Self
-        ensures { result ≡ record { low = low; high = high; place = self.place } }
-    {
-        LiveLink {
-            low,
-            high,
-            place: self.place,
-        }
-    }
-
     // What a table keeps of it: a short key of the weight of the link at its place, and the place.
     #[inline]
     pub(crate) fn best(self, links: &[Link]) -> Best

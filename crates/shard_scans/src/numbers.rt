@@ -159,7 +159,11 @@ pub(crate) fn number_each<A: Allocator + Copy>(
         let link = live[i];
         let low = numbers.name(link.low, names);
         let high = numbers.name(link.high, names);
-        live[i] = link.between(low, high);
+        live[i] = LiveLink {
+            low,
+            high,
+            place: link.place,
+        };
     }
 }
 

@@ -1,7 +1,7 @@
 //! A pass over a shard's links in threads, each over a part with a table of its own.
 ghost use Rattle.std.specs.Prelude.{◌≡◌, ◌<◌, ◌≤◌, length, IfOk};
 ghost use denote.Param.Send.{IsSync, IsSend, Frees};
-ghost use Rattle.shard_scans.specs.Parts.{CanScan, IsPartOf, AreBestOf, SayPlaces, Merges};
+ghost use Rattle.shard_scans.specs.Parts.{CanScan, AreBestOf, SayPlaces, Merges};
 
 use crate::live::{LiveLink, label_at};
 use crate::parts::{Part, Scanned};
@@ -38,7 +38,7 @@ pub(crate) fn best_between<R: Threads + Sync, A: Allocator + Copy + Send + Sync>
     halvings: usize,
 ) -> Result<Table<A>, AllocError>
     requires can { CanScan scanned }
-    requires part { IsPartOf scanned part }
+    requires part { part.to ≤ length scanned.links.now }
     ensures best { IfOk result (AreBestOf scanned.entry part) }
 {
     if halvings == 0 || part.to - part.from < FEW_LINKS {
@@ -54,11 +54,11 @@ pub(crate) fn best_between<R: Threads + Sync, A: Allocator + Copy + Send + Sync>
         to: part.to,
     };
     let front = move || -> Result<Table<A>, AllocError>
-        requires { IsSync R.row × IsSend A.row × Frees A.Allocator A.dealloc_token × (0 < halvings) × CanScan scanned × IsPartOf scanned first }
+        requires { IsSync R.row × IsSend A.row × Frees A.Allocator A.dealloc_token × (0 < halvings) × CanScan scanned × (first.to ≤ length scanned.links.now) }
         ensures { IfOk result (AreBestOf scanned.entry first) }
     { best_between(rt, alloc, scanned, first, halvings - 1) };
     let back = move || -> Result<Table<A>, AllocError>
-        requires { IsSync R.row × IsSend A.row × Frees A.Allocator A.dealloc_token × (0 < halvings) × CanScan scanned × IsPartOf scanned second }
+        requires { IsSync R.row × IsSend A.row × Frees A.Allocator A.dealloc_token × (0 < halvings) × CanScan scanned × (second.to ≤ length scanned.links.now) }
         ensures { IfOk result (AreBestOf scanned.entry second) }
     { best_between(rt, alloc, scanned, second, halvings - 1) };
     let (earlier, later) = join(rt, front, back);
@@ -75,7 +75,7 @@ fn best_alone<A: Allocator + Copy>(
     part: Part,
 ) -> Result<Table<A>, AllocError>
     requires can { CanScan scanned }
-    requires part { IsPartOf scanned part }
+    requires part { part.to ≤ length scanned.links.now }
     ensures best { IfOk result (AreBestOf scanned.entry part) }
 {
     let Scanned { links, labels } = scanned;

@@ -1,9 +1,11 @@
 use Rattle.std.proofs.Common.{◌≡◌, ◌≢◌, ℕ, ◌<◌, length, get_or, set, map, sym, ap, ◌∙◌, subst, inl, inr, arith}
 use Rattle.std.proofs.lemmas.Bool.{cases_lt}
-use Rattle.std.proofs.lemmas.List.{get_or-map, length-map, get_or_default, get_or-set_same, get_or-set_other, same_lists}
+use Rattle.std.proofs.lemmas.List.{get_or_default}
+use Rattle.std.proofs.lemmas.List.Edits.{map_over_more}
 use Rattle.shard_scans.specs.declared.live.LiveLink.{LiveLink}
 use Rattle.shard_scans.specs.Numbers.{marks_of, numbered, IsMarked, HasItsName, AreBothMarked, AreBothNamed}
 use Rattle.shard_scans.proofs.Numbering.{number_has_place, named_here, named_stays}
+use Rattle.shard_scans.proofs.ByNumbers.{next_stands, all_over}
 use Rattle.shard_scans.proofs.numbers.number_each.Goals as goal
 
 pub loop-i-preserved : goal.loop-i-preserved
@@ -15,11 +17,11 @@ loop-i-preserved g c =
     let seen = c.loop-i.invariant in
     let default : LiveLink = record { low = 0; high = 0; place = 0 } in
     let l = get_or live i default in
-    let new = c.between.result in
+    let new : LiveLink = record { low = c.name-low.result; high = c.name-high.result; place = l.place } in
     let in_live : i < length live = omega (arith, c.loop-i-test.true, c.loop-i.auto.live) in
     let in_start : i < length start = omega (arith, c.loop-i-test.true, c.loop-i.auto.live) in
-    let l_is : l ≡ get_or start i default = seen.rest i default (omega arith) in
-    let new_is : new ≡ numbered marks l = c.between.ensures ∙ (λ k. record { low = c.name-low.ensures.number k; high = c.name-high.ensures.number k; place = l.place }) in
+    let l_is : l ≡ get_or start i default = next_stands (numbered marks) start live i seen.numbered default in_start in
+    let new_is : new ≡ numbered marks l = λ k. record { low = c.name-low.ensures.number k; high = c.name-high.ensures.number k; place = l.place } in
     let marked = subst (AreBothMarked marks) (sym l_is) (c.requires.marked i default in_start) in
     let place_low = number_has_place c.args.numbers.now c.loop-i.names l.low (omega (arith, c.requires.names)) marked.0 in
     let place_high = number_has_place c.args.numbers.now c.name-low.new.names l.high (omega (arith, c.requires.names)) marked.1 in
@@ -33,14 +35,7 @@ loop-i-preserved g c =
     let high_here : HasItsName marks c.name-high.new.names l.high =
     subst (λ n. HasItsName marks n l.high) (sym c.name-high.ensures.named) (named_here marks c.name-low.new.names l.high marked.1 place_high) in
     record {
-      numbered = λ k d lt. elim (cases_lt k i) [
-        | inl less ↦ let other : k ≢ i = omega (arith, less) in get_or-set_other live i k new d other ∙ seen.numbered k d less
-        | inr le ↦
-            let at : k ≡ i = omega (arith, lt, le) in
-            subst (λ n. get_or (set live i new) n d ≡ numbered marks (get_or start n d)) (sym at)
-            (get_or-set_same live i new d in_live ∙ new_is ∙ ap (numbered marks) (l_is ∙ get_or_default start i default d in_start))
-      ];
-      rest = λ k d le. let other : k ≢ i = omega (arith, le) in get_or-set_other live i k new d other ∙ seen.rest k d (omega (arith, le));
+      numbered = ap (set live i) new_is ∙ map_over_more (numbered marks) start live i l in_start seen.numbered (get_or_default live i default l in_live);
       named = λ k d lt. elim (cases_lt k i) [
         | inl less ↦
             let both = seen.named k d less in
@@ -56,14 +51,8 @@ loop-i-preserved g c =
 pub returns : goal.returns
 returns g c =
     let marks = marks_of c.args.numbers.now in
-    let start = c.args.live.now in
-    let live = c.loop-i.live in
     let seen = c.loop-i.invariant in
-    let long : length live ≡ length start = omega (arith, c.loop-i.auto.live) in
     record {
-      numbered = same_lists live (map (numbered marks) start) (long ∙ sym (length-map start (numbered marks)))
-          (λ k d lt.
-          let in_start : k < length start = omega (arith, lt, long) in
-          seen.numbered k d (omega (arith, c.loop-i-test.false, lt, c.loop-i.auto.live)) ∙ sym (get_or-map (numbered marks) start k d d in_start));
+      numbered = all_over (numbered marks) c.args.live.now c.loop-i.live c.loop-i.i seen.numbered (omega (arith, c.loop-i-test.false, c.loop-i.auto.live));
       named = λ k d lt. seen.named k d (omega (arith, c.loop-i-test.false, lt, c.loop-i.auto.live));
     }

@@ -1,4 +1,4 @@
-use Rattle.std.proofs.Common.{◌≡◌, ℕ, ◌<◌, ◌≤◌, get_or}
+use Rattle.std.proofs.Common.{◌≡◌, ℕ, ◌<◌, ◌++◌, take, drop, map, get_or}
 use Rattle.shard_scans.specs.declared.live.LiveLink.{LiveLink}
 use Rattle.shard_scans.specs.Numbers.{marks_of, numbered, AreBothNamed}
 use Rattle.shard_scans.proofs.numbers.number_each.Given as goal
@@ -6,7 +6,6 @@ use Rattle.shard_scans.proofs.numbers.number_each.Given as goal
 -- those before the next one are written with numbers, and the others stand
 abbrev pub invariant-loop-i : goal.invariant-loop-i
 invariant-loop-i g l = record {
-  numbered : (k : ℕ) (d : LiveLink) → k < l.i → get_or l.live k d ≡ numbered (marks_of l.numbers) (get_or l.initial.live k d);
-  rest : (k : ℕ) (d : LiveLink) → l.i ≤ k → get_or l.live k d ≡ get_or l.initial.live k d;
+  numbered : l.live ≡ map (numbered (marks_of l.numbers)) (take l.i l.initial.live) ++ drop l.i l.initial.live;
   named : (k : ℕ) (d : LiveLink) → k < l.i → AreBothNamed (marks_of l.numbers) l.names (get_or l.initial.live k d);
 }
