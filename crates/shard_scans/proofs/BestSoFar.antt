@@ -1,5 +1,5 @@
 -- The best place for a label, as the links at more places of a list are seen.
-use Rattle.std.proofs.Common.{◌≡◌, ◌≢◌, ℕ, ◌+◌, ◌<◌, ◌≤◌, List, length, get_or, Contains, true, false, Ordering, Less, Equal, Greater, is_le, Option, Some, None, refl, sym, ap, ◌∙◌, subst, inl, inr, arith}
+use Rattle.std.proofs.Common.{◌≡◌, ◌≢◌, ℕ, ◌+◌, ◌<◌, ◌≤◌, List, length, get_or, Contains, true, false, Ordering, Less, Equal, Greater, is_le, is_lt, Option, Some, None, refl, sym, ap, ◌∙◌, subst, inl, inr, arith}
 use Rattle.std.specs.Ordering.{ordering_reverse}
 use Rattle.std.proofs.lemmas.Bool.{cases_lt}
 use Rattle.std.proofs.lemmas.List.{get_or_default}
@@ -26,6 +26,9 @@ le_false Greater is = refl
 -- what the test for `<=` of two links says
 pub not_below_from_le : (l x : Link) → is_le (key_cmp l x) ≡ true → ¬ (IsBelow x l)
 not_below_from_le l x le below = le_true (key_cmp l x) le (key_cmp_total.antisymm l x ∙ ap ordering_reverse below)
+
+pub not_below_from_lt : (l x : Link) → is_lt (key_cmp x l) ≡ false → ¬ (IsBelow x l)
+not_below_from_lt l x test below = let less : is_lt Less ≡ false = subst (λ (o : Ordering). is_lt o ≡ false) below test in cc
 
 pub below_from_gt : (l x : Link) → is_le (key_cmp l x) ≡ false → IsBelow x l
 below_from_gt l x gt = key_cmp_total.antisymm x l ∙ ap ordering_reverse (le_false (key_cmp l x) gt)

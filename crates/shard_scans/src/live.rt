@@ -110,25 +110,7 @@ fn are_parallel(labels: &[u32], earlier: Link, link: Link) -> bool
     low == other_high && high == other_low
 }
 
-// Whether the link at a place is outdone by the one that is listed last.
-#[inline]
-fn is_outdone(links: &[Link], labels: &[u32], live: &[LiveLink], place: usize) -> bool
-    requires ends { EndsUpTo (length labels.now) links.now }
-    requires in_list { place < length links.now }
-    ensures { IsTrue result → StayLive links.now labels.now live.now place }
-{
-    if live.is_empty() {
-        return false;
-    }
-    let last = live[live.len() - 1];
-    let link = links[place];
-    match links.get(last.place as usize) {
-        Some(earlier) if are_parallel(labels, *earlier, link) => *earlier <= link,
-        _ => false,
-    }
-}
-
-// Whether the next link is to be listed behind those that are: it isn't quiet, and not outdone by the last of them.
+// Whether the next link is to be listed behind those that are: it isn't quiet, and the last of them doesn't outdo it.
 #[inline]
 pub(crate) fn is_live(links: &[Link], labels: &[u32], live: &[LiveLink], place: usize) -> bool
     requires ends { EndsUpTo (length labels.now) links.now }
@@ -139,7 +121,14 @@ pub(crate) fn is_live(links: &[Link], labels: &[u32], live: &[LiveLink], place: 
     if label_at(labels, link.low) == label_at(labels, link.high) {
         return false;
     }
-    !is_outdone(links, labels, live, place)
+    if live.is_empty() {
+        return true;
+    }
+    let last = live[live.len() - 1];
+    match links.get(last.place as usize) {
+        Some(earlier) if are_parallel(labels, *earlier, link) => link < *earlier,
+        _ => true,
+    }
 }
 
 // The live links of a shard, by labels, in room for all of its links.
