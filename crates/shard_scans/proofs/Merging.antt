@@ -6,11 +6,11 @@ use Rattle.links.specs.declared.links.Link.{Link}
 use Rattle.round_theory.specs.Labelling.{IsVertex}
 use Rattle.shard_scans.specs.declared.scanning.Best.{Best}
 use Rattle.shard_scans.specs.Scanning.{no_best, Says, Keeps, KeepsLesser, best_of, AreBest}
-use Rattle.shard_scans.specs.Parts.{SayPlaces}
 use Rattle.shard_scans.proofs.Scans.{kept_place, kept_none, kept_at, keeps_out}
 
 -- what a table keeps says the short key of the weight of the link at its place
-pub bests_say : (links : List Link) (labels : List ℕ) (from to : ℕ) (table : List Best) → AreBest links labels from to table → SayPlaces links table
+pub bests_say : (links : List Link) (labels : List ℕ) (from to : ℕ) (table : List Best) → AreBest links labels from to table → (i : ℕ) (d : Best) → i < length table
+    → (get_or table i d).place ≢ no_best.place → Says links (get_or table i d) (Some (get_or table i d).place)
 bests_say links labels from to table are i d within some = go keeps.best keeps.says
   where
     kept : Best

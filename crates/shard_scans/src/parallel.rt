@@ -1,13 +1,13 @@
 //! A pass over a shard's links in threads, each over a part with a table of its own.
 ghost use Rattle.std.specs.Prelude.{◌≡◌, ◌<◌, ◌≤◌, length, IfOk};
 ghost use denote.Param.Send.{IsSync, IsSend, Frees};
-ghost use Rattle.shard_scans.specs.Parts.{CanScan, AreBestOf, SayPlaces, Merges};
+ghost use Rattle.shard_scans.specs.Scanning.{AreBest};
+ghost use Rattle.shard_scans.specs.Parts.{CanScan, AreBestOf};
 
 use crate::live::{LiveLink, label_at};
 use crate::parts::{Part, Scanned};
 use crate::scanning::{Best, NO_PLACE, keep_next};
 use crate::table::Table;
-use limits::MAX_SHARD_LINKS;
 use links::Link;
 use rayon::{current_num_threads, join};
 use std::alloc::{AllocError, Allocator};
@@ -64,7 +64,7 @@ pub(crate) fn best_between<R: Threads + Sync, A: Allocator + Copy + Send + Sync>
     let (earlier, later) = join(rt, front, back);
     let mut table = earlier?;
     let rest = later?;
-    merge(scanned.links, &mut table, rest.bests());
+    merge(scanned, first, second, &mut table, rest.bests());
     Ok(table)
 }
 
@@ -93,17 +93,24 @@ fn best_alone<A: Allocator + Copy>(
     Ok(table)
 }
 
-// Takes what was kept for later links into a table of the earlier ones. Of equal links the earlier one stays.
-fn merge<A: Allocator + Copy>(links: &[Link], table: &mut Table<A>, later: &[Best])
-    requires few_links { length links.now ≤ MAX_SHARD_LINKS }
-    requires each_label { length table.old ≡ length later.now }
-    requires later { SayPlaces links.now later.now }
-    ensures best { Merges links.now later.now table.old table.new }
+// Takes what was kept for the second of two parts into a table of the first. Of equal links the earlier one stays.
+fn merge<A: Allocator + Copy>(
+    scanned: Scanned,
+    first: Part,
+    second: Part,
+    table: &mut Table<A>,
+    later: &[Best],
+)
+    requires can { CanScan scanned }
+    requires beside { first.to ≡ second.from }
+    requires earlier { AreBestOf scanned first table.old }
+    requires later { AreBestOf scanned second later.now }
+    ensures best { AreBest scanned.entry.links.now scanned.entry.labels.now first.from second.to table.new }
 {
     for i in 0..later.len() {
         let next = later[i];
         if next.place != NO_PLACE {
-            table.keep(i, links, next);
+            table.keep(i, scanned.links, next);
         }
     }
 }

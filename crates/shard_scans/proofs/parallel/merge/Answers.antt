@@ -1,41 +1,49 @@
-use Rattle.std.proofs.Common.{pos, refl, ◌∙◌, arith}
-use Rattle.std.proofs.lemmas.List.{length-set}
+use Rattle.std.proofs.Common.{pos, ◌≤◌, subst, arith}
 use Rattle.shard_scans.specs.declared.scanning.Best.{Best}
-use Rattle.shard_scans.proofs.Merging.{merged_none, merged_next, merged_skip, merged_all}
+use Rattle.shard_scans.specs.Scanning.{AreBest}
+use Rattle.shard_scans.proofs.Merging.{bests_say, merged_none, merged_next, merged_skip, merged_all}
 use Rattle.shard_scans.proofs.parallel.merge.Goals as goal
 use Rattle.shard_scans.proofs.parallel.merge.Goals.{then-next, else-next}
 
 pub loop-i-init : goal.loop-i-init
-loop-i-init g c = record { each_label = refl; merged = λ labels from at to le le' earlier later. merged_none c.args.links.now labels from at to c.args.table.now earlier }
+loop-i-init g c =
+    let links = c.args.scanned.links.now in
+    let labels = c.args.scanned.labels.now in
+    let first = c.args.first in
+    let second = c.args.second in
+    merged_none links labels first.from second.from second.to c.args.table.now (subst (λ k. AreBest links labels first.from k c.args.table.now) c.requires.beside c.requires.earlier)
 
 pub keep-requires-clause-label : goal.keep-requires-clause-label
-keep-requires-clause-label g c = omega (arith, c.loop-i-test.true, c.loop-i.invariant.each_label, c.requires.each_label)
+keep-requires-clause-label g c = omega (arith, c.loop-i-test.true, c.loop-i.invariant.each_vertex, c.requires.later.each_vertex)
+
+pub keep-requires-clause-next : goal.keep-requires-clause-next
+keep-requires-clause-next g c =
+    let default : Best = record { key = pos 0; place = 0 } in
+    bests_say c.args.scanned.links.now c.args.scanned.labels.now c.args.second.from c.args.second.to c.args.later.now c.requires.later c.loop-i.i default c.loop-i-test.true c.if-next.true
 
 pub loop-i-preserved : goal.loop-i-preserved
 loop-i-preserved g c =
-    let links = c.args.links.now in
-    let i = c.loop-i.i in
-    let within = c.loop-i-test.true in
+    let links = c.args.scanned.links.now in
+    let labels = c.args.scanned.labels.now in
+    let first = c.args.first in
+    let second = c.args.second in
+    let few = c.requires.can.few_links in
     let default : Best = record { key = pos 0; place = 0 } in
+    let le : first.from ≤ second.from = omega (arith, first.ordered, c.requires.beside) in
     elim c.if-next.branch [
       | then-next w ↦
           let kept = w.keep.ensures.kept in
-          rw (w.table-is, kept.new_is) (record {
-            each_label = length-set c.loop-i.table i kept.after ∙ c.loop-i.invariant.each_label;
-            merged = λ labels from at to le le' earlier later.
-                let merged = c.loop-i.invariant.merged labels from at to le le' earlier later in
-                merged_next links labels from at to le' c.requires.few_links c.args.later.now later i within default c.loop-i.table merged le kept.after (kept.lesser default) w.if-next.true;
-          })
-      | else-next w ↦ rw w.table-is (record {
-        each_label = c.loop-i.invariant.each_label;
-        merged = λ labels from at to le le' earlier later.
-            merged_skip links labels from at to le' c.requires.few_links c.args.later.now later i within default c.loop-i.table
-            (c.loop-i.invariant.merged labels from at to le le' earlier later) w.if-next.false;
-      })
+          rw (w.table-is, kept.new_is) (merged_next links labels first.from second.from second.to second.ordered few c.args.later.now c.requires.later c.loop-i.i c.loop-i-test.true default
+          c.loop-i.table c.loop-i.invariant le kept.after (kept.lesser default) w.if-next.true)
+      | else-next w ↦
+          rw w.table-is (merged_skip links labels first.from second.from second.to second.ordered few c.args.later.now c.requires.later c.loop-i.i c.loop-i-test.true default
+          c.loop-i.table c.loop-i.invariant w.if-next.false)
     ]
 
 pub returns : goal.returns
-returns g c = record {
-  best = λ labels from at to le le' earlier later.
-      merged_all c.args.links.now labels from at to c.loop-i.table c.loop-i.i (omega (arith, c.loop-i-test.false, later.each_vertex)) (c.loop-i.invariant.merged labels from at to le le' earlier later);
-}
+returns g c =
+    let labels = c.args.scanned.labels.now in
+    record {
+      best = merged_all c.args.scanned.links.now labels c.args.first.from c.args.second.from c.args.second.to c.loop-i.table c.loop-i.i
+          (omega (arith, c.loop-i-test.false, c.requires.later.each_vertex)) c.loop-i.invariant;
+    }
