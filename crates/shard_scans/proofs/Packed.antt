@@ -43,7 +43,7 @@ module _ (labels : List ℕ) where
   pub packed_stands : AreLabels labels → (live : List LiveLink) → All (λ l. IsVertex (length labels) l.low × IsVertex (length labels) l.high) live → All (λ e. relabelled labels e ≡ e) (packed labels live)
   packed_stands labelled live ends = packed_all (λ e. relabelled labels e ≡ e) live (λ k d lt.
       let at = ends k d lt in
-      relabelled_stands labels (relabelled labels (get_or live k d)) (get_or live k d) labelled at.0 at.1 refl)
+      relabelled_stands labels labelled (get_or live k d) at.0 at.1)
 
 module _ (links : List Link) (labels : List ℕ) where
   abbrev Written : LiveLink → Type 0

@@ -55,12 +55,9 @@ module _ (labels : List ℕ) (are : AreLabels labels) where
       let at_high : IsVertex (length labels) l.high = (omega (arith, l.from_one, l.ascending), ends) in
       record { low = label_stands l.low l.low (at_low, at_low, refl); high = label_stands l.high l.high (at_high, at_high, refl) }
 
-  -- labels of ends stand for themselves
-  pub own_stands : (l : Link) (place : ℕ) → l.high ≤ length labels → relabelled labels (written_at labels l place) ≡ written_at labels l place
-  own_stands l place ends =
-      let low = (are.labelled l.low l.from_one (omega (arith, l.ascending, ends))).own in
-      let high = (are.labelled l.high (omega (arith, l.from_one, l.ascending)) ends).own in
-      λ k. record { low = low k; high = high k; place = place }
+  -- and stand for themselves
+  pub relabelled_stands : (e : LiveLink) → IsVertex (length labels) e.low → IsVertex (length labels) e.high → relabelled labels (relabelled labels e) ≡ relabelled labels e
+  relabelled_stands e low high = λ k. record { low = (are.labelled e.low low.0 low.1).own k; high = (are.labelled e.high high.0 high.1).own k; place = e.place }
 
 -- as many places as live links
 places_count : (live : List LiveLink) → length (places_of live) ≡ length live
@@ -151,7 +148,7 @@ module _ (links : List Link) (labels : List ℕ) where
       places = subst (AreLive links labels 0 (place + 1)) (sym (map-append (λ (e : LiveLink). e.place) live (written_at labels l place ∷ []))) (live_push links labels 0 place (places_of live) before.places);
       written = All-append P live (written_at labels l place ∷ []) before.written
           (All-cons P (written_at labels l place) [] (λ k k_read. subst (λ m. IsEntryOf labels m (written_at labels l place)) (one_read links place l k within read k_read) (own_written labels are l place ends)) (All-nil P));
-      own = All-append Own live (written_at labels l place ∷ []) before.own (All-cons Own (written_at labels l place) [] (own_stands labels are l place ends) (All-nil Own));
+      own = All-append Own live (written_at labels l place ∷ []) before.own (All-cons Own (written_at labels l place) [] (relabelled_stands labels are (record { low = l.low; high = l.high; place = place }) (l.from_one, omega (arith, l.ascending, ends)) (omega (arith, l.from_one, l.ascending), ends)) (All-nil Own));
     }
       where
         Own : LiveLink → Type 0
@@ -163,12 +160,3 @@ module _ (links : List Link) (labels : List ℕ) where
   -- or left out
   pub written_left_out : (place : ℕ) (live : List LiveLink) → AreWrittenBefore place live → StayLive links labels live place → AreWrittenBefore (place + 1) live
   written_left_out place live before stay = record { places = stay before.places; written = before.written; own = before.own }
-
--- labels stand for themselves
-pub relabelled_stands : (labels : List ℕ) (next l : LiveLink) → AreLabels labels → IsVertex (length labels) l.low → IsVertex (length labels) l.high → next ≡ relabelled labels l → relabelled labels next ≡ next
-relabelled_stands labels next l are low high next_is =
-    let own_low : label_of labels (label_of labels l.low) ≡ label_of labels l.low = (are.labelled l.low low.0 low.1).own in
-    let own_high : label_of labels (label_of labels l.high) ≡ label_of labels l.high = (are.labelled l.high high.0 high.1).own in
-    ap (relabelled labels) next_is
-    ∙ (λ k. record { low = own_low k; high = own_high k; place = l.place })
-    ∙ sym next_is
