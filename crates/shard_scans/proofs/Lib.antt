@@ -11,4 +11,3 @@ pub mod Numbering
 pub mod ByNumbers
 pub mod Relisting
 pub mod NextScan
-pub mod Ends
