@@ -1,5 +1,5 @@
 -- The best place for a label, as the links at more places of a list are seen.
-use Rattle.std.proofs.Common.{◌≡◌, ◌≢◌, ℕ, ◌+◌, ◌<◌, ◌≤◌, List, length, get_or, Contains, true, false, Ordering, Less, Equal, Greater, is_le, is_lt, Option, Some, None, refl, sym, ap, ◌∙◌, subst, inl, inr, arith}
+use Rattle.std.proofs.Common.{◌≡◌, ℕ, ◌+◌, ◌<◌, ◌≤◌, List, length, get_or, Contains, true, false, Ordering, Less, Equal, Greater, is_le, is_lt, Option, Some, None, refl, sym, ap, ◌∙◌, subst, inl, inr, arith}
 use Rattle.std.specs.Ordering.{ordering_reverse}
 use Rattle.std.proofs.lemmas.Bool.{cases_lt}
 use Rattle.std.proofs.lemmas.List.{get_or_default}
@@ -13,11 +13,6 @@ use Rattle.shard_scans.specs.Scanning.{ComesFirst, IsBestPlace, NoneLeavesIn, Is
 pub one_read : (links : List Link) (i : ℕ) (l m : Link) → i < length links → l ≡ get_or links i l → m ≡ get_or links i m → l ≡ m
 one_read links i l m within l_read m_read = l_read ∙ get_or_default links i l m within ∙ sym m_read
 
-le_true : (o : Ordering) → is_le o ≡ true → o ≢ Greater
-le_true Less is other = cc
-le_true Equal is other = cc
-le_true Greater is other = cc
-
 le_false : (o : Ordering) → is_le o ≡ false → o ≡ Greater
 le_false Less is = cc
 le_false Equal is = cc
@@ -25,7 +20,7 @@ le_false Greater is = refl
 
 -- what the test for `<=` of two links says
 pub not_below_from_le : (l x : Link) → is_le (key_cmp l x) ≡ true → ¬ (IsBelow x l)
-not_below_from_le l x le below = le_true (key_cmp l x) le (key_cmp_total.antisymm l x ∙ ap ordering_reverse below)
+not_below_from_le l x le below = let at_most : is_le Greater ≡ true = subst (λ (o : Ordering). is_le o ≡ true) (key_cmp_total.antisymm l x ∙ ap ordering_reverse below) le in cc
 
 pub not_below_from_lt : (l x : Link) → is_lt (key_cmp x l) ≡ false → ¬ (IsBelow x l)
 not_below_from_lt l x test below = let less : is_lt Less ≡ false = subst (λ (o : Ordering). is_lt o ≡ false) below test in cc

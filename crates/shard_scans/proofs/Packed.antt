@@ -1,10 +1,9 @@
 -- Live links under new labels, without those whose ends fall together.
-use Rattle.std.proofs.Common.{◌≡◌, ◌≢◌, ℕ, ◌+◌, List, [], ◌∷◌, ◌++◌, length, get_or, All, cond, refl, sym, ap, ◌∙◌, subst, inl, inr, arith}
+use Rattle.std.proofs.Common.{◌≡◌, ◌≢◌, ℕ, ◌+◌, List, [], ◌∷◌, ◌++◌, length, get_or, All, cond, refl, sym, ap, ◌∙◌, subst, inl, inr}
 use Rattle.std.proofs.lemmas.Bool.Decides.{eqb_tells}
 use Rattle.std.proofs.lemmas.List.Elements.{All-cons, All-head, All-nil, All-tail}
 use Rattle.links.specs.declared.links.Link.{Link}
 use Rattle.links.specs.Labels.{label_of, AreLabels}
-use Rattle.round_theory.specs.Labelling.{IsVertex}
 use Rattle.shard_scans.specs.declared.live.LiveLink.{LiveLink}
 use Rattle.shard_scans.specs.Live.{IsInside, AreLive, IsEntryOf, places_of, AreLiveLinks, relabelled, packed}
 use Rattle.shard_scans.proofs.Laid.{live_without}
@@ -39,12 +38,6 @@ module _ (labels : List ℕ) where
         (All-cons P (relabelled labels x) (packed labels live) (All-head (λ l. P (relabelled labels l)) x live all) (packed_all P live (All-tail (λ l. P (relabelled labels l)) x live all)))
   ]
 
-  -- the labels of vertices stand for themselves
-  pub packed_stands : AreLabels labels → (live : List LiveLink) → All (λ l. IsVertex (length labels) l.low × IsVertex (length labels) l.high) live → All (λ e. relabelled labels e ≡ e) (packed labels live)
-  packed_stands labelled live ends = packed_all (λ e. relabelled labels e ≡ e) live (λ k d lt.
-      let at = ends k d lt in
-      relabelled_stands labels labelled (get_or live k d) at.0 at.1)
-
 module _ (links : List Link) (labels : List ℕ) where
   abbrev Written : LiveLink → Type 0
   Written e = (l : Link) → l ≡ get_or links e.place l → IsEntryOf labels l e
@@ -72,4 +65,6 @@ module _ (links : List Link) (labels : List ℕ) where
 
   -- and their labels stand for themselves
   pub packed_own : (live : List LiveLink) → AreLabels labels → AreLiveLinks links labels live → All (λ e. relabelled labels e ≡ e) (packed labels live)
-  packed_own live labelled are = packed_stands labels labelled live (live_ends links labels live are)
+  packed_own live labelled are = packed_all labels (λ e. relabelled labels e ≡ e) live (λ k d lt.
+      let at = live_ends links labels live are k d lt in
+      relabelled_stands labels labelled (get_or live k d) at.0 at.1)
