@@ -102,22 +102,10 @@ fn expect(
 fn writes_the_forest(rt: HostRuntime) {
     let report =
         b"vertices=6 links=8 rounds=0 shards=0 asked=0 answered=0 alone=0 closed=0 total=13\n".as_slice();
-    expect(
-        &rt,
-        &["boruvka", "--plain"],
-        SMALL_NET,
-        0,
-        SMALL_FOREST,
-        b"",
-    );
-    expect(
-        &rt,
-        &["boruvka", "--plain", "--report"],
-        SMALL_NET,
-        0,
-        SMALL_FOREST,
-        report,
-    );
+    let words = ["boruvka", "--plain"];
+    expect(&rt, &words, SMALL_NET, 0, SMALL_FOREST, b"");
+    let words = ["boruvka", "--plain", "--report"];
+    expect(&rt, &words, SMALL_NET, 0, SMALL_FOREST, report);
 }
 
 #[test]
@@ -126,14 +114,8 @@ fn reads_a_named_file(rt: HostRuntime) {
     let mut file = File::create(&rt, name).expect(&rt, "a file");
     file.write_all(SMALL_NET).expect(&rt, "bytes written");
     drop(file);
-    expect(
-        &rt,
-        &["boruvka", "--plain", name],
-        b"",
-        0,
-        SMALL_FOREST,
-        b"",
-    );
+    let words = ["boruvka", "--plain", name];
+    expect(&rt, &words, b"", 0, SMALL_FOREST, b"");
     fs::remove_file(&rt, name).expect(&rt, "a file");
 }
 
@@ -186,14 +168,8 @@ fn refuses_a_file_by_its_first_fault(rt: HostRuntime) {
     let words = ["boruvka", "--plain"];
     let late = b"boruvka: line 1: NoProblemYet\n";
     expect(&rt, &words, b"a 1 2 3\np sp 2 1\n", 1, b"", late);
-    expect(
-        &rt,
-        &words,
-        b"",
-        1,
-        b"",
-        b"boruvka: line 1: MissingProblem\n",
-    );
+    let empty = b"boruvka: line 1: MissingProblem\n";
+    expect(&rt, &words, b"", 1, b"", empty);
     let missing = b"boruvka: line 3: MissingArcs\n";
     expect(&rt, &words, b"p sp 2 2\na 1 2 5", 1, b"", missing);
     expect(&rt, &words, b"p sp 2 2\na 1 2 5\n", 1, b"", missing);
@@ -202,14 +178,8 @@ fn refuses_a_file_by_its_first_fault(rt: HostRuntime) {
 #[test]
 fn prints_a_file_that_cannot_be_read(rt: HostRuntime) {
     let unopened = b"boruvka: cannot open no/such/file\n";
-    expect(
-        &rt,
-        &["boruvka", "--plain", "no/such/file"],
-        SMALL_NET,
-        3,
-        b"",
-        unopened,
-    );
+    let words = ["boruvka", "--plain", "no/such/file"];
+    expect(&rt, &words, SMALL_NET, 3, b"", unopened);
     let folder = b"boruvka: line 1: read failed\n";
     expect(&rt, &["boruvka", "--plain", "/"], SMALL_NET, 3, b"", folder);
 }
@@ -217,22 +187,14 @@ fn prints_a_file_that_cannot_be_read(rt: HostRuntime) {
 // Over workers the forest is the same, whatever their number.
 #[test]
 fn runs_over_workers(rt: HostRuntime) {
-    expect(
-        &rt,
-        &["boruvka", "--workers", "2", "--shards", "2", "--report"],
-        SMALL_NET,
-        0,
-        SMALL_FOREST,
-        b"vertices=6 links=8 rounds=2 shards=2 asked=6 answered=6 alone=0 closed=0 total=13\n",
-    );
-    expect(
-        &rt,
-        &["boruvka", "--workers", "0", "--shards", "2", "--report"],
-        SMALL_NET,
-        0,
-        SMALL_FOREST,
-        b"vertices=6 links=8 rounds=2 shards=2 asked=0 answered=0 alone=6 closed=0 total=13\n",
-    );
+    let report =
+        b"vertices=6 links=8 rounds=2 shards=2 asked=6 answered=6 alone=0 closed=0 total=13\n";
+    let words = ["boruvka", "--workers", "2", "--shards", "2", "--report"];
+    expect(&rt, &words, SMALL_NET, 0, SMALL_FOREST, report);
+    let report =
+        b"vertices=6 links=8 rounds=2 shards=2 asked=0 answered=0 alone=6 closed=0 total=13\n";
+    let words = ["boruvka", "--workers", "0", "--shards", "2", "--report"];
+    expect(&rt, &words, SMALL_NET, 0, SMALL_FOREST, report);
     expect(&rt, &["boruvka"], SMALL_NET, 0, SMALL_FOREST, b"");
 }
 
@@ -242,36 +204,39 @@ fn refuses_a_file_over_workers(rt: HostRuntime) {
     let late = b"boruvka: line 1: NoProblemYet\n";
     expect(&rt, &["boruvka"], b"a 1 2 3\np sp 2 1\n", 1, b"", late);
     let unopened = b"boruvka: cannot open no/such/file\n";
-    expect(
-        &rt,
-        &["boruvka", "no/such/file"],
-        SMALL_NET,
-        3,
-        b"",
-        unopened,
-    );
+    let words = ["boruvka", "no/such/file"];
+    expect(&rt, &words, SMALL_NET, 3, b"", unopened);
+}
+
+// The output takes these ten bytes for these words, and then a write fails.
+fn expect_broken_off(
+    rt: &(impl Abort
+        + Files<File = File>
+        + Alloc<A = Global>
+        + Net<Listener = TcpListener, Stream = TcpStream>
+        + Threads
+        + Wait
+        + Sync
+        + Copy
+        + Send
+        + 'static),
+    words: &[&str],
+    held: &[u8],
+) {
+    let mut input = SMALL_NET.as_slice();
+    let mut output = FusedSink::new(rt.alloc(), 10, 7).expect(rt, "memory");
+    let mut errors = Vec::new(rt.alloc());
+    let mut told = Vec::new(rt.alloc());
+    let ended = command(rt, words, &mut input, &mut output, &mut errors, &mut told);
+    expect_same(rt, ended, 3);
+    expect_same(rt, output.held(), held);
+    let line = b"boruvka: write failed after 10 bytes\n".as_slice();
+    expect_same(rt, errors.as_slice(), line);
 }
 
 #[test]
 fn prints_how_much_was_written(rt: HostRuntime) {
-    let mut errors = Vec::new(rt.alloc());
-    let mut input = SMALL_NET.as_slice();
-    let mut output = FusedSink::new(rt.alloc(), 10, 7).expect(&rt, "memory");
-    let status = command(
-        &rt,
-        &["boruvka", "--plain"],
-        &mut input,
-        &mut output,
-        &mut errors,
-        &mut Vec::new(rt.alloc()),
-    );
-    expect_same(&rt, status, 3);
-    expect_same(&rt, output.held(), b"p sp 6 5\na".as_slice());
-    expect_same(
-        &rt,
-        errors.as_slice(),
-        b"boruvka: write failed after 10 bytes\n".as_slice(),
-    );
+    expect_broken_off(&rt, &["boruvka", "--plain"], b"p sp 6 5\na");
     expect_same(&rt, status_of(&RunFault::Memory), 4);
 }
 
@@ -344,20 +309,8 @@ fn prints_each_fault_in_its_own_text(rt: HostRuntime) {
 
 #[test]
 fn prints_the_help(rt: HostRuntime) {
-    let mut errors = Vec::new(rt.alloc());
-    let mut input = SMALL_NET.as_slice();
-    let mut output = Vec::new(rt.alloc());
-    let status = command(
-        &rt,
-        &["boruvka", "--help"],
-        &mut input,
-        &mut output,
-        &mut errors,
-        &mut Vec::new(rt.alloc()),
-    );
-    expect_same(&rt, status, 0);
-    expect_same(&rt, output.as_slice(), HELP.as_bytes());
-    expect_same(&rt, errors.is_empty(), true);
+    let words = ["boruvka", "--help"];
+    expect(&rt, &words, SMALL_NET, 0, HELP.as_bytes(), b"");
 }
 
 #[test]
@@ -406,25 +359,9 @@ fn ignores_errors_that_fail(rt: HostRuntime) {
 #[test]
 fn reports_only_what_ended_well(rt: HostRuntime) {
     let words = ["boruvka", "--plain", "--report"];
-    expect(
-        &rt,
-        &words,
-        b"",
-        1,
-        b"",
-        b"boruvka: line 1: MissingProblem\n",
-    );
-    let mut errors = Vec::new(rt.alloc());
-    let mut input = SMALL_NET.as_slice();
-    let mut output = FusedSink::new(rt.alloc(), 10, 7).expect(&rt, "memory");
-    let mut told = Vec::new(rt.alloc());
-    let status = command(&rt, &words, &mut input, &mut output, &mut errors, &mut told);
-    expect_same(&rt, status, 3);
-    expect_same(
-        &rt,
-        errors.as_slice(),
-        b"boruvka: write failed after 10 bytes\n".as_slice(),
-    );
+    let empty = b"boruvka: line 1: MissingProblem\n";
+    expect(&rt, &words, b"", 1, b"", empty);
+    expect_broken_off(&rt, &words, b"p sp 6 5\na");
 }
 
 // The source gives the first line and four bytes of the second, and then fails.
@@ -554,14 +491,8 @@ fn opens_the_name_that_it_is_given(rt: HostRuntime) {
     let empty = b"boruvka: cannot open \n";
     expect(&rt, &["boruvka", "--plain", ""], SMALL_NET, 3, b"", empty);
     let named = b"boruvka: cannot open ./-\n";
-    expect(
-        &rt,
-        &["boruvka", "--plain", "./-"],
-        SMALL_NET,
-        3,
-        b"",
-        named,
-    );
+    let words = ["boruvka", "--plain", "./-"];
+    expect(&rt, &words, SMALL_NET, 3, b"", named);
     let minus = ["boruvka", "--plain", "-"];
     expect(&rt, &minus, SMALL_NET, 0, SMALL_FOREST, b"");
 }
@@ -576,24 +507,7 @@ fn prints_the_version(rt: HostRuntime) {
 
 #[test]
 fn prints_a_help_that_cannot_be_written(rt: HostRuntime) {
-    let mut errors = Vec::new(rt.alloc());
-    let mut input = SMALL_NET.as_slice();
-    let mut output = FusedSink::new(rt.alloc(), 10, 7).expect(&rt, "memory");
-    let status = command(
-        &rt,
-        &["boruvka", "--help"],
-        &mut input,
-        &mut output,
-        &mut errors,
-        &mut Vec::new(rt.alloc()),
-    );
-    expect_same(&rt, status, 3);
-    expect_same(&rt, output.held(), b"Computes t".as_slice());
-    expect_same(
-        &rt,
-        errors.as_slice(),
-        b"boruvka: write failed after 10 bytes\n".as_slice(),
-    );
+    expect_broken_off(&rt, &["boruvka", "--help"], b"Computes t");
 }
 
 // What longer files get is tried over the built program.
