@@ -1,13 +1,12 @@
 -- Several files, whose links are joined: one file after the other, and how the run ends.
 use Rattle.std.proofs.Common.{◌≡◌, ◌≢◌, ◌≤◌, ◌<◌, ◌+◌, ℕ, ◌⊎◌, ◌∙◌, List, [], ◌∷◌, ◌++◌, length, get_or, take, drop, map, All, Option, None, Some, Bool, true, false, inl, inr, Result, Ok, Err, refl, sym, ap, subst, arith}
-use Rattle.std.specs.Prelude.{IsSome, is_some, not, ◌||◌, option_map}
+use Rattle.std.specs.Prelude.{IsSome, IsErrAnd, MatchResult, is_some, not, ◌||◌, option_map}
 use Rattle.std.proofs.lemmas.List.{drop_more, get_or-map, length-map, length-take, take-append-drop, take_more}
 use Rattle.limits.specs.declared.TheConstants.{MAX_BYTES}
 use Rattle.byte_streams.specs.Streams.{SourceState, SinkState, Gave}
 use Rattle.byte_streams.proofs.Streaming.{took_nothing}
 use Rattle.gr_text.specs.Graph.{GraphValue}
 use Rattle.gr_text.specs.Sourced.{IsReadOf}
-use Rattle.gr_text.specs.declared.faults.ReadFault.TheVariants as read
 use Rattle.plain_run.specs.Parts.{Adds, ArePartsOf, PartsValue, WritesForestOf, joined_graph}
 use Rattle.plain_run.specs.declared.fault.PartFault.{PartFault}
 use Rattle.plain_run.specs.declared.fault.PartFault.TheVariants as part
@@ -15,19 +14,21 @@ use Rattle.plain_run.specs.declared.fault.RunFault.{RunFault}
 use Rattle.plain_run.specs.declared.fault.RunFault.TheVariants as fault
 use Rattle.plain_run.specs.declared.report.Report.{Report}
 use Rattle.program_words.specs.Messages.{IsWritten}
-use Rattle.boruvka.specs.Adding.{AddsFile, AddsFrom, AreAdded, AreJoined, joined_of, times}
-use Rattle.boruvka.specs.Joined.{EndsAtFile, EndsJoined, EndsOnSeveral, GiveGraphs, GivesGraph, StopsAfter, StopsAt, inputs, source_of, status_for_stop, stop_line}
+use Rattle.boruvka.specs.Joined.{AddsFile, AddsFrom, AreAdded, EndsAtFile, EndsJoined, EndsOnSeveral, GiveGraphs, GivesGraph, StopsAfter, StopsAt, inputs, source_of, status_for_stop, stop_line}
 use Rattle.boruvka.specs.Status.{IsReported, IsUntouched, LeavesOutput, status_of_run, uncounted}
 use Rattle.boruvka.specs.Streams.{OnLeft, Standard, with_source}
 use Rattle.boruvka.specs.declared.joined.JoinFault.{JoinFault}
 use Rattle.boruvka.specs.declared.joined.JoinFault.TheVariants.{Unopened, Part}
+use Rattle.boruvka.proofs.Endings.{loud, so_left, status_bound}
 
 -- ---- one more file
 
 -- what a source does to the parts, as a file does it
-pub adds_from : (s t : SourceState) (old : PartsValue) (added : Result PartsValue PartFault) → Adds old added s t → AddsFrom s t old (joined_of added)
-adds_from s t old (Ok new) adds = adds
-adds_from s t old (Err why) adds = adds
+pub adds_from : (s t : SourceState) (old : PartsValue) (added : Result PartsValue PartFault) (result : Result PartsValue JoinFault)
+    → MatchResult added (λ new. result ≡ Ok new) (λ why. IsErrAnd result (λ fault. fault ≡ Part why)) → Adds old added s t → AddsFrom s t old result
+adds_from s t old (Ok new) result is adds = rw is adds
+adds_from s t old (Err why) (Ok new) is adds = absurd is
+adds_from s t old (Err why) (Err fault) is adds = rw is adds
 
 pub adds_file : (file : Option (List ℕ)) (was_read : Bool) (before after : SourceState) (old : PartsValue) (added : Result PartsValue JoinFault)
     → (file ≡ None → was_read ≡ false) → AddsFrom (source_of before file) (source_of after file) old added → AddsFile file was_read before after old added
@@ -63,25 +64,46 @@ abbrev pub left_by : Option (List ℕ) → SourceState → SourceState → Sourc
 left_by None old new = new
 left_by (Some name) old new = old
 
+-- how often the input was read
+abbrev pub times : Bool → ℕ
+times true = 1
+times false = 0
+
+-- the parts stand for the files' graphs
+abbrev pub AreJoined : SourceState → SourceState → List (Option (List ℕ)) → PartsValue → Type 0
+AreJoined before after files parts = (graphs : List GraphValue) × GiveGraphs before after files graphs × ArePartsOf graphs parts
+
 -- what is kept of the files: what they gave, and that the input is as it was where it isn't among them
 abbrev pub Keeps : SourceState → List (Option (List ℕ)) → Bool → PartsValue → SourceState → Type 0
 Keeps s before was_read parts left = (was_read ≡ false → left ≡ s) × AreJoined s left before parts
+
+-- the graphs before one more file, however the input is left behind it
+each_left : (s left new_left : SourceState) (before : List (Option (List ℕ))) (file : Option (List ℕ)) (was_read : Bool) (graphs : List GraphValue)
+    → inputs before ≡ times was_read → (file ≡ None → was_read ≡ false) → GiveGraphs s left before graphs → GiveGraphs s (left_by file left new_left) before graphs
+each_left s left new_left before None was_read graphs count unread each =
+    let none : inputs before ≡ 0 = rw (unread refl) at count in
+    graphs_apart s left new_left before graphs none each
+each_left s left new_left before (Some name) was_read graphs count unread each = each
+
+-- what a file's source did it did from the first state of the input
+from_first : (R : SourceState → SourceState → Type 0) (s now new_left left : SourceState) (file : Option (List ℕ)) (was_read : Bool)
+    → (file ≡ None → was_read ≡ false) → (was_read ≡ false → now ≡ s)
+    → R (source_of now file) (source_of new_left file) → R (source_of s file) (source_of (left_by file left new_left) file)
+from_first R s now new_left left None was_read unread fresh did = subst (λ (u : SourceState). R u new_left) (fresh (unread refl)) did
+from_first R s now new_left left (Some name) was_read unread fresh did = did
 
 -- a file that came to the parts
 step_ok : (s now new_left left : SourceState) (before : List (Option (List ℕ))) (file : Option (List ℕ)) (was_read : Bool) (old new : PartsValue)
     → (was_read ≡ false → now ≡ s) → inputs before ≡ times was_read → Keeps s before was_read old left
     → AddsFile file was_read now new_left old (Ok new) → AreJoined s (left_by file left new_left) (before ++ file ∷ []) new
-step_ok s now new_left left before None was_read old new fresh count (same, (graphs, each, parts)) (unread, added) =
-    let none : inputs before ≡ 0 = rw (unread refl) at count in
-    let graph : GivesGraph s new_left None added.graph = record {
+step_ok s now new_left left before file was_read old new fresh count (same, (graphs, each, parts)) (unread, added) =
+    let graph : GivesGraph s (left_by file left new_left) file added.graph = record {
       bytes = added.bytes;
-      read = subst (λ (u : SourceState). Gave 0 1 added.bytes u new_left) (fresh (unread refl)) added.read;
+      read = from_first (Gave 0 1 added.bytes) s now new_left left file was_read unread fresh added.read;
       means = added.file;
     } in
-    (graphs ++ added.graph ∷ [], graphs_more s new_left before graphs None added.graph (graphs_apart s left new_left before graphs none each) graph, added.parts graphs parts)
-step_ok s now new_left left before (Some name) was_read old new fresh count (same, (graphs, each, parts)) (unread, added) =
-    let graph : GivesGraph s left (Some name) added.graph = record { bytes = added.bytes; read = added.read; means = added.file } in
-    (graphs ++ added.graph ∷ [], graphs_more s left before graphs (Some name) added.graph each graph, added.parts graphs parts)
+    let each_still = each_left s left new_left before file was_read graphs count unread each in
+    (graphs ++ added.graph ∷ [], graphs_more s (left_by file left new_left) before graphs file added.graph each_still graph, added.parts graphs parts)
 
 some_before : {X : Type 0} (xs : List X) (n : ℕ) → n ≡ length xs → 0 < n → xs ≢ []
 some_before xs n long some = λ none.
@@ -90,44 +112,39 @@ some_before xs n long some = λ none.
 
 -- a file that isn't a part stops the run
 step_stops : (s now new_left left : SourceState) (before : List (Option (List ℕ))) (file : Option (List ℕ)) (was_read : Bool) (old : PartsValue) (why : PartFault)
-    → (was_read ≡ false → now ≡ s) → inputs before ≡ times was_read → old.files ≡ length before
+    → (was_read ≡ false → now ≡ s) → old.files ≡ length before
     → AddsFile file was_read now new_left old (Err (Part why)) → StopsAfter before old.vertices file (Part why) s (left_by file left new_left)
-step_stops s now new_left left before None was_read old (part.Read why) fresh count long (unread, adds) =
-    subst (λ (u : SourceState). IsReadOf MAX_BYTES (Err why) u new_left) (fresh (unread refl)) adds
-step_stops s now new_left left before (Some name) was_read old (part.Read why) fresh count long (unread, adds) = adds
-step_stops s now new_left left before None was_read old (part.OtherVertices other wanted) fresh count long (unread, adds) =
-    let graph : GivesGraph s new_left None adds.graph = record {
+step_stops s now new_left left before file was_read old (part.Read why) fresh long (unread, adds) =
+    from_first (IsReadOf MAX_BYTES (Err why)) s now new_left left file was_read unread fresh adds
+step_stops s now new_left left before file was_read old (part.OtherVertices other wanted) fresh long (unread, adds) =
+    let graph : GivesGraph s (left_by file left new_left) file adds.graph = record {
       bytes = adds.bytes;
-      read = subst (λ (u : SourceState). Gave 0 1 adds.bytes u new_left) (fresh (unread refl)) adds.read;
+      read = from_first (Gave 0 1 adds.bytes) s now new_left left file was_read unread fresh adds.read;
       means = adds.file;
     } in
     (adds.graph, graph, adds.vertices_are, adds.wanted_is, adds.differ, some_before before old.files long adds.some_before)
-step_stops s now new_left left before (Some name) was_read old (part.OtherVertices other wanted) fresh count long (unread, adds) =
-    let graph : GivesGraph s left (Some name) adds.graph = record { bytes = adds.bytes; read = adds.read; means = adds.file } in
-    (adds.graph, graph, adds.vertices_are, adds.wanted_is, adds.differ, some_before before old.files long adds.some_before)
 
--- the graphs before a stop, however the input is left at it
-each_left : (s left new_left : SourceState) (before : List (Option (List ℕ))) (file : Option (List ℕ)) (was_read : Bool) (graphs : List GraphValue)
-    → inputs before ≡ times was_read → (file ≡ None → was_read ≡ false) → GiveGraphs s left before graphs → GiveGraphs s (left_by file left new_left) before graphs
-each_left s left new_left before None was_read graphs count unread each =
-    let none : inputs before ≡ 0 = rw (unread refl) at count in
-    graphs_apart s left new_left before graphs none each
-each_left s left new_left before (Some name) was_read graphs count unread each = each
-
-times_few : (was_read : Bool) → times was_read ≤ 1
-times_few true = omega arith
-times_few false = omega arith
+once : (was_read : Bool) (n : ℕ) → n ≡ times was_read → n ≤ 1
+once true n is = omega arith
+once false n is = omega arith
 
 none_read : (was_read : Bool) → times was_read ≡ 0 → was_read ≡ false
 none_read true none = absurd (omega arith)
 none_read false none = refl
 
-left_unread : (s left new_left : SourceState) (before : List (Option (List ℕ))) (file : Option (List ℕ)) (was_read : Bool) → (was_read ≡ false → left ≡ s)
-    → inputs before ≡ times was_read → inputs (before ++ file ∷ []) ≡ 0 → left_by file left new_left ≡ s
-left_unread s left new_left before None was_read same count none = absurd (omega (arith, inputs_more before None))
-left_unread s left new_left before (Some name) was_read same count none =
-    let zero : times was_read ≡ 0 = omega (arith, count, inputs_more before (Some name)) in
-    same (none_read was_read zero)
+pub inputs_step : (before : List (Option (List ℕ))) (file : Option (List ℕ)) (was_read now_read : Bool) → now_read ≡ (was_read || not (is_some file))
+    → inputs before ≡ times was_read → (file ≡ None → was_read ≡ false) → inputs (before ++ file ∷ []) ≡ times now_read
+inputs_step before None true now_read is count unread = absurd (let bad = unread refl in cc)
+inputs_step before None false now_read is count unread = rw is (omega (arith, inputs_more before None, count))
+inputs_step before (Some name) true now_read is count unread = rw is (omega (arith, inputs_more before (Some name), count))
+inputs_step before (Some name) false now_read is count unread = rw is (omega (arith, inputs_more before (Some name), count))
+
+-- how the input is left behind a file, where it was read or wasn't
+fresh_left : (was_read now_read : Bool) (file : Option (List ℕ)) (s left new_left : SourceState) → now_read ≡ (was_read || not (is_some file))
+    → (was_read ≡ false → left ≡ s) → now_read ≡ false → left_by file left new_left ≡ s
+fresh_left true now_read file s left new_left is same unread = absurd cc
+fresh_left false now_read None s left new_left is same unread = absurd cc
+fresh_left false now_read (Some name) s left new_left is same unread = same refl
 
 -- how the input is left at a stop
 abbrev stop_left : Option (List ℕ) → JoinFault → SourceState → SourceState → SourceState
@@ -143,9 +160,7 @@ stops_at s now new_left left files before behind file was_read old Unopened spli
   split = split;
   vertices = old.vertices;
   graphs = graphs;
-  each = each;
-  one_number = parts.one_number;
-  once = (let few = times_few was_read in omega (arith, count, few));
+  parts = record { each = each; one_number = parts.one_number; once = once was_read _ count };
   unread = λ none. same (none_read was_read (omega (arith, none, count, inputs_more before file)));
   stops = λ is. (let one : inputs before ≡ 1 = (rw (again is) at count) in omega (arith, one));
 }
@@ -155,18 +170,13 @@ stops_at s now new_left left files before behind file was_read old (Part why) sp
   split = split;
   vertices = old.vertices;
   graphs = graphs;
-  each = each_left s left new_left before file was_read graphs count adds.0 each;
-  one_number = parts.one_number;
-  once = (let few = times_few was_read in omega (arith, count, few));
-  unread = left_unread s left new_left before file was_read same count;
-  stops = step_stops s now new_left left before file was_read old why fresh count long adds;
+  parts = record { each = each_left s left new_left before file was_read graphs count adds.0 each; one_number = parts.one_number; once = once was_read _ count };
+  unread = λ none. fresh_left was_read (was_read || not (is_some file)) file s left new_left refl same
+      (none_read (was_read || not (is_some file)) (omega (arith, none, inputs_step before file was_read (was_read || not (is_some file)) refl count adds.0)));
+  stops = step_stops s now new_left left before file was_read old why fresh long adds;
 }
 
 -- ---- where it is told how much was read, and where it isn't
-
-pub on_untold : {S : Type 0} (told : Bool) (R : S → Type 0) (left : S) → told ≡ false → R left → OnLeft told R left
-on_untold true R left is holds = absurd cc
-on_untold false R left is holds = holds
 
 pub on_told : {S : Type 0} (told : Bool) (R : S → Type 0) (left s : S) → told ≡ true → R s → OnLeft told R left
 on_told true R left s is holds = (s, holds)
@@ -193,32 +203,13 @@ state_left false state R left holds = holds
 pub adds_named : {S J : Type 0} (told : Bool) (file : Option (List ℕ)) (name : List ℕ) (was_read : Bool) (before : SourceState) (state : S → SourceState) (left : S)
     (old : PartsValue) (added : Result PartsValue JoinFault) (j : J) → file ≡ Some name → OnLeft told (λ (j : J). AddsFrom uncounted uncounted old added) j
     → OnLeft told (λ s. AddsFile file was_read before (state s) old added) left
-adds_named true file name was_read before state left old added j is (k, adds) =
-    (left, rw is (adds_file (Some name) was_read before (state left) old added (λ none. absurd cc) adds))
-adds_named false file name was_read before state left old added j is adds =
-    rw is (adds_file (Some name) was_read before (state left) old added (λ none. absurd cc) adds)
-
--- a file that can't be opened leaves the input alone
-pub unopened_left : {S : Type 0} (told : Bool) (file : Option (List ℕ)) (was_read : Bool) (state : S → SourceState) (left : S) (old : PartsValue)
-    → (file ≡ None → was_read ≡ true) → OnLeft told (λ s. AddsFile file was_read (state left) (state s) old (Err Unopened)) left
-unopened_left true file was_read state left old again = (left, (again, refl))
-unopened_left false file was_read state left old again = (again, refl)
-
-pub no_input : (file : Option (List ℕ)) (name : List ℕ) (was_read : Bool) → file ≡ Some name → file ≡ None → was_read ≡ true
-no_input None name was_read is none = absurd cc
-no_input (Some other) name was_read is none = absurd cc
+adds_named {J} told file name was_read before state left old added j is adds =
+    let (k, holds) = some_left told (λ (j : J). AddsFrom uncounted uncounted old added) j adds in
+    so_left told (λ s. AddsFile file was_read before (state s) old added) left (rw is (adds_file (Some name) was_read before (state left) old added (λ none. absurd cc) holds))
 
 -- no file yet
 pub keeps_none : (tells : Bool) (s : SourceState) (parts : PartsValue) → ArePartsOf [] parts → OnLeft tells (Keeps s [] false parts) s
-keeps_none true s parts are = (s, ((λ unread. refl), ([], tt, are)))
-keeps_none false s parts are = ((λ unread. refl), ([], tt, are))
-
--- how the input is left behind a file, where it was read or wasn't
-fresh_left : (was_read now_read : Bool) (file : Option (List ℕ)) (s left new_left : SourceState) → now_read ≡ (was_read || not (is_some file))
-    → (was_read ≡ false → left ≡ s) → now_read ≡ false → left_by file left new_left ≡ s
-fresh_left true now_read file s left new_left is same unread = absurd cc
-fresh_left false now_read None s left new_left is same unread = absurd cc
-fresh_left false now_read (Some name) s left new_left is same unread = same refl
+keeps_none tells s parts are = so_left tells (Keeps s [] false parts) s ((λ unread. refl), ([], tt, are))
 
 left_real : (file : Option (List ℕ)) (now real : SourceState) → (IsSome file → real ≡ now) → left_by file now real ≡ real
 left_real None now real leaves = refl
@@ -255,21 +246,15 @@ stops_left true told s now real files before behind file was_read old why off sp
 
 -- once all files were read
 pub added_left : (tells : Bool) (s real : SourceState) (files : List (Option (List ℕ))) (was_read : Bool) (parts : PartsValue) → inputs files ≡ times was_read
-    → OnLeft tells (Keeps s files was_read parts) real → OnLeft tells (λ left. AreAdded s left files parts) real
+    → OnLeft tells (Keeps s files was_read parts) real → OnLeft tells (AreAdded files parts s) real
 added_left tells s real files was_read parts count keeps =
-    map_left tells (Keeps s files was_read parts) (λ left. AreAdded s left files parts) real
-    (λ left (same, joined). record {
-      joined = joined;
-      once = (let few = times_few was_read in omega (arith, count, few));
+    map_left tells (Keeps s files was_read parts) (AreAdded files parts s) real
+    (λ left (same, (graphs, each, stand)). record {
+      graphs = graphs;
+      parts = record { each = each; one_number = stand.one_number; once = once was_read _ count };
       unread = λ none. same (none_read was_read (omega (arith, none, count)));
+      stand = stand;
     }) keeps
-
-pub inputs_step : (before : List (Option (List ℕ))) (file : Option (List ℕ)) (was_read now_read : Bool) → now_read ≡ (was_read || not (is_some file))
-    → inputs before ≡ times was_read → (file ≡ None → was_read ≡ false) → inputs (before ++ file ∷ []) ≡ times now_read
-inputs_step before None true now_read is count unread = absurd (let bad = unread refl in cc)
-inputs_step before None false now_read is count unread = rw is (omega (arith, inputs_more before None, count))
-inputs_step before (Some name) true now_read is count unread = rw is (omega (arith, inputs_more before (Some name), count))
-inputs_step before (Some name) false now_read is count unread = rw is (omega (arith, inputs_more before (Some name), count))
 
 -- a file that came to the parts was the input for the first time
 pub added_unread : (told : Bool) (file : Option (List ℕ)) (was_read : Bool) (now real : SourceState) (old new : PartsValue)
@@ -333,10 +318,7 @@ some_here files i file all within here = subst IsSome (sym here) (all i file wit
 -- a stop has status 1, 3 or 4
 pub stop_bound : (why : JoinFault) → (1 ≤ status_for_stop why) × (status_for_stop why ≤ 4)
 stop_bound Unopened = (omega arith, omega arith)
-stop_bound (Part (part.Read (read.Gr f))) = (omega arith, omega arith)
-stop_bound (Part (part.Read (read.Source line))) = (omega arith, omega arith)
-stop_bound (Part (part.Read read.TooLong)) = (omega arith, omega arith)
-stop_bound (Part (part.Read read.Memory)) = (omega arith, omega arith)
+stop_bound (Part (part.Read why)) = (let bound = status_bound (fault.Read why) in (bound.some, bound.own (λ theirs. theirs)))
 stop_bound (Part (part.OtherVertices other wanted)) = (omega arith, omega arith)
 
 -- so has the writing of a forest's text, or 0
@@ -350,46 +332,38 @@ forest_bound graph (Err (fault.Missed link)) status a b is written = absurd writ
 forest_bound graph (Err fault.Memory) status a b is written = omega arith
 forest_bound graph (Err (fault.Write n)) status a b is written = omega arith
 
--- neither 0 nor 3 says that nothing was written
-loud : (n status : ℕ) → status ≡ n → (n ≡ 0) ⊎ (n ≡ 3) → LeavesOutput status → ⊥
-loud n status is which (inl one) = elim which [ inl none ↦ omega arith | inr three ↦ omega arith ]
-loud n status is which (inr (inl two)) = elim which [ inl none ↦ omega arith | inr three ↦ omega arith ]
-loud n status is which (inr (inr (inl four))) = elim which [ inl none ↦ omega arith | inr three ↦ omega arith ]
-loud n status is which (inr (inr (inr five))) = elim which [ inl none ↦ omega arith | inr three ↦ omega arith ]
-
 pub forest_silent : (graph : GraphValue) (result : Result Report RunFault) (status : ℕ) (a b : SinkState) → status ≡ status_of_run result
     → WritesForestOf graph result a b → LeavesOutput status → IsUntouched a b
-forest_silent graph (Ok report) status a b is written silent = absurd (loud 0 status is (inl refl) silent)
+forest_silent graph (Ok report) status a b is written silent = absurd (loud status (inl is) silent)
 forest_silent graph (Err (fault.Read why)) status a b is written silent = absurd written
 forest_silent graph (Err (fault.Cut why)) status a b is written silent = absurd written
 forest_silent graph (Err (fault.Rounds round)) status a b is written silent = absurd written
 forest_silent graph (Err (fault.Missed link)) status a b is written silent = absurd written
 forest_silent graph (Err fault.Memory) status a b is written silent = written
-forest_silent graph (Err (fault.Write n)) status a b is written silent = absurd (loud 3 status is (inr refl) silent)
+forest_silent graph (Err (fault.Write n)) status a b is written silent = absurd (loud status (inr is) silent)
 
 -- ---- the end
 
 ends_joined : (files : List (Option (List ℕ))) (wants : Bool) (status : ℕ) (before after : Standard) (parts : PartsValue) (result : Result Report RunFault) (left : SourceState)
     → status ≡ status_of_run result → ((graphs : List GraphValue) → ArePartsOf graphs parts → WritesForestOf (joined_graph parts.vertices graphs) result before.sink after.sink)
-    → IsReported wants result before.errors after.errors → AreAdded before.source left files parts → EndsJoined files wants status before (with_source left after)
-ends_joined files wants status before after parts result left is written reported added =
-    let (graphs, each, are) = added.joined in
-    record {
-      vertices = parts.vertices;
-      graphs = graphs;
-      parts = record { each = each; one_number = are.one_number; once = added.once; unread = added.unread };
-      result = result;
-      status_is = is;
-      written = written graphs are;
-      reported = reported;
-    }
+    → IsReported wants result before.errors after.errors → AreAdded files parts before.source left → EndsJoined files wants status before (with_source left after)
+ends_joined files wants status before after parts result left is written reported added = record {
+  vertices = parts.vertices;
+  graphs = added.graphs;
+  parts = added.parts;
+  unread = added.unread;
+  result = result;
+  status_is = is;
+  written = written added.graphs added.stand;
+  reported = reported;
+}
 
 pub joined_ends : (files : List (Option (List ℕ))) (tells wants : Bool) (status : ℕ) (before after : Standard) (parts : PartsValue) (result : Result Report RunFault)
-    → OnLeft tells (λ left. AreAdded before.source left files parts) after.source → status ≡ status_of_run result
+    → OnLeft tells (AreAdded files parts before.source) after.source → status ≡ status_of_run result
     → ((graphs : List GraphValue) → ArePartsOf graphs parts → WritesForestOf (joined_graph parts.vertices graphs) result before.sink after.sink)
     → IsReported wants result before.errors after.errors → EndsOnSeveral files tells wants status before after
 joined_ends files tells wants status before after parts result added is written reported =
-    map_left tells (λ left. AreAdded before.source left files parts)
+    map_left tells (AreAdded files parts before.source)
     (λ left. EndsJoined files wants status before (with_source left after) ⊎ EndsAtFile files status before (with_source left after)) after.source
     (λ left here. inl (ends_joined files wants status before after parts result left is written reported here)) added
 
@@ -408,22 +382,11 @@ stop_ends files tells wants status before after file why stops is same told =
       told = told;
     })) stops
 
-graphs_of : (tells : Bool) (input real : SourceState) (files : List (Option (List ℕ))) (parts : PartsValue) → OnLeft tells (λ left. AreAdded input left files parts) real
-    → (graphs : List GraphValue) × ArePartsOf graphs parts
-graphs_of true input real files parts (left, added) = (let (graphs, each, are) = added.joined in (graphs, are))
-graphs_of false input real files parts added = (let (graphs, each, are) = added.joined in (graphs, are))
-
-pub joined_bound : (tells : Bool) (input real : SourceState) (files : List (Option (List ℕ))) (status : ℕ) (a b : SinkState) (parts : PartsValue) (result : Result Report RunFault)
-    → OnLeft tells (λ left. AreAdded input left files parts) real → status ≡ status_of_run result
-    → ((graphs : List GraphValue) → ArePartsOf graphs parts → WritesForestOf (joined_graph parts.vertices graphs) result a b) → status ≤ 4
-joined_bound tells input real files status a b parts result added is written =
-    let (graphs, are) = graphs_of tells input real files parts added in
-    forest_bound (joined_graph parts.vertices graphs) result status a b is (written graphs are)
-
-pub joined_silent : (tells : Bool) (input real : SourceState) (files : List (Option (List ℕ))) (status : ℕ) (a b : SinkState) (parts : PartsValue) (result : Result Report RunFault)
-    → OnLeft tells (λ left. AreAdded input left files parts) real → status ≡ status_of_run result
+-- the text was written of some graph's forest
+pub wrote : (tells : Bool) (input real : SourceState) (files : List (Option (List ℕ))) (a b : SinkState) (parts : PartsValue) (result : Result Report RunFault)
+    → OnLeft tells (AreAdded files parts input) real
     → ((graphs : List GraphValue) → ArePartsOf graphs parts → WritesForestOf (joined_graph parts.vertices graphs) result a b)
-    → LeavesOutput status → IsUntouched a b
-joined_silent tells input real files status a b parts result added is written =
-    let (graphs, are) = graphs_of tells input real files parts added in
-    forest_silent (joined_graph parts.vertices graphs) result status a b is (written graphs are)
+    → (graph : GraphValue) × WritesForestOf graph result a b
+wrote tells input real files a b parts result added written =
+    let (left, all) = some_left tells (AreAdded files parts input) real added in
+    (joined_graph parts.vertices all.graphs, written all.graphs all.stand)

@@ -1,18 +1,15 @@
 -- What is asked for, and that it was done.
-use Rattle.std.specs.Prelude.{◌≡◌, ◌≢◌, ◌≤◌, ℕ, ◌⊎◌, List, [], ◌∷◌, map, Option, None, Some, Bool, true, false, codes, option_map}
-use Rattle.std.specs.String.{string_bytes}
-use Rattle.byte_streams.specs.Streams.{SourceState, SinkState, Took}
+use Rattle.std.specs.Prelude.{◌≡◌, ◌≢◌, ℕ, ◌⊎◌, List, [], ◌∷◌, map, Option, None, Some, Bool, true, false, codes, option_map, string_bytes}
+use Rattle.byte_streams.specs.Streams.{SinkState, Took}
 use Rattle.clap.specs.Words.{IsAmong}
 use Rattle.clap.specs.declared.error.kind.ErrorKind.{ErrorKind}
-use Rattle.clap.specs.declared.error.kind.ErrorKind.TheVariants.{DisplayHelp, DisplayVersion}
 use Rattle.plain_run.specs.declared.fault.RunFault.TheVariants as fault
 use Rattle.program_words.specs.Arguments.{refusals, given, files_named, number_of, is_set, IsMistake}
 use Rattle.program_words.specs.declared.chosen.Options.{Options}
 use Rattle.program_words.specs.Messages.{IsWritten, fault_line, unopened_line}
 use Rattle.boruvka.specs.Joined.{EndsOnSeveral}
-use Rattle.boruvka.specs.Status.{EndsOverWorkers, EndsWith, IsUntouched, KeepsStreams, uncounted}
-use Rattle.boruvka.specs.Streams.{Standard, Left, with_source}
-use Rattle.boruvka.specs.declared.standard.StandardStreams.{StandardStreams}
+use Rattle.boruvka.specs.Status.{EndsOverWorkers, EndsWith, IsUntouched, uncounted}
+use Rattle.boruvka.specs.Streams.{OnLeftSource, Standard, with_source}
 
 -- what lawful words ask for: so many workers and shards, or no workers; with the report or without; on these files, each a FILE or the input
 pub record Asked : Type 0 where
@@ -23,6 +20,10 @@ pub record Asked : Type 0 where
   pub progress : Bool
   pub files : List (Option (List ℕ))
 
+-- the files that are asked for
+abbrev pub files_of : Options → List (Option (List ℕ))
+files_of chosen = map (option_map string_bytes) chosen.files.items
+
 abbrev pub asked_of : Options → Asked
 asked_of chosen = record {
   workers = chosen.workers;
@@ -30,36 +31,25 @@ asked_of chosen = record {
   plain = chosen.plain;
   report = chosen.report;
   progress = chosen.progress;
-  files = map (option_map string_bytes) chosen.files.items;
+  files = files_of chosen;
 }
-
--- a run that is asked for keeps as much of its streams, and one without workers isn't ended by what workers answered
-pub record KeepsAsked {I O E : Type 0} (sink_of : O → SinkState) (unflushed_of : O → Option (List ℕ)) (asked : Asked) (status : ℕ)
-    (before : StandardStreams I O E) (after : Left I O E) : Type 0 where
-  pub streams : KeepsStreams sink_of unflushed_of asked.report status before after
-  pub plain_status : asked.plain ≡ true → status ≤ 4
-
--- the streams with such a source
-abbrev pub from_file : Standard → Standard
-from_file = with_source uncounted
 
 -- a run without workers, or over them
 abbrev pub EndsAs : Bool → Asked → ℕ → Standard → Standard → Type 0
 EndsAs true asked = EndsWith asked.report
 EndsAs false asked = EndsOverWorkers asked.workers asked.shards asked.report
 
--- a run on a source. Where it is told how much was read, nobody is told in which state that leaves the source
-abbrev pub EndsOnSource : Bool → Asked → ℕ → Standard → Standard → Type 0
-EndsOnSource true asked status before after = (s : SourceState) × EndsAs asked.plain asked status before (with_source s after)
-EndsOnSource false asked status before after = EndsAs asked.plain asked status before after
+-- a run on a source, of which it is told how much was read or isn't
+abbrev pub EndsOnSource : Asked → ℕ → Standard → Standard → Type 0
+EndsOnSource asked status = OnLeftSource asked.progress (EndsAs asked.plain asked status)
 
 -- what is done with a FILE: it can't be opened, whose line is written and nothing else, or it is run on, and nothing is
 -- known of what it has; without a FILE the input is run on
 abbrev pub EndsOn : Option (List ℕ) → Asked → ℕ → Standard → Standard → Type 0
-EndsOn None asked status before after = EndsOnSource asked.progress asked status before after
+EndsOn None asked status before after = EndsOnSource asked status before after
 EndsOn (Some name) asked status before after =
     ((status ≡ 3) × IsUntouched before.sink after.sink × IsWritten (unopened_line name) before.errors after.errors)
-    ⊎ EndsOnSource asked.progress asked status (from_file before) (from_file after)
+    ⊎ EndsOnSource asked status (with_source uncounted before) (with_source uncounted after)
 
 -- memory was refused before a run began: the line that says so is written and nothing else, and the input is left alone
 pub record EndsBefore (status : ℕ) (before after : Standard) : Type 0 where
@@ -93,17 +83,9 @@ asked_by words = record {
   files = files_named words;
 }
 
--- what lawful words ask for was done
-abbrev pub ObeysWords : List (List ℕ) → ℕ → Standard → Standard → Type 0
-ObeysWords words status before after = refusals words ≡ [] → Obeys (asked_by words) status before after
-
--- words that ask for the help alone
-abbrev pub AskForHelp : List (List ℕ) → Type 0
-AskForHelp words = refusals words ≡ DisplayHelp ∷ []
-
--- words that ask for the version alone
-abbrev pub AskForVersion : List (List ℕ) → Type 0
-AskForVersion words = refusals words ≡ DisplayVersion ∷ []
+-- words that ask for this alone, as the help or the version
+abbrev pub AskFor : ErrorKind → List (List ℕ) → Type 0
+AskFor kind words = refusals words ≡ kind ∷ []
 
 -- words that are refused, and ask neither for the help nor for the version
 abbrev pub AreWrong : List (List ℕ) → Type 0

@@ -1,18 +1,18 @@
 -- How the program ends on several files, whose links are joined.
-use Rattle.std.specs.Prelude.{◌≡◌, ◌≢◌, ◌≤◌, ◌<◌, ℕ, ◌+◌, ◌⊎◌, ⊤, List, [], ◌∷◌, ◌++◌, All, Option, None, Some, Bool, Result, Err, codes}
+use Rattle.std.specs.Prelude.{◌≡◌, ◌≢◌, ◌≤◌, ◌<◌, ℕ, ◌+◌, ◌⊎◌, ⊤, List, [], ◌∷◌, ◌++◌, All, Option, None, Some, Bool, true, false, Result, Ok, Err, codes}
 use Rattle.limits.specs.declared.TheConstants.{MAX_BYTES}
 use Rattle.byte_streams.specs.Streams.{SourceState, Gave}
 use Rattle.gr_text.specs.Graph.{GraphValue}
 use Rattle.gr_text.specs.Sourced.{IsReadOf}
 use Rattle.plain_run.specs.Files.{IsFileOf}
-use Rattle.plain_run.specs.Parts.{WritesForestOf, joined_graph}
+use Rattle.plain_run.specs.Parts.{Adds, ArePartsOf, IsAdded, PartsValue, WritesForestOf, joined_graph}
 use Rattle.plain_run.specs.declared.fault.PartFault.TheVariants as part
 use Rattle.plain_run.specs.declared.fault.RunFault.{RunFault}
 use Rattle.plain_run.specs.declared.report.Report.{Report}
 use Rattle.program_words.specs.Messages.{IsWritten, part_line, unopened_line}
 use Rattle.program_words.specs.Statuses.{status_for_part}
 use Rattle.boruvka.specs.Status.{IsReported, IsUntouched, status_of_run, uncounted}
-use Rattle.boruvka.specs.Streams.{OnLeft, Standard, with_source}
+use Rattle.boruvka.specs.Streams.{OnLeftSource, Standard}
 use Rattle.boruvka.specs.declared.joined.JoinFault.{JoinFault}
 use Rattle.boruvka.specs.declared.joined.JoinFault.TheVariants.{Unopened, Part}
 
@@ -39,12 +39,15 @@ GiveGraphs before after [] [] = ⊤
 GiveGraphs before after (file ∷ files) (graph ∷ graphs) = GivesGraph before after file graph × GiveGraphs before after files graphs
 GiveGraphs before after _ _ = ⊥
 
--- the files gave these graphs, each of so many vertices. The input is among them once at most, and else it is left as it was
+-- the files gave these graphs, each of so many vertices, and the input is among them once at most
 pub record AreParts (before after : SourceState) (files : List (Option (List ℕ))) (vertices : ℕ) (graphs : List GraphValue) : Type 0 where
   pub each : GiveGraphs before after files graphs
   pub one_number : All (λ graph. graph.vertices ≡ vertices) graphs
   pub once : inputs files ≤ 1
-  pub unread : inputs files ≡ 0 → after ≡ before
+
+-- the input is left as it was if it is none of the files
+abbrev pub LeavesInput : List (Option (List ℕ)) → SourceState → SourceState → Type 0
+LeavesInput files before after = inputs files ≡ 0 → after ≡ before
 
 -- ---- a file that is no part
 
@@ -71,18 +74,37 @@ abbrev pub stop_line : Option (List ℕ) → JoinFault → List ℕ
 stop_line file Unopened = unopened_line (name_of file)
 stop_line file (Part why) = part_line (name_of file) why
 
--- this file stops the run, and those before it don't. The input is left as it was if it is none of these
+-- this file stops the run, and those before it don't
 pub record StopsAt (files : List (Option (List ℕ))) (file : Option (List ℕ)) (why : JoinFault) (before after : SourceState) : Type 0 where
   pub others : List (Option (List ℕ))
   pub behind : List (Option (List ℕ))
   pub split : files ≡ others ++ file ∷ behind
   pub vertices : ℕ
   pub graphs : List GraphValue
-  pub each : GiveGraphs before after others graphs
-  pub one_number : All (λ graph. graph.vertices ≡ vertices) graphs
-  pub once : inputs others ≤ 1
-  pub unread : inputs (others ++ file ∷ []) ≡ 0 → after ≡ before
+  pub parts : AreParts before after others vertices graphs
+  pub unread : LeavesInput (others ++ file ∷ []) before after
   pub stops : StopsAfter others vertices file why before after
+
+-- ---- one more file
+
+-- one more part from a source, which came to the others or stops the run
+abbrev pub AddsFrom : SourceState → SourceState → PartsValue → Result PartsValue JoinFault → Type 0
+AddsFrom before after old (Ok new) = IsAdded old new before after
+AddsFrom before after old (Err Unopened) = ⊥
+AddsFrom before after old (Err (Part why)) = Adds old (Err why) before after
+
+-- the same from a file: FILE is opened, and the input is read, unless it was before, when it is left alone
+abbrev pub AddsFile : Option (List ℕ) → Bool → SourceState → SourceState → PartsValue → Result PartsValue JoinFault → Type 0
+AddsFile file was_read before after old (Err Unopened) = (file ≡ None → was_read ≡ true) × (after ≡ before)
+AddsFile file was_read before after old other =
+    (file ≡ None → was_read ≡ false) × AddsFrom (source_of before file) (source_of after file) old other
+
+-- the parts stand for the files' graphs, and the input is left as it was if it isn't among them
+pub record AreAdded (files : List (Option (List ℕ))) (added : PartsValue) (before after : SourceState) : Type 0 where
+  pub graphs : List GraphValue
+  pub parts : AreParts before after files added.vertices graphs
+  pub unread : LeavesInput files before after
+  pub stand : ArePartsOf graphs added
 
 -- ---- how the run ends
 
@@ -92,6 +114,7 @@ pub record EndsJoined (files : List (Option (List ℕ))) (wants : Bool) (status 
   pub vertices : ℕ
   pub graphs : List GraphValue
   pub parts : AreParts before.source after.source files vertices graphs
+  pub unread : LeavesInput files before.source after.source
   pub result : Result Report RunFault
   pub status_is : status ≡ status_of_run result
   pub written : WritesForestOf (joined_graph vertices graphs) result before.sink after.sink
@@ -106,8 +129,8 @@ pub record EndsAtFile (files : List (Option (List ℕ))) (status : ℕ) (before 
   pub nothing : IsUntouched before.sink after.sink
   pub told : IsWritten (stop_line file why) before.errors after.errors
 
--- a run on several files, of which it is told how much was read or not, and whose report is wanted or not, had this status,
+-- a run on several files, of which it is told how much was read or isn't, and whose report is wanted or not, had this status,
 -- and did to its streams what it says
 abbrev pub EndsOnSeveral : List (Option (List ℕ)) → Bool → Bool → ℕ → Standard → Standard → Type 0
-EndsOnSeveral files tells wants status before after = OnLeft tells (λ left. EndsJoined files wants status before (with_source left after)
-    ⊎ EndsAtFile files status before (with_source left after)) after.source
+EndsOnSeveral files tells wants status =
+    OnLeftSource tells (λ before after. EndsJoined files wants status before after ⊎ EndsAtFile files status before after)

@@ -1,4 +1,3 @@
-pub mod Adding
 pub mod Asked
 pub mod Joined
 pub mod Status

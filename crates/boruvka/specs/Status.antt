@@ -1,11 +1,12 @@
 -- How the program ends.
-use Rattle.std.specs.Prelude.{◌≡◌, ◌≤◌, ℕ, ◌⊎◌, List, [], length, All, Option, None, Bool, true, false, Result, Ok, Err}
+use Rattle.std.specs.Prelude.{◌≡◌, ◌≤◌, ℕ, ◌⊎◌, List, [], length, All, None, Bool, true, false, Result, Ok, Err}
 use Rattle.std.specs.Global.{Vec}
-use Rattle.byte_streams.specs.Streams.{SourceState, SinkState, only_left, Took, HadNoSetback}
+use Rattle.byte_streams.specs.Streams.{SourceState, SinkState, only_left, Took, HadNoSetback, IsFlushed}
+use Rattle.byte_streams.specs.declared.traits.Sink as Sink
 use Rattle.wires.specs.declared.line.Line as Line
 use Rattle.plain_run.specs.Files.{HasFile, MeansGraph, MeansNothing, IsFirstFaultOf, IsNoRefusal}
 use Rattle.plain_run.specs.PlainRun.{RanPlain}
-use Rattle.forest_run.specs.LinesRun.{RanLines, RanServed, EndsWell}
+use Rattle.forest_run.specs.LinesRun.{RanLines, RanServed, EndsWell, HasGraphToCut}
 use Rattle.forest_run.specs.WiredLines.{AreServed}
 use Rattle.forest_run.specs.declared.cutting.Cutting.TheVariants.{Even}
 use Rattle.plain_run.specs.declared.report.Report.{Report}
@@ -13,7 +14,7 @@ use Rattle.plain_run.specs.declared.fault.RunFault.{RunFault}
 use Rattle.tcp_lines.specs.Lines.{TcpLineState, tcp_line, unused}
 use Rattle.program_words.specs.Messages.{IsWritten, report_line, fault_line}
 use Rattle.program_words.specs.Statuses.{status_for}
-use Rattle.boruvka.specs.Streams.{Standard, Left, OnOutput, OutputIsFlushed, SameErrors, of_run}
+use Rattle.boruvka.specs.Streams.{Standard, Left, left_output, left_errors, of_run}
 use Rattle.boruvka.specs.declared.standard.StandardStreams.{StandardStreams}
 
 -- ---- what was written
@@ -40,14 +41,16 @@ LeavesOutput status = (status ≡ 1) ⊎ (status ≡ 2) ⊎ (status ≡ 4) ⊎ (
 
 -- ---- what each run keeps
 
--- a run ends with one of six statuses. At one that says that nothing was written the output is as it was; at status 0 none
--- of its bytes waits for a flush, and the errors got nothing, but for a report that is wanted
-pub record KeepsStreams {I O E : Type 0} (sink_of : O → SinkState) (unflushed_of : O → Option (List ℕ)) (wants : Bool) (status : ℕ)
+-- a run ends with one of six statuses, and one without workers isn't ended by what workers answered. At a status that says
+-- that nothing was written the output is as it was; at status 0 none of its bytes waits for a flush, and the errors got
+-- nothing, but for a report that is wanted
+pub record KeepsStreams {I O E : Type 0} (writes : Sink.Ghosts O) (plain wants : Bool) (status : ℕ)
     (before : StandardStreams I O E) (after : Left I O E) : Type 0 where
   pub few : status ≤ 5
-  pub silent : LeavesOutput status → OnOutput sink_of IsUntouched before after
-  pub flushed : status ≡ 0 → OutputIsFlushed unflushed_of after
-  pub quiet : wants ≡ false → status ≡ 0 → SameErrors before after
+  pub plain_status : plain ≡ true → status ≤ 4
+  pub silent : LeavesOutput status → IsUntouched (writes.state before.output.now) (writes.state (left_output after))
+  pub flushed : status ≡ 0 → IsFlushed (writes.unflushed (left_output after))
+  pub quiet : wants ≡ false → status ≡ 0 → left_errors after ≡ before.errors.now
 
 -- ---- the report
 
@@ -99,10 +102,12 @@ pub record EndsOverWorkers (workers shards : ℕ) (wants : Bool) (status : ℕ) 
 
 -- ---- what follows for the status, of a source that is known
 
--- the source has a file that means nothing, and no read failed
-abbrev pub HasNoGraph : SourceState → SourceState → Type 0
-HasNoGraph before after = (bytes : List ℕ) × HasFile bytes before after × MeansNothing bytes
+-- if the source has a file that means nothing, and no read failed, the file is refused, or memory was wanting
+abbrev pub RefusesNoGraph : ℕ → Standard → Standard → Type 0
+RefusesNoGraph status before after =
+    (bytes : List ℕ) → HasFile bytes before.source after.source → MeansNothing bytes → (status ≡ 1) ⊎ (status ≡ 4)
 
--- the run was done, or only want of memory or a setback of the sink hindered it
-abbrev pub IsDone : ℕ → SinkState → SinkState → Type 0
-IsDone status before after = (status ≡ 0) ⊎ ((status ≡ 4) ⊎ ((status ≡ 3) × ¬ HadNoSetback before after))
+-- if the source has a file whose graph can be cut so, the run is done, or only want of memory or a setback of the sink hindered it
+abbrev pub IsDone : ℕ → ℕ → Standard → Standard → Type 0
+IsDone shards status before after = HasGraphToCut (Even shards) before.source after.source
+    → (status ≡ 0) ⊎ ((status ≡ 4) ⊎ ((status ≡ 3) × ¬ HadNoSetback before.sink after.sink))

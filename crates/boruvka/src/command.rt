@@ -1,23 +1,22 @@
 //! What the program does.
-ghost use Rattle.std.specs.Prelude.{◌≡◌, ◌≢◌, ◌≤◌, ◌⊎◌, [], map, length, All, IsSome, OnOk, true, false, codes};
+ghost use Rattle.std.specs.Prelude.{◌≡◌, ◌≢◌, ◌≤◌, [], map, length, All, IsSome, OnOk, true, false, codes};
 ghost use Rattle.std.specs.IoError.{error_kind};
 ghost use Rattle.limits.specs.declared.TheConstants.{MAX_WORKERS};
 ghost use Rattle.byte_streams.specs.Streams.{IsFlushed};
 ghost use Rattle.clap.specs.Words.{kind_of};
+ghost use Rattle.clap.specs.declared.error.kind.ErrorKind.TheVariants.{DisplayHelp, DisplayVersion};
 ghost use Rattle.wires.specs.Lines.{HasRoom};
 ghost use Rattle.plain_run.specs.Outcomes.{known};
 ghost use Rattle.plain_run.specs.PlainRun.{RanPlain};
 ghost use Rattle.plain_run.specs.declared.parts.TheConstants.{MAX_FILES};
-ghost use Rattle.forest_run.specs.LinesRun.{HasGraphToCut};
 ghost use Rattle.forest_run.specs.WiredLines.{AreServed};
-ghost use Rattle.forest_run.specs.declared.cutting.Cutting.TheVariants.{Even};
 ghost use Rattle.tcp_lines.specs.Lines.{tcp_line, unused};
 ghost use Rattle.program_words.specs.Arguments.{IsMistake, files_named, is_set, refusals};
 ghost use Rattle.program_words.specs.Messages.{IsWritten, message_line, no_text_line};
-ghost use Rattle.boruvka.specs.Streams.{AreReady, OnThree, OnStreams, OnInput, OnOutput, SameInput};
-ghost use Rattle.boruvka.specs.Asked.{asked_of, KeepsAsked, EndsAs, EndsOnSource, Obeys, ObeysWords};
-ghost use Rattle.boruvka.specs.Asked.{AskForHelp, AskForVersion, AreWrong, HelpEnds, RefusesWords, EndsRefused};
-ghost use Rattle.boruvka.specs.Status.{report_of, JudgesFile, KeepsStreams, EndsOver, HasNoGraph, IsDone, LeavesOutput, IsUntouched};
+ghost use Rattle.boruvka.specs.Streams.{AreReady, OnStreams, left_input, standard};
+ghost use Rattle.boruvka.specs.Asked.{asked_by, asked_of, EndsAs, EndsOnSource, Obeys};
+ghost use Rattle.boruvka.specs.Asked.{AskFor, AreWrong, HelpEnds, RefusesWords, EndsRefused};
+ghost use Rattle.boruvka.specs.Status.{report_of, JudgesFile, KeepsStreams, EndsOver, RefusesNoGraph, IsDone, LeavesOutput, IsUntouched};
 
 use crate::ends::write_end;
 use crate::joined::run_joined;
@@ -64,20 +63,19 @@ pub fn run_over<
 >(rt: &R, shards: u32, wants_report: bool, lines: Vec<L>, io: StandardStreams<I, O, E>) -> u8
     requires few { length lines.items ≤ MAX_WORKERS }
     requires room { All (λ line. HasRoom (L.state line)) lines.items }
-    requires streams { AreReady I.can_read O.can_write E.can_write io }
+    requires streams { AreReady I.Source O.Sink E.Sink io }
 
     // Whatever the workers answer, and more where each line is new and carries its worker's session.
-    ensures ends { OnStreams I.state O.state E.state (EndsOver L.Line lines.items shards wants_report result)
+    ensures ends { OnStreams I.Source O.Sink E.Sink (EndsOver L.Line lines.items shards wants_report result)
         io.entry io.exit }
-    ensures kept { KeepsStreams O.state O.unflushed wants_report result io.entry io.exit }
+    ensures kept { KeepsStreams O.Sink false wants_report result io.entry io.exit }
 
     // A file that means nothing is refused.
-    ensures malformed { OnInput I.state HasNoGraph io.entry io.exit → (result ≡ 1) ⊎ (result ≡ 4) }
+    ensures malformed { OnStreams I.Source O.Sink E.Sink (RefusesNoGraph result) io.entry io.exit }
 
     // Over such lines the workers are never blamed, and a file whose links can be cut so has its forest.
     ensures blameless { AreServed L.Line lines.items → result ≢ 5 }
-    ensures done { AreServed L.Line lines.items → OnInput I.state (HasGraphToCut (Even shards)) io.entry io.exit
-        → OnOutput O.state (IsDone result) io.entry io.exit }
+    ensures done { AreServed L.Line lines.items → OnStreams I.Source O.Sink E.Sink (IsDone shards result) io.entry io.exit }
 {
     let StandardStreams {
         input,
@@ -100,16 +98,15 @@ fn run_started<R: Alloc<A = Global> + Threads + Wait + Sync, I: Source, O: Sink,
     requires few { length started.0.items ≤ MAX_WORKERS }
     requires new { All (λ line. line ≡ unused) started.0.items }
     requires all { started.1 ≡ length started.0.items }
-    requires streams { AreReady I.can_read O.can_write E.can_write io }
+    requires streams { AreReady I.Source O.Sink E.Sink io }
 
     // Over just these lines, whatever comes over them.
-    ensures ends { OnStreams I.state O.state E.state
+    ensures ends { OnStreams I.Source O.Sink E.Sink
         (EndsOver tcp_line started.0.items chosen.now.shards chosen.now.report result) io.entry io.exit }
-    ensures kept { KeepsStreams O.state O.unflushed chosen.now.report result io.entry io.exit }
+    ensures kept { KeepsStreams O.Sink false chosen.now.report result io.entry io.exit }
 {
     let (lines, workers) = started;
-    let (shards, wants_report) = (chosen.shards, chosen.report);
-    let status = run_over(rt, shards, wants_report, lines, io);
+    let status = run_over(rt, chosen.shards, chosen.report, lines, io);
     workers.join(rt);
     status
 }
@@ -150,12 +147,10 @@ where
     O: Sink,
     E: Sink,
     requires workers { chosen.now.workers ≤ MAX_WORKERS }
-    requires streams { AreReady I.can_read O.can_write E.can_write io }
-    ensures ends { OnStreams I.state O.state E.state (EndsAs chosen.now.plain (asked_of chosen.now) result)
-        io.entry io.exit }
-    ensures kept { KeepsAsked O.state O.unflushed (asked_of chosen.now) result io.entry io.exit }
+    requires streams { AreReady I.Source O.Sink E.Sink io }
+    ensures ends { OnStreams I.Source O.Sink E.Sink (EndsAs chosen.now.plain (asked_of chosen.now) result) io.entry io.exit }
+    ensures kept { KeepsStreams O.Sink chosen.now.plain chosen.now.report result io.entry io.exit }
 {
-    let alloc = rt.alloc();
     if chosen.plain {
         let StandardStreams {
             input,
@@ -166,7 +161,7 @@ where
         return write_end(chosen.report, &ended, errors);
     }
     let (_reserved, count) = workers_beside(rt, chosen.workers);
-    let Ok(started) = Workers::start(rt, alloc, count) else {
+    let Ok(started) = Workers::start(rt, rt.alloc(), count) else {
         write_fault(io.errors, &RunFault::Memory);
         return MEMORY;
     };
@@ -195,11 +190,10 @@ where
     E: Sink,
     P: Sink,
     requires workers { chosen.now.workers ≤ MAX_WORKERS }
-    requires streams { AreReady I.can_read O.can_write E.can_write io }
+    requires streams { AreReady I.Source O.Sink E.Sink io }
     requires always { (sink : P) → P.can_write sink }
-    ensures ends { OnStreams I.state O.state E.state (EndsOnSource chosen.now.progress (asked_of chosen.now) result)
-        io.entry io.exit }
-    ensures kept { KeepsAsked O.state O.unflushed (asked_of chosen.now) result io.entry io.exit }
+    ensures ends { OnStreams I.Source O.Sink E.Sink (EndsOnSource (asked_of chosen.now) result) io.entry io.exit }
+    ensures kept { KeepsStreams O.Sink chosen.now.plain chosen.now.report result io.entry io.exit }
     ensures untold { chosen.now.progress ≡ false → progress.new ≡ progress.old }
 {
     if !chosen.progress {
@@ -210,16 +204,12 @@ where
         output,
         errors,
     } = io;
-    let input = &mut Watched::new(input, progress, Told::new(true));
-    run_on(
-        rt,
-        chosen,
-        StandardStreams {
-            input,
-            output,
-            errors,
-        },
-    )
+    let watched = StandardStreams {
+        input: &mut Watched::new(input, progress, Told::new(true)),
+        output,
+        errors,
+    };
+    run_on(rt, chosen, watched)
 }
 
 /// Does what lawful words ask for, and answers the status.
@@ -250,18 +240,19 @@ where
     E: Sink,
     P: Sink,
     requires workers { chosen.now.workers ≤ MAX_WORKERS }
-    requires streams { AreReady I.can_read O.can_write E.can_write io }
+    requires streams { AreReady I.Source O.Sink E.Sink io }
     requires always { (sink : P) → P.can_write sink }
     requires few { length chosen.now.files.items ≤ MAX_FILES }
 
     // What is asked for is done, on the input or on FILE, or on several; where each is a FILE the input isn't read.
-    ensures obeys { OnStreams I.state O.state E.state (Obeys (asked_of chosen.now) result) io.entry io.exit }
-    ensures leaves_input { chosen.now.files.items ≢ [] → All IsSome chosen.now.files.items → SameInput io.entry io.exit }
+    ensures obeys { OnStreams I.Source O.Sink E.Sink (Obeys (asked_of chosen.now) result) io.entry io.exit }
+    ensures leaves_input { chosen.now.files.items ≢ [] → All IsSome chosen.now.files.items
+        → left_input io.exit ≡ io.entry.input.now }
 
     // A file that is refused or can't be cut, want of memory and answers that make no forest write nothing to the
     // output. Where the run ends well none of its bytes waits for a flush, where that is known, and the errors get the
     // report alone.
-    ensures kept { KeepsAsked O.state O.unflushed (asked_of chosen.now) result io.entry io.exit }
+    ensures kept { KeepsStreams O.Sink chosen.now.plain chosen.now.report result io.entry io.exit }
     ensures untold { chosen.now.progress ≡ false → progress.new ≡ progress.old }
 {
     if chosen.files.len() > 1 {
@@ -279,17 +270,12 @@ where
         output,
         errors,
     } = io;
-    let input = &mut Uncounted(file);
-    run_told(
-        rt,
-        chosen,
-        StandardStreams {
-            input,
-            output,
-            errors,
-        },
-        progress,
-    )
+    let from_file = StandardStreams {
+        input: &mut Uncounted(file),
+        output,
+        errors,
+    };
+    run_told(rt, chosen, from_file, progress)
 }
 
 // Prints the help or the version to the output, or what is wrong with the words to errors.
@@ -373,8 +359,9 @@ where
 
     // What lawful words ask for is done: the input is run on, or FILE is, or several; where each is a FILE the input isn't
     // touched.
-    ensures obeys { OnThree I.state O.state E.state (ObeysWords (map S.text words.now) result)
-        input.old output.old errors.old input.new output.new errors.new }
+    ensures obeys { refusals (map S.text words.now) ≡ [] → Obeys (asked_by (map S.text words.now)) result
+        (standard I.Source O.Sink E.Sink input.old output.old errors.old)
+        (standard I.Source O.Sink E.Sink input.new output.new errors.new) }
     ensures leaves_input { files_named (map S.text words.now) ≢ []
         → All IsSome (files_named (map S.text words.now)) → input.new ≡ input.old }
 
@@ -389,9 +376,9 @@ where
 
     // The help and the version go to the output, and wrong words touch nothing. Words that are refused and ask for the help
     // too end as one or the other.
-    ensures help { AskForHelp (map S.text words.now)
+    ensures help { AskFor DisplayHelp (map S.text words.now)
         → (input.new ≡ input.old) × HelpEnds result (O.state output.old) (O.state output.new) }
-    ensures version { AskForVersion (map S.text words.now)
+    ensures version { AskFor DisplayVersion (map S.text words.now)
         → (input.new ≡ input.old) × HelpEnds result (O.state output.old) (O.state output.new) }
     ensures wrong { AreWrong (map S.text words.now)
         → RefusesWords result × (input.new ≡ input.old) × (output.new ≡ output.old) }

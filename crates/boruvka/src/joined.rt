@@ -1,13 +1,12 @@
 //! Runs on several files, whose links are joined.
-ghost use Rattle.std.specs.Prelude.{◌≡◌, ◌+◌, ◌<◌, ◌≤◌, ◌||◌, not, is_some, All, IsSome, IfOk, IfErr, false, length, map, option_map};
-ghost use Rattle.std.specs.String.{string_bytes};
+ghost use Rattle.std.specs.Prelude.{◌≡◌, ◌+◌, ◌<◌, ◌≤◌, ◌||◌, not, is_some, All, IsSome, IfOk, IfErr, false, length, option_map, string_bytes};
 ghost use Rattle.plain_run.specs.declared.parts.TheConstants.{MAX_FILES};
 ghost use Rattle.program_words.specs.Messages.{IsWritten};
-ghost use Rattle.boruvka.specs.Adding.{AddsFile, AddsFrom, AreAdded, joined_of};
-ghost use Rattle.boruvka.specs.Joined.{EndsOnSeveral, StopsAt, status_for_stop, stop_line};
+ghost use Rattle.boruvka.specs.Asked.{files_of};
+ghost use Rattle.boruvka.specs.Joined.{AddsFile, AddsFrom, AreAdded, EndsOnSeveral, StopsAt, status_for_stop, stop_line};
 ghost use Rattle.boruvka.specs.Joined.{name_of as the_name_of};
 ghost use Rattle.boruvka.specs.Status.{KeepsStreams};
-ghost use Rattle.boruvka.specs.Streams.{AreReady, OnLeft, OnStreams, SameInput};
+ghost use Rattle.boruvka.specs.Streams.{AreReady, OnLeft, OnStreams, left_input};
 
 use crate::ends::write_end;
 use crate::progress::{Told, Watched};
@@ -28,16 +27,6 @@ pub enum JoinFault {
     Part(PartFault),
 }
 
-// One more part, or why a file isn't one.
-fn joined(added: Result<Parts, PartFault>) -> Result<Parts, JoinFault>
-    ensures { result ≡ joined_of added }
-{
-    match added {
-        Ok(parts) => Ok(parts),
-        Err(fault) => Err(JoinFault::Part(fault)),
-    }
-}
-
 // One more part from a source, and how much of it was read is told, if that is wanted.
 fn add_source<C: Crew, I: Source, P: Sink>(
     crew: &C,
@@ -56,12 +45,12 @@ fn add_source<C: Crew, I: Source, P: Sink>(
     ensures untold { told.old.is_wanted ≡ false → (progress.new ≡ progress.old) × (told.new.is_wanted ≡ false) }
 {
     if !told.is_wanted {
-        return joined(parts.add(crew, source));
+        return parts.add(crew, source).map_err(JoinFault::Part);
     }
     let mut watched = Watched::new(source, progress, *told);
-    let added = parts.add(crew, &mut watched);
+    let added = parts.add(crew, &mut watched).map_err(JoinFault::Part);
     *told = watched.told();
-    joined(added)
+    added
 }
 
 // One more part from a file: FILE is opened, and the input is read only once.
@@ -117,11 +106,10 @@ fn add_files<'a, R: Files<File = File> + Alloc<A = Global> + Threads + Sync, I: 
     requires input { I.can_read input.old }
     requires always { (sink : P) → P.can_write sink }
     requires few { length chosen.now.files.items ≤ MAX_FILES }
-    ensures joined { IfOk result (λ parts. OnLeft chosen.now.progress (λ left.
-        AreAdded (I.state input.old) left (map (option_map string_bytes) chosen.now.files.items) parts) (I.state input.new)) }
-    ensures stopped { IfErr result (λ stopped. OnLeft chosen.now.progress (λ left.
-        StopsAt (map (option_map string_bytes) chosen.now.files.items) (option_map string_bytes stopped.0.now) stopped.1
-        (I.state input.old) left) (I.state input.new)) }
+    ensures joined { IfOk result (λ parts. OnLeft chosen.now.progress
+        (AreAdded (files_of chosen.now) parts (I.state input.old)) (I.state input.new)) }
+    ensures stopped { IfErr result (λ (file, why). OnLeft chosen.now.progress
+        (StopsAt (files_of chosen.now) (option_map string_bytes file.now) why (I.state input.old)) (I.state input.new)) }
     ensures leaves_input { All IsSome chosen.now.files.items → input.new ≡ input.old }
     ensures untold { chosen.now.progress ≡ false → progress.new ≡ progress.old }
 {
@@ -188,13 +176,12 @@ pub fn run_joined<
 >(rt: &R, chosen: &Options, io: StandardStreams<I, O, E>, progress: &mut P) -> u8
     requires several { 2 ≤ length chosen.now.files.items }
     requires few { length chosen.now.files.items ≤ MAX_FILES }
-    requires streams { AreReady I.can_read O.can_write E.can_write io }
+    requires streams { AreReady I.Source O.Sink E.Sink io }
     requires always { (sink : P) → P.can_write sink }
-    ensures ends { OnStreams I.state O.state E.state
-        (EndsOnSeveral (map (option_map string_bytes) chosen.now.files.items) chosen.now.progress chosen.now.report result)
-        io.entry io.exit }
-    ensures leaves_input { All IsSome chosen.now.files.items → SameInput io.entry io.exit }
-    ensures kept { KeepsStreams O.state O.unflushed chosen.now.report result io.entry io.exit }
+    ensures ends { OnStreams I.Source O.Sink E.Sink
+        (EndsOnSeveral (files_of chosen.now) chosen.now.progress chosen.now.report result) io.entry io.exit }
+    ensures leaves_input { All IsSome chosen.now.files.items → left_input io.exit ≡ io.entry.input.now }
+    ensures kept { KeepsStreams O.Sink chosen.now.plain chosen.now.report result io.entry io.exit }
     ensures plain { result ≤ 4 }
     ensures untold { chosen.now.progress ≡ false → progress.new ≡ progress.old }
 {

@@ -2,8 +2,9 @@ use Rattle.std.proofs.Common.{All, ap, map, option_map, refl, subst, sym, ◌∙
 use Rattle.std.specs.Prelude.{IsSome}
 use Rattle.std.specs.String.{string_bytes}
 use Rattle.clap.specs.Words.{kind_of}
+use Rattle.program_words.specs.Arguments.{files_named}
 use Rattle.boruvka.specs.Asked.{asked_by}
-use Rattle.boruvka.proofs.Endings.{wants_memory_obeys, obeys_words}
+use Rattle.boruvka.proofs.Endings.{wants_memory_of}
 use Rattle.boruvka.proofs.Joining.{some_items}
 use Rattle.boruvka.proofs.command.command.Goals as goal
 
@@ -15,12 +16,12 @@ returns-in-Err-Usage-clause-wrong g c = λ wrong.
 pub returns-in-Ok-clause-obeys : goal.returns-in-Ok-clause-obeys
 returns-in-Ok-clause-obeys g c = λ lawful.
     let taken = c.in-Ok.ensures in
-    obeys_words c.in-Ok.chosen (map g.S.AsStr.text c.args.words.now) _ _ _ taken.workers taken.shards taken.plain taken.report taken.progress taken.files c.obey.ensures.obeys
+    rw (taken.workers, taken.shards, taken.plain, taken.report, taken.progress, taken.files) at c.obey.ensures.obeys
 
 pub returns-in-Err-Memory-clause-obeys : goal.returns-in-Err-Memory-clause-obeys
 returns-in-Err-Memory-clause-obeys g c = λ lawful.
-    wants_memory_obeys (asked_by (map g.S.AsStr.text c.args.words.now)) (g.I.Source.state c.args.input.now) (g.O.Sink.state c.args.output.now)
-    (g.E.Sink.state c.args.errors.now) (g.E.Sink.state c.write_fault.new.sink) c.write_fault.ensures
+    let words = map g.S.AsStr.text c.args.words.now in
+    wants_memory_of (files_named words) (asked_by words) _ _ _ _ c.write_fault.ensures
 
 pub returns-in-Ok-clause-leaves_input : goal.returns-in-Ok-clause-leaves_input
 returns-in-Ok-clause-leaves_input g c = λ some all.

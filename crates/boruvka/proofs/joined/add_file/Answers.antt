@@ -1,6 +1,7 @@
-use Rattle.std.proofs.Common.{ap, option_map}
+use Rattle.std.proofs.Common.{◌≡◌, Some, ap, option_map, refl}
 use Rattle.std.specs.String.{string_bytes}
-use Rattle.boruvka.proofs.Joining.{adds_named, no_input, unopened_left}
+use Rattle.boruvka.proofs.Endings.{so_left}
+use Rattle.boruvka.proofs.Joining.{adds_named}
 use Rattle.boruvka.proofs.joined.add_file.Goals as goal
 
 pub returns-in-Ok-clause-added : goal.returns-in-Ok-clause-added
@@ -10,9 +11,8 @@ returns-in-Ok-clause-added g c =
 
 pub returns-in-Err-clause-added : goal.returns-in-Err-clause-added
 returns-in-Err-clause-added g c =
-    unopened_left c.args.told.now.is_wanted (option_map string_bytes c.args.file.now) c.args.was_read g.I.Source.state c.args.input.now c.args.parts
-    (no_input (option_map string_bytes c.args.file.now) (string_bytes c.in-Some.name) c.args.was_read (ap (option_map string_bytes) c.in-Some.is))
+    let named : option_map string_bytes c.args.file.now ≡ Some (string_bytes c.in-Some.name) = ap (option_map string_bytes) c.in-Some.is in
+    so_left c.args.told.now.is_wanted _ _ ((λ none. (cc)), refl)
 
 pub returns-then-was_read-clause-added : goal.returns-then-was_read-clause-added
-returns-then-was_read-clause-added g c =
-    unopened_left c.args.told.now.is_wanted (option_map string_bytes c.args.file.now) c.args.was_read g.I.Source.state c.args.input.now c.args.parts (λ none. c.if-was_read.true)
+returns-then-was_read-clause-added g c = so_left c.args.told.now.is_wanted _ _ ((λ none. c.if-was_read.true), refl)

@@ -2,10 +2,9 @@ use Rattle.std.proofs.Common.{ℕ, List, Option, ap, map, sym, subst, option_map
 use Rattle.std.proofs.lemmas.List.{length-map, take_all}
 use Rattle.std.specs.Prelude.{not, ◌||◌}
 use Rattle.std.specs.String.{string_bytes}
-use Rattle.boruvka.specs.Adding.{times}
 use Rattle.boruvka.specs.Joined.{StopsAt, inputs}
 use Rattle.boruvka.specs.Streams.{OnLeft}
-use Rattle.boruvka.proofs.Joining.{Keeps, added_left, added_unread, fresh_more, inputs_step, is_some-under, length_before, ok_left, some_here, some_under, split_at, state_left, stops_left, keeps_none, take_one, unread_more}
+use Rattle.boruvka.proofs.Joining.{Keeps, added_left, added_unread, fresh_more, inputs_step, is_some-under, length_before, ok_left, some_here, some_under, split_at, state_left, stops_left, keeps_none, take_one, unread_more, times}
 use Rattle.boruvka.proofs.joined.add_files.Goals as goal
 
 pub returns-in-Err-clause-stopped : goal.returns-in-Err-clause-stopped

@@ -1,10 +1,9 @@
 use Rattle.std.proofs.Common.{◌≡◌, All, map, take, false}
 use Rattle.std.specs.Prelude.{IsSome, option_map}
 use Rattle.std.specs.String.{string_bytes}
-use Rattle.boruvka.specs.Adding.{times}
 use Rattle.boruvka.specs.Joined.{inputs}
 use Rattle.boruvka.specs.Streams.{OnLeft}
-use Rattle.boruvka.proofs.Joining.{Keeps}
+use Rattle.boruvka.proofs.Joining.{Keeps, times}
 use Rattle.boruvka.proofs.joined.add_files.Given as goal
 
 abbrev pub invariant-loop-file : goal.invariant-loop-file

@@ -1,7 +1,7 @@
 use Rattle.std.proofs.Common.{arith, refl}
 use Rattle.byte_streams.proofs.Streaming.{took_nothing}
 use Rattle.boruvka.proofs.Endings.{flushed_at_end}
-use Rattle.boruvka.proofs.Joining.{joined_bound, joined_ends, joined_silent, stop_bound, stop_ends}
+use Rattle.boruvka.proofs.Joining.{forest_bound, forest_silent, joined_ends, stop_bound, stop_ends, wrote}
 use Rattle.boruvka.proofs.joined.run_joined.Goals as goal
 use Rattle.boruvka.proofs.joined.run_joined.Goals.{in-Ok, in-Err}
 
@@ -15,10 +15,12 @@ returns-clause-ends g c = elim c.match-add_files.branch [
 pub returns-clause-kept : goal.returns-clause-kept
 returns-clause-kept g c = elim c.match-add_files.branch [
   | in-Ok w ↦
-      let bound = joined_bound _ _ _ _ _ _ _ w.in-Ok.parts w.write_threads-ended.result w.in-Ok.ensures.joined w.write_end.ensures.status w.write_threads-ended.ensures.written in
+      let (graph, written) = wrote _ _ _ _ _ _ w.in-Ok.parts w.write_threads-ended.result w.in-Ok.ensures.joined w.write_threads-ended.ensures.written in
+      let bound = forest_bound graph _ _ _ _ w.write_end.ensures.status written in
       rw (w.output-is, w.errors-is, w.result-is) (record {
         few = omega (arith, bound);
-        silent = joined_silent _ _ _ _ _ _ _ w.in-Ok.parts w.write_threads-ended.result w.in-Ok.ensures.joined w.write_end.ensures.status w.write_threads-ended.ensures.written;
+        plain_status = λ plain. bound;
+        silent = forest_silent graph _ _ _ _ w.write_end.ensures.status written;
         flushed = flushed_at_end w.write_threads-ended.result _ _ w.write_end.ensures.status w.write_threads-ended.ensures.flushed;
         quiet = w.write_end.ensures.quiet;
       })
@@ -26,6 +28,7 @@ returns-clause-kept g c = elim c.match-add_files.branch [
       let (some, few) = stop_bound w.in-Err.fault in
       rw (w.output-is, w.errors-is, w.result-is) (record {
         few = omega (arith, few, w.write_stop.ensures.status);
+        plain_status = λ plain. omega (arith, few, w.write_stop.ensures.status);
         silent = λ silent. took_nothing _;
         flushed = λ none. absurd (omega (arith, some, w.write_stop.ensures.status));
         quiet = λ wants none. absurd (omega (arith, some, w.write_stop.ensures.status));
