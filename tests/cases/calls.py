@@ -300,6 +300,23 @@ def each_read_of_a_file_and_of_standard_input_fails(room):
                     runs[-1].expect(0, text, b"")
 
 
+def expect_writes(runs, text):
+    """Of runs in which the first write fails, the second, and so on, and then none: what was taken before is told. The text's
+    first line is a write of its own, and each other but the last has 8 KiB less a line."""
+    first = text.index(b"\n") + 1
+    before = -first
+    for run in runs[:-1]:
+        output = run.found[1]
+        run.expect(3, text[: len(output)], f"boruvka: write failed after {len(output)} bytes\n".encode())
+        least = before + (first if run.number < 3 else LEAST_PIECE)
+        if len(output) < least or run.number < 3 and len(output) != least:
+            raise AssertionError(f"{run.what}: {len(output)} bytes went out, and {before} before the write before")
+        before = len(output)
+    runs[-1].expect(0, text, b"")
+    if len(runs) - 1 <= -(-(len(text) - first) // 8192):
+        raise AssertionError(f"only {len(runs) - 1} writes of {len(text)} bytes")
+
+
 @case
 def each_write_of_a_forest_fails(room):
     # what was taken before it is told, and nothing goes out after it; the write behind it would pass
@@ -307,16 +324,7 @@ def each_write_of_a_forest_fails(room):
         for size in [PLAIN, *OVER_WORKERS]:
             for error in [*ERRORS, EIO, ENOSPC, NOTHING]:
                 runs = each_place(room, [Program.path, *words_for(size)], file, "write", [error])
-                before = -LEAST_PIECE
-                for run in runs[:-1]:
-                    output = run.found[1]
-                    run.expect(3, text[: len(output)], f"boruvka: write failed after {len(output)} bytes\n".encode())
-                    if len(output) < before + LEAST_PIECE or run.number == 1 and output:
-                        raise AssertionError(f"{run.what}: {len(output)} bytes went out, and {before} before the write before")
-                    before = len(output)
-                runs[-1].expect(0, text, b"")
-                if len(runs) - 1 <= len(text) // 8192:
-                    raise AssertionError(f"only {len(runs) - 1} writes of {len(text)} bytes")
+                expect_writes(runs, text)
 
 
 @case
@@ -324,7 +332,7 @@ def what_standard_error_does_not_take_changes_no_status(room):
     # (words, a file, the first and the last write that fail, status, output)
     missing = f"{room}/none.gr"
     rows = [
-        (["--report"], SMALL_NET, 2, 2, 0, SMALL_FOREST),
+        (["--report"], SMALL_NET, 3, 3, 0, SMALL_FOREST),
         ([], SMALL_NET, 1, 2, 3, b""),
         ([], b"p sp 2 2\na 1 2 5\n", 1, 1, 1, b""),
         ([missing], b"", 1, 1, 3, b""),

@@ -7,7 +7,7 @@ import resource
 import socket
 from errno import EINTR, EIO
 
-from cases.calls import ERRORS, each_place, expect_places
+from cases.calls import ERRORS, each_place, expect_places, expect_writes
 from cases.memory import grown_space, in_space, refused
 from cases.progress import COMMENT
 from cases.running import (
@@ -32,7 +32,7 @@ from cases.running import (
     written,
 )
 from cases.sockets import NOTHING
-from cases.streams import LEAST_PIECE, READ_ROOM
+from cases.streams import READ_ROOM
 
 # the small net's arcs in two files, and in three
 FIRST = b"p sp 6 4\na 1 2 17\na 1 3 10\na 2 4 2\na 3 5 0\n"
@@ -514,15 +514,7 @@ def each_write_of_several_files_fails(room):
     names = [f"{room}/{it}" for it in files_in(room, [file_of(6000, arcs[at::2]) for at in range(2)])]
     text = forest_text(6000, forest_of(6000, arcs))
     for error in [*ERRORS, EIO, NOTHING]:
-        runs = each_place(room, [Program.path, "--plain", *names], b"", "write", [error])
-        for run in runs[:-1]:
-            output = run.found[1]
-            run.expect(3, text[: len(output)], f"boruvka: write failed after {len(output)} bytes\n".encode())
-            if not (run.number - 1) * LEAST_PIECE <= len(output) < len(text):
-                raise AssertionError(f"{run.what}: {len(output)} bytes went out")
-        runs[-1].expect(0, text, b"")
-        if len(runs) - 1 <= len(text) // 8192:
-            raise AssertionError(f"only {len(runs) - 1} writes of {len(text)} bytes")
+        expect_writes(each_place(room, [Program.path, "--plain", *names], b"", "write", [error]), text)
 
 
 @case
