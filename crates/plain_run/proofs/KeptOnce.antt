@@ -5,7 +5,7 @@ use Rattle.std.proofs.lemmas.List.{take_more, take_more_set, take-set, get_or-ta
 use Rattle.std.proofs.lemmas.List.Elements.{Contains-get_or, Contains-append_cases, Contains-append_left, Contains-append_right}
 use Rattle.links.specs.LinkSet.{SameLinks}
 use Rattle.links.specs.declared.links.Link.{Link}
-use Rattle.links.proofs.Members.{contains_cases, contains_head, contains_none}
+use Rattle.links.proofs.Members.{contains_cases, contains_none}
 
 -- one more link comes to each of two lists of the same links, or it is in the second already
 both_more : (xs ys : List Link) (x : Link) → SameLinks (Contains xs) (Contains ys) → SameLinks (Contains (xs ++ x ∷ [])) (Contains (ys ++ x ∷ []))

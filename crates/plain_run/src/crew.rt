@@ -13,11 +13,11 @@ use gr_text::{
     write_forest_par,
 };
 use limits::{MAX_BYTES, MAX_VERTICES};
-use link_key::{Forest, Link, forest_of, forest_of_par, keep_forest, keep_forest_par};
+use link_key::{Forest, Link, keep_forest, keep_forest_par};
 use std::alloc::{AllocError, Allocator};
 use std::thread::Threads;
 
-/// Who reads a file, finds the forest of a list, and writes its text.
+/// Who reads a file, keeps the forest of a list, and writes its text.
 pub trait Crew {
     // What threads need of whoever makes them.
     ghost ready: { Type 0 } = { Unit {0} };
@@ -48,19 +48,6 @@ pub trait Crew {
         requires ends { EndsUpTo n links.items }
         ensures forest { IfOk result (λ kept. IsForestOf links.items kept.items) }
         ensures few { IfOk result (λ kept. length kept.items ≤ length links.items) };
-
-    /// The forest of the list.
-    fn forest_of<A: Allocator + Copy>(
-        &self,
-        alloc: A,
-        n: u32,
-        links: Vec<Link, A>,
-    ) -> Result<Forest<A>, AllocError>
-        requires ready { ready }
-        requires few_vertices { n ≤ MAX_VERTICES }
-        requires ends { EndsUpTo n links.items }
-        ensures forest { IfOk result (IsForestOf links.items) }
-        ensures few { IfOk result (λ forest. length forest ≤ length links.items) };
 
     /// Writes the text of a forest, as [`write_forest`] does.
     fn write<W: Sink, A: Allocator + Copy>(
@@ -97,15 +84,6 @@ impl Crew for OneThread {
         links: Vec<Link, A>,
     ) -> Result<Vec<Link, A>, AllocError> {
         keep_forest(alloc, n, links)
-    }
-
-    fn forest_of<A: Allocator + Copy>(
-        &self,
-        alloc: A,
-        n: u32,
-        links: Vec<Link, A>,
-    ) -> Result<Forest<A>, AllocError> {
-        forest_of(alloc, n, links)
     }
 
     fn write<W: Sink, A: Allocator + Copy>(
@@ -147,15 +125,6 @@ impl<'a, R: Threads + Sync> Crew for ManyThreads<'a, R> {
         keep_forest_par(self.rt, self.threads, alloc, n, links)
     }
 
-    fn forest_of<A: Allocator + Copy>(
-        &self,
-        alloc: A,
-        n: u32,
-        links: Vec<Link, A>,
-    ) -> Result<Forest<A>, AllocError> {
-        forest_of_par(self.rt, self.threads, alloc, n, links)
-    }
-
     fn write<W: Sink, A: Allocator + Copy>(
         &self,
         alloc: A,
@@ -165,4 +134,21 @@ impl<'a, R: Threads + Sync> Crew for ManyThreads<'a, R> {
     ) -> Result<u64, WriteFault> {
         write_forest_par(self.rt, self.threads, alloc, sink, n, forest)
     }
+}
+
+/// The forest of the list, in its memory.
+pub(crate) fn forest_by<C: Crew, A: Allocator + Copy>(
+    crew: &C,
+    alloc: A,
+    n: u32,
+    links: Vec<Link, A>,
+) -> Result<Forest<A>, AllocError>
+    requires ready { C.ready }
+    requires few_vertices { n ≤ MAX_VERTICES }
+    requires ends { EndsUpTo n links.items }
+    ensures forest { IfOk result (IsForestOf links.items) }
+    ensures few { IfOk result (λ forest. length forest ≤ length links.items) }
+{
+    let kept = crew.keep_forest(alloc, n, links)?;
+    Ok(Forest::of_ascending(kept))
 }

@@ -7,7 +7,7 @@ ghost use Rattle.gr_text.specs.Kept.{BeginsSo};
 ghost use Rattle.plain_run.specs.Sieve.{KnowsOf};
 
 use crate::crew::Crew;
-use crate::repeats::{has_repeats, put_once_behind};
+use crate::repeats::drop_repeats;
 use crate::sieve::Sieve;
 use gr_text::Keep;
 use limits::{MAX_ARCS, MAX_VERTICES};
@@ -59,28 +59,9 @@ impl<'a, C: Crew, A: Allocator + Copy> Keeper<'a, C, A> {
         }
     }
 
-    // Drops the links that have come since and repeat the one before them, if the first few say that there are some. None
-    // after a sieve was made: it counts the links in front.
-    fn drop_repeats(&mut self, links: &mut Vec<Link, A>)
-        requires few { self.old.dropped + length links.old.items ≤ MAX_ARCS }
-        requires known { BeginsSo (KnowsOf self.old.sieve) links.old.items }
-        ensures few { length links.new.items ≤ length links.old.items }
-        ensures cover { IsCoveredBy links.old.items links.new.items }
-        ensures counted { self.old.dropped + length links.old.items ≡ self.new.dropped + length links.new.items }
-        ensures known { BeginsSo (KnowsOf self.new.sieve) links.new.items }
-    {
-        let count = links.len();
-        let seen = self.seen.min(count);
-        if self.sieve.is_some() || !has_repeats(&links.as_slice()[seen..]) {
-            return;
-        }
-        let kept = put_once_behind(links.as_mut_slice(), seen);
-        links.truncate(kept);
-        self.dropped += (count - kept) as u64;
-    }
-
-    // Sifts the links that have come since a sieve was made, once they are some.
-    fn sift(&mut self, vertices: u32, links: &mut Vec<Link, A>)
+    // Drops links that have come since it was asked last: those that repeat the one before them; after a sieve was made, which
+    // counts the links in front, those that it drops, once some have come.
+    fn drop_some(&mut self, vertices: u32, links: &mut Vec<Link, A>)
         requires ends { EndsUpTo vertices links.old.items }
         requires few { self.old.dropped + length links.old.items ≤ MAX_ARCS }
         requires known { BeginsSo (KnowsOf self.old.sieve) links.old.items }
@@ -89,10 +70,12 @@ impl<'a, C: Crew, A: Allocator + Copy> Keeper<'a, C, A> {
         ensures counted { self.old.dropped + length links.old.items ≡ self.new.dropped + length links.new.items }
         ensures known { BeginsSo (KnowsOf self.new.sieve) links.new.items }
     {
+        let count = links.len();
         let Some(mut sieve) = self.sieve.take() else {
+            drop_repeats(links, self.seen.min(count));
+            self.dropped += (count - links.len()) as u64;
             return;
         };
-        let count = links.len();
         let fresh = count - sieve.passed;
         if fresh < BATCH || sieve.vertices() != vertices as usize {
             self.sieve = Some(sieve);
@@ -175,8 +158,7 @@ impl<'a, C: Crew, A: Allocator + Copy> Keep<A> for Keeper<'a, C, A> {
         arcs: u32,
         links: &mut Vec<Link, A>,
     ) -> Result<(), AllocError> {
-        self.drop_repeats(links);
-        self.sift(vertices, links);
+        self.drop_some(vertices, links);
         if links.len() < long_list(vertices as usize, arcs as usize) {
             self.seen = links.len();
             return Ok(());

@@ -5,7 +5,7 @@ ghost use Rattle.links.specs.Link.{EndsUpTo};
 ghost use Rattle.plain_run.specs.Files.{HasFile, MeansGraph, MeansNothing};
 ghost use Rattle.plain_run.specs.Parts.{Adds, ArePartsOf, IsFirstFaultOfPart, IsNoRefusalOfPart, WritesParts};
 
-use crate::crew::{Crew, ManyThreads, OneThread};
+use crate::crew::{Crew, ManyThreads, OneThread, forest_by};
 use crate::fault::{PartFault, RunFault};
 use crate::keeper::{Keeper, many_links};
 use crate::plain::report_of;
@@ -155,7 +155,7 @@ impl<A: Allocator + Copy> Parts<A> {
             ..
         } = self;
         let alloc = *kept.allocator();
-        let Ok(forest) = crew.forest_of(alloc, vertices, kept) else {
+        let Ok(forest) = forest_by(crew, alloc, vertices, kept) else {
             return Err(RunFault::Memory);
         };
         match crew.write(alloc, sink, vertices, &forest) {

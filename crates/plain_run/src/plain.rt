@@ -4,7 +4,7 @@ ghost use Rattle.plain_run.specs.Outcomes.{known};
 ghost use Rattle.plain_run.specs.PlainRun.{RunsPlain, counted_report};
 ghost use Rattle.links.specs.Least.{sum_of_weights};
 
-use crate::crew::{Crew, ManyThreads, OneThread};
+use crate::crew::{Crew, ManyThreads, OneThread, forest_by};
 use crate::fault::RunFault;
 use crate::keeper::Keeper;
 use crate::report::Report;
@@ -51,7 +51,7 @@ fn run<C: Crew, S: Source, W: Sink, A: Allocator + Copy>(
     let n = graph.n();
     let links = graph.into_links();
     let count = keeper.dropped + links.len() as u64;
-    let Ok(forest) = crew.forest_of(alloc, n, links) else {
+    let Ok(forest) = forest_by(crew, alloc, n, links) else {
         return Err(RunFault::Memory);
     };
     match crew.write(alloc, sink, n, &forest) {
@@ -68,7 +68,7 @@ fn run<C: Crew, S: Source, W: Sink, A: Allocator + Copy>(
 /// No spanning forest of the graph weighs less than the total that it reports. The text of a forest is written again as
 /// it is, with the same total. The forest is whole before the first byte is written. For b bytes, m links and n vertices
 /// it takes O(b + m log m + n log n) time, and memory for one list of the links, in which the forest is found, and what
-/// [`link_key::forest_of`] takes beside it. Links that repeat the one before them are dropped as they come, as of edges that
+/// [`link_key::keep_forest`] takes beside it. Links that repeat the one before them are dropped as they come, as of edges that
 /// stand in both directions side by side. If the file states more than 65,536 arcs, and more than 15 a vertex, a list of 10
 /// links a vertex, and of 32,768 or more, becomes its forest before more are read. If a further such list would come, heavy
 /// links whose ends light ones of the forest join are dropped as they come, which takes 4 bytes a vertex.
@@ -92,7 +92,7 @@ pub fn run_plain<S: Source, W: Sink, A: Allocator + Copy>(
 ///
 /// Each step of the run takes as many threads as its work is worth, and goes on with fewer where one can't be made. What
 /// goes out and what is answered is the same for any number, but that the system may refuse memory. It takes the memory of
-/// `run_plain`, and what [`gr_text::read_graph_kept_par`], [`link_key::forest_of_par`] and [`gr_text::write_forest_par`] take
+/// `run_plain`, and what [`gr_text::read_graph_kept_par`], [`link_key::keep_forest_par`] and [`gr_text::write_forest_par`] take
 /// for their threads.
 pub fn run_threads<R: Threads + Sync, S: Source, W: Sink, A: Allocator + Copy>(
     rt: &R,

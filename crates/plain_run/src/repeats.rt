@@ -1,21 +1,36 @@
 //! Links that repeat the one before them: files that write an edge in both directions have these side by side.
 ghost use Rattle.std.specs.Prelude.{◌≡◌, ◌≤◌, take, length, false, Contains};
+ghost use Rattle.links.specs.Covers.{IsCoveredBy};
 ghost use Rattle.links.specs.LinkSet.{SameLinks};
 
 use link_key::Link;
+use std::alloc::Allocator;
 
 // So many links, at the most, tell whether there are repeats.
 const SAMPLE: usize = 64;
 
-/// Whether some of the first few of these repeat the one before them.
-pub(crate) fn has_repeats(links: &[Link]) -> bool {
+/// Drops the links from a place on that repeat the one before them, if the first few of them say that there are some.
+pub(crate) fn drop_repeats<A: Allocator>(links: &mut Vec<Link, A>, from: usize)
+    requires in_range { from ≤ length links.old.items }
+    ensures few { length links.new.items ≤ length links.old.items }
+    ensures cover { IsCoveredBy links.old.items links.new.items }
+{
+    if !has_repeats(&links.as_slice()[from..]) {
+        return;
+    }
+    let kept = put_once_behind(links.as_mut_slice(), from);
+    links.truncate(kept);
+}
+
+// Whether some of the first few of these repeat the one before them.
+fn has_repeats(links: &[Link]) -> bool {
     let few = &links[..links.len().min(SAMPLE)];
     !few.is_sorted_by(|earlier, later| earlier != later)
 }
 
-/// Puts the links from a place on that don't repeat the one before them behind those in front, in their order, and answers
-/// how many are in front then. It takes no branch on the links.
-pub(crate) fn put_once_behind(links: &mut [Link], from: usize) -> usize
+// Puts the links from a place on that don't repeat the one before them behind those in front, in their order, and answers
+// how many are in front then. It takes no branch on the links.
+fn put_once_behind(links: &mut [Link], from: usize) -> usize
     requires in_range { from ≤ length links.old }
     ensures in_range { result ≤ length links.new }
     ensures same { SameLinks (Contains links.old) (Contains (take result links.new)) }

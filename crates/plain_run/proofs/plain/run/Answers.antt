@@ -40,7 +40,7 @@ returns-in_default g c =
 pub returns-in-Ok-write : goal.returns-in-Ok-write
 returns-in-Ok-write g c =
     let (all, kept, read) = c.in-Ok.ensures.outcome in
-    let forest = c.in-Ok-forest_of in
+    let forest = c.in-Ok-forest_by in
     let least = forest_of_all _ _ all _ forest.forest kept (rw c.into_links-links.ensures.links at forest.ensures.forest) in
     let ran =
     done IsLeast _ _ forest.forest _ _ _ _ _ read least c.n-n.ensures.vertices
@@ -57,7 +57,7 @@ returns-in-Ok-write g c =
 pub returns : goal.returns
 returns g c =
     let (all, kept, read) = c.in-Ok.ensures.outcome in
-    let forest = c.in-Ok-forest_of in
+    let forest = c.in-Ok-forest_by in
     let least = forest_of_all _ _ all _ forest.forest kept (rw c.into_links-links.ensures.links at forest.ensures.forest) in
     let whole = with_links all c.in-Ok.graph in
     record {

@@ -6,30 +6,19 @@ use Rattle.plain_run.proofs.keeper.KeeperKeep.keep.Goals as goal
 
 -- what is left covers what came, so it ends within the vertices
 
-pub sift-requires-clause-ends : goal.sift-requires-clause-ends
-sift-requires-clause-ends g c = ends_of_cover c.args.vertices c.args.links.now.items _ c.requires.ends c.drop_repeats.ensures.cover
-
 pub returns-then-len-long_list-clause-ends : goal.returns-then-len-long_list-clause-ends
-returns-then-len-long_list-clause-ends g c =
-    ends_of_cover c.args.vertices c.args.links.now.items _ c.requires.ends (cover_of_cover _ _ _ c.drop_repeats.ensures.cover c.sift.ensures.cover)
-
-pub returns-then-len-long_list-clause-cover : goal.returns-then-len-long_list-clause-cover
-returns-then-len-long_list-clause-cover g c = cover_of_cover _ _ _ c.drop_repeats.ensures.cover c.sift.ensures.cover
+returns-then-len-long_list-clause-ends g c = ends_of_cover c.args.vertices c.args.links.now.items _ c.requires.ends c.drop_some.ensures.cover
 
 pub reduce-requires-clause-ends : goal.reduce-requires-clause-ends
-reduce-requires-clause-ends g c =
-    ends_of_cover c.args.vertices c.args.links.now.items _ c.requires.ends (cover_of_cover _ _ _ c.drop_repeats.ensures.cover c.sift.ensures.cover)
+reduce-requires-clause-ends g c = ends_of_cover c.args.vertices c.args.links.now.items _ c.requires.ends c.drop_some.ensures.cover
 
 pub returns-clause-ends : goal.returns-clause-ends
 returns-clause-ends g c =
-    let sifted = cover_of_cover _ _ _ c.drop_repeats.ensures.cover c.sift.ensures.cover in
-    let within = ends_of_cover c.args.vertices c.args.links.now.items _ c.requires.ends sifted in
-    on_ok_weaker c.reduce.result (λ cover. ends_of_cover c.args.vertices c.sift.new.links.items c.reduce.new.links.items within cover) c.reduce.ensures.cover
+    let within = ends_of_cover c.args.vertices c.args.links.now.items _ c.requires.ends c.drop_some.ensures.cover in
+    on_ok_weaker c.reduce.result (λ cover. ends_of_cover c.args.vertices c.drop_some.new.links.items c.reduce.new.links.items within cover) c.reduce.ensures.cover
 
 pub returns-clause-cover : goal.returns-clause-cover
-returns-clause-cover g c =
-    let sifted = cover_of_cover _ _ _ c.drop_repeats.ensures.cover c.sift.ensures.cover in
-    on_ok_weaker c.reduce.result (λ cover. cover_of_cover _ _ _ sifted cover) c.reduce.ensures.cover
+returns-clause-cover g c = on_ok_weaker c.reduce.result (λ cover. cover_of_cover _ _ _ c.drop_some.ensures.cover cover) c.reduce.ensures.cover
 
 pub returns-clause-counted : goal.returns-clause-counted
-returns-clause-counted g c = on_ok_weaker c.reduce.result (λ counted. c.drop_repeats.ensures.counted ∙ c.sift.ensures.counted ∙ counted) c.reduce.ensures.counted
+returns-clause-counted g c = on_ok_weaker c.reduce.result (λ counted. c.drop_some.ensures.counted ∙ counted) c.reduce.ensures.counted

@@ -5,10 +5,10 @@ use Rattle.links.specs.declared.links.Link.{Link}
 use Rattle.links.proofs.Covers.{same_links_cover}
 use Rattle.links.proofs.InPlace.{written}
 use Rattle.plain_run.proofs.KeptLinks.{covers_itself}
-use Rattle.plain_run.proofs.keeper.Keeper.drop_repeats.Goals as goal
+use Rattle.plain_run.proofs.repeats.drop_repeats.Goals as goal
 
-pub returns-then-is_some-clause-cover : goal.returns-then-is_some-clause-cover
-returns-then-is_some-clause-cover g c = covers_itself c.args.links.now.items
+pub returns-then-not-has_repeats-clause-cover : goal.returns-then-not-has_repeats-clause-cover
+returns-then-not-has_repeats-clause-cover g c = covers_itself c.args.links.now.items
 
 pub returns-clause-cover : goal.returns-clause-cover
 returns-clause-cover g c =
