@@ -1,6 +1,7 @@
 """Runs by several threads, without workers: the same bytes as by one, on one processor too, and where no thread starts."""
 import functools
 import os
+import random
 import resource
 
 from cases.running import SMALL_FOREST, SMALL_NET, SMALL_REPORT, Program, case, drawn_graph, expect, ran, told_by, written
@@ -44,6 +45,31 @@ def threads_of_malformed_files(_room):
         expect(ran(by(threads), b"p sp 2 2\na 1 2 5"), 1, b"", b"boruvka: line 3: MissingArcs\n")
         late = b"p sp 2 300001\n" + 300_000 * b"a 1 2 3\n" + b"a 1 3 3\n"
         expect(ran(by(threads), late), 1, b"", b"boruvka: line 300002: EndOutOfRange\n")
+
+
+@case
+def faults_anywhere_by_threads(room):
+    # the first MiB is one thread's, and what is behind it comes in pieces that threads share
+    file, _ = drawn()
+    lines = file.splitlines(keepends=True)
+    rng, faults = random.Random(5), [(b"x\n", "UnknownLine"), (b"a 1 2\n", "BadArc"), (b"a 1 120001 5\n", "EndOutOfRange"), (b"a 1 2 9223372036854775808\n", "WeightOutOfRange")]
+    for place in [2, len(lines) - 1, *(rng.randrange(2, len(lines)) for _ in range(10))]:
+        line, kind = rng.choice(faults)
+        name = written(f"{room}/faulty.gr", b"".join([*lines[:place], line, *lines[place + 1 :]]))
+        for threads in [2, 4, 64]:
+            expect(ran([*by(threads), name]), 1, b"", b"boruvka: line %d: %s\n" % (place + 1, kind.encode()))
+
+
+@case
+def threads_with_small_stacks(room):
+    name, text = large_net(room)
+    for size in [128 << 10, 1 << 20]:
+
+        def limit(size=size):
+            resource.setrlimit(resource.RLIMIT_STACK, (size, size))
+
+        for threads in THREADS:
+            expect(ran([*by(threads), name], preexec_fn=limit), 0, text, b"")
 
 
 @case
