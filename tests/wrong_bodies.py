@@ -211,7 +211,9 @@ def verdict(edit, texts, said):
 
 
 def say(line):
-    print(line, flush=True)
+    # (in one call: `print` writes the line and its end apart, and another thread may write between them)
+    sys.stdout.write(f"{line}\n")
+    sys.stdout.flush()
 
 
 def edits_of(crate, folders, texts, count):
