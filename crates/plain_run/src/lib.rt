@@ -2,10 +2,10 @@
 //! several; and what every run answers: its report, or its fault.
 //!
 //! ```text
-//!     Source --read_graph_kept--> Graph --forest_of--> Forest --write_forest--> Sink   run_plain
-//!     Source ---------- the same steps, each by several threads ---------------> Sink   run_threads
-//!     bytes  ------------------------ the same, in memory ---------------------> Vec    plain_text
-//!     Sources --Parts::add, one after the other--> Parts --Parts::write--------> Sink
+//!     Source --read_graph_kept--> Graph --keep_forest--> Forest --write_forest--> Sink   run_plain
+//!     Source ----------- the same steps, each by several threads ----------------> Sink   run_threads
+//!     bytes  ------------------------- the same, in memory ----------------------> Vec    plain_text
+//!     Sources --Parts::add, one after the other--> Parts --Parts::write----------> Sink
 //! ```
 //!
 //! While a file is read, links that repeat the one before them are dropped (`repeats`). Of many arcs a long list of links
