@@ -125,6 +125,20 @@ def expect_refused(room, command, name, rows, line, told):
 
 
 @case
+def ways_between_what_is_no_vertex(room):
+    """They are refused, as is a graph that can't be read; no length is told."""
+    for room in awk_rooms(room):
+        recipe(room, "A bottleneck")
+        for file, start, goal, told in [
+            *(("roads.gr", *it, "start and goal are vertices, 1 to 10\n") for it in [(11, 12), (1, 11), (0, 8), (11, 11), (1, "x"), ("01", 1), ("", ""), ("1 ", 1)]),
+            ("none.gr", 1, 8, "boruvka: cannot open examples/none.gr\n"),
+        ]:
+            found = pasted(room, f"boruvka --plain examples/{file} | awk -v start='{start}' -v goal='{goal}' -f bottleneck.awk")
+            if found != (1, told):
+                raise AssertionError(f"from {start} to {goal}: wanted {told!r}, found {found!r:.600}")
+
+
+@case
 def weights_that_the_recipes_refuse(room):
     wrong = ["1,9", "x7", "7x", "", "0.755", "1e3", "nan", "0x1F", "-", ".", "1.", ".5", "+1", "1.2.3", "--1", "1 2", "1.-5", "\u0661"]
     for room in awk_rooms(room):
