@@ -139,6 +139,29 @@ def ways_between_what_is_no_vertex(room):
 
 
 @case
+def counts_that_the_recipes_refuse(room):
+    """A count that is mistyped or missing has no answer: neither other clusters, nor weights whose point has moved."""
+    for room in awk_rooms(room):
+        recipe(room, "Clusters")
+        recipe(room, "Decimal weights")
+        csv = recipe(room, "A CSV with ids")[0]
+        for count in ["O4", "4x", "2,5", "1.5", "-2", "two", ""]:
+            for command, name in [
+                (f"awk -v clusters='{count}' -f clusters.awk forest.gr", "clusters"),
+                (f"awk -v digits='{count}' -f point.awk -f whole.awk decimals.gr", "digits"),
+                (f"awk -v digits='{count}' -f point.awk -f decimal.awk forest.gr", "digits"),
+                (csv.replace("digits=2", f"digits='{count}'"), "digits"),
+            ]:
+                status, output = pasted(room, command)
+                if not status or not re.fullmatch(rf"{name} is a count, as in -v {name}=\d\n", output):
+                    raise AssertionError(f"{command}: {(status, output)!r:.600}")
+        for count in ["0", "00"]:
+            status, output = pasted(room, f"awk -v clusters={count} -f clusters.awk forest.gr")
+            if not status or not output.startswith("clusters is a count"):
+                raise AssertionError(f"{count} clusters: {(status, output)!r:.600}")
+
+
+@case
 def weights_that_the_recipes_refuse(room):
     wrong = ["1,9", "x7", "7x", "", "0.755", "1e3", "nan", "0x1F", "-", ".", "1.", ".5", "+1", "1.2.3", "--1", "1 2", "1.-5", "\u0661"]
     for room in awk_rooms(room):
