@@ -222,6 +222,25 @@ def decimals_that_no_float_tells_apart(room):
 
 
 @case
+def names_in_files_of_others(room):
+    """A byte order mark, tabs, line ends of two bytes and a last line without one are no part of a name; a column more is refused."""
+    trains = ["Brno Praha 205", "Brno\tOlomouc 80", "Olomouc Praha 250", "Wien Brno 9007199254740993", "Wien  Brno 9007199254740992"]
+    wanted = "Brno Olomouc 80\nBrno Praha 205\nBrno Wien 9007199254740992\n"
+    for room in awk_rooms(room):
+        [show] = recipe(room, "Names in place of numbers")
+        number = "awk -f number.awk trains.txt > trains.gr"
+        for text in ["\n".join([*trains, ""]), "\ufeff" + "\r\n".join(trains)]:
+            for locale in ["C", "C.UTF-8"]:
+                with open(f"{room}/trains.txt", "w", encoding="utf-8", newline="") as it:
+                    it.write(text)
+                found = pasted(room, f"export LC_ALL={locale}; {number} && {show}")
+                if found != (0, wanted):
+                    raise AssertionError(f"{text!r}: wanted {wanted!r}, found {found!r:.600}")
+        for row in ["Brno Praha 205 180", "New York 5 7", "Brno Praha", "Brno", ""]:
+            expect_refused(room, number, "trains.txt", [trains[0], row], 2, row)
+
+
+@case
 def the_ids_of_a_drawn_csv(room):
     # no two lengths are equal, so that the forest is the same however names are numbered
     draw = random.Random(79)
