@@ -241,6 +241,27 @@ def names_in_files_of_others(room):
 
 
 @case
+def the_links_that_a_picture_draws_black(room):
+    """They are the forest's, however the file spells them: by hand."""
+    net = [("1", "2", "9007199254740993"), ("1", "02", "9007199254740992"), ("3", "2", "-007"), ("3", "3", "5"), ("9", "10", "05")]
+    black = ["1 -- 2 [label=9007199254740992", "2 -- 3 [label=-7", "9 -- 10 [label=5"]
+    grey = ["1 -- 2 [label=9007199254740993", "3 -- 3 [label=5"]
+    draw = blocks_of("docs/RECIPES.md", "A picture")[0][1]
+    for room in awk_rooms(room):
+        pasted(room, draw)
+        for end in ["\n", "\r\n"]:
+            with open(f"{room}/examples/roads.gr", "w", encoding="utf-8", newline="") as it:
+                it.write(end.join([f"p sp 10 {len(net)}", *(" ".join(("a", *it)) for it in net), ""]))
+            if pasted(room, draw) != (0, ""):
+                raise AssertionError(f"{pasted(room, draw)!r:.600}")
+            with open(f"{room}/roads.dot", encoding="utf-8", newline="") as it:
+                lines = it.read().split("\n")
+            found = [sorted(it.split(",")[0] for it in lines if ink in it) for ink in ("penwidth=3", "grey60")]
+            if found != [black, grey]:
+                raise AssertionError(f"wanted {[black, grey]}, found {found}")
+
+
+@case
 def the_ids_of_a_drawn_csv(room):
     # no two lengths are equal, so that the forest is the same however names are numbered
     draw = random.Random(79)
