@@ -222,6 +222,30 @@ def decimals_that_no_float_tells_apart(room):
 
 
 @case
+def weights_as_the_program_reads_them(room):
+    """Wherever a carriage return stands, a weight is turned or has its point moved; what is no weight is refused."""
+    for room in awk_rooms(room):
+        [turned] = recipe(room, "A maximum spanning forest")
+        [scaled] = recipe(room, "Decimal weights")
+        for end in ["\n", "\r\n", "\n\r"]:
+            rows = ["p sp 4 5", "a 1 2 5", "a 2 3 -0", "a 1 3\t0", "a 3 4 -9223372036854775807", "a 4 1 -9223372036854775806"]
+            with open(f"{room}/examples/roads.gr", "w", encoding="utf-8", newline="") as it:
+                it.write("".join(f"{row}{end}" for row in rows))
+            wanted = "p sp 4 3\na 1 2 5\na 1 3 0\na 1 4 -9223372036854775806\n"
+            if pasted(room, turned) != (0, wanted):
+                raise AssertionError(f"{end!r}: wanted {wanted!r}, found {pasted(room, turned)!r:.600}")
+            with open(f"{room}/decimals.gr", "w", encoding="utf-8", newline="") as it:
+                it.write("".join(f"{row}{end}" for row in ["p sp 3 3", "a 1 2 5", "a 2 3 4", "a 1 3 4.5"]))
+            if pasted(room, scaled) != (0, "p sp 3 2\na 2 3 4.00\na 1 3 4.50\n"):
+                raise AssertionError(f"{end!r}: {pasted(room, scaled)!r:.600}")
+        for weight in ["--5", "-+5", "+5", "-", "--", "5x", "-x", "0x5", "1e3", ".5", "5 5", ""]:
+            with open(f"{room}/examples/roads.gr", "w", encoding="utf-8") as it:
+                it.write(f"p sp 2 1\na 1 2 {weight}\n")
+            if pasted(room, turned) != (0, "boruvka: line 2: BadArc\n"):
+                raise AssertionError(f"{weight}: {pasted(room, turned)!r:.600}")
+
+
+@case
 def names_in_files_of_others(room):
     """A byte order mark, tabs, line ends of two bytes and a last line without one are no part of a name; a column more is refused."""
     trains = ["Brno Praha 205", "Brno\tOlomouc 80", "Olomouc Praha 250", "Wien Brno 9007199254740993", "Wien  Brno 9007199254740992"]
