@@ -189,10 +189,18 @@ def lines_that_the_recipe_of_a_csv_refuses(room):
             ([head, "p1,Old Mill,Gate,1,2"], 2),
             ([head, "p1,Old Mill,Gate,1", ""], 3),
             ([head, 'p1,"Old Mill",Gate,1'], 2),
+            ([head, "p1,Old Mill,Gate,1", "p2,Old Mill ,Gate,0"], 3),
+            ([head, "p1, Old Mill,Gate,1"], 2),
+            ([head, "p1,Old Mill, ,1"], 2),
+            ([head, "p\t1,Old Mill,Gate,1"], 2),
+            ([head, "p1,Old Mill,\tGate,1"], 2),
             ([head, 'p1,"Mill, old",Gate,1'], 2),
             (["id;from;to;metres", "p1;Old Mill;Gate;1"], 1),
         ]:
             expect_refused(room, plain, "pipes.csv", rows, line, rows[line - 1])
+        # (csv takes a quote behind a space for a part of the field)
+        for row, told in [('p1, "Old Mill",Gate,1', 'p1\t "Old Mill"\tGate\t1'), ('p1,"Old Mill","Gate ",1', "p1\tOld Mill\tGate \t1")]:
+            expect_refused(room, quoted, "quoted.csv", [head, row], 2, told)
         for row in ['p1,"Old\tMill",Gate,1', 'p1,"Old\nMill",Gate,1', 'p1,"Old\r\nMill",Gate,1']:
             fields = str(["p1", row.split('"')[1], "Gate", "1"])
             expect_refused(room, quoted, "quoted.csv", [head, row], 2, fields)
