@@ -294,6 +294,20 @@ def the_links_that_a_picture_draws_black(room):
 
 
 @case
+def points_of_any_unit(room):
+    """The clusters of points don't depend on the unit, from far below one to far past it: by hand."""
+    recipe(room, "Clusters")
+    recipe(room, "Points")
+    for unit in ["1e-300", "1e-9", "0.0001", "1", "1e6", "1e15", "1e100"]:
+        with open(f"{room}/points.csv", "w", encoding="utf-8") as it:
+            it.write("".join(f"{float(unit) * x!r},{float(unit) * y!r}\n" for x, y in [(0, 0), (3, 4), (30, 0), (33, -4.001), (30, 3)]))
+        for clusters, wanted in [(2, [1, 1, 3, 3, 3]), (3, [1, 1, 3, 4, 3]), (4, [1, 2, 3, 4, 3])]:
+            found = pasted(room, f"python3 nearest.py 4 < points.csv | boruvka --plain | awk -v clusters={clusters} -f clusters.awk")
+            if found != (0, "".join(f"{point} {least}\n" for point, least in enumerate(wanted, 1))):
+                raise AssertionError(f"{clusters} clusters, a unit of {unit}: {found!r:.600}")
+
+
+@case
 def the_ids_of_a_drawn_csv(room):
     # no two lengths are equal, so that the forest is the same however names are numbered
     draw = random.Random(79)
