@@ -10,7 +10,7 @@ import subprocess
 import sys
 
 from cases.embedding import libraries
-from cases.running import ROOT, SECONDS, Components, Program, case, expect, forest_of, forest_text, ran, run
+from cases.running import ROOT, SECONDS, Components, Program, case, expect, forest_of, forest_text, ran, run, written
 
 sys.path.insert(0, f"{ROOT}/tools")
 
@@ -305,6 +305,18 @@ def points_of_any_unit(room):
             found = pasted(room, f"python3 nearest.py 4 < points.csv | boruvka --plain | awk -v clusters={clusters} -f clusters.awk")
             if found != (0, "".join(f"{point} {least}\n" for point, least in enumerate(wanted, 1))):
                 raise AssertionError(f"{clusters} clusters, a unit of {unit}: {found!r:.600}")
+
+
+@case
+def points_that_lie_nowhere(room):
+    """They are refused at once: some kept the search going, or had another point's neighbours."""
+    recipe(room, "Clusters")
+    recipe(room, "Points")
+    for rows in ["0,0 1,nan", "nan,0 1,1", "0,inf 1,1", "-inf,0 1,1", "1e200,1e200 -1e200,0", "1e308,0 -1e308,0"]:
+        written(f"{room}/points.csv", rows.replace(" ", "\n").encode())
+        found = pasted(room, "timeout 10 python3 nearest.py 1 < points.csv")
+        if found != (1, "coordinates are finite, and at most 1e150\n"):
+            raise AssertionError(f"{rows}: {found!r:.600}")
 
 
 @case
