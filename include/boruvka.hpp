@@ -21,6 +21,7 @@
 #else
 
 #include <algorithm>
+#include <cstddef>
 #include <cstdint>
 #include <stdexcept>
 #include <string>
@@ -39,7 +40,7 @@ struct refused : std::runtime_error {
 
     static std::string text_of(std::int64_t code) {
         char text[64];
-        return std::string(text, std::min(boruvka_fault_text(code, text, sizeof text), sizeof text - 1));
+        return std::string(text, std::min<std::size_t>(boruvka_fault_text(code, text, sizeof text), sizeof text - 1));
     }
 };
 

@@ -216,6 +216,20 @@ def the_header_for_spans_says_what_it_needs(_room):
 
 
 @case
+def the_headers_stand_behind_macros_of_common_names(_room):
+    """Those of headers of other systems, after the library's own headers, and so that each header is read twice."""
+    names = ["#define min(a, b) ((a) < (b) ? (a) : (b))", "#define max(a, b) ((a) > (b) ? (a) : (b))", "#define small char", "#define linux 1", "#define interface struct"]
+    before = ["algorithm", "cstddef", "cstdint", "span", "stdexcept", "string", "type_traits", "vector"]
+    words = ["-Wall", "-Wextra", "-pedantic", "-Werror", INCLUDE, "-fsyntax-only", "-x"]
+    for of, language, header, standard, earlier in [
+        *((it, "c", "boruvka.h", "-std=c99", []) for it in ("gcc", "clang")), *((it, "c++", "boruvka.hpp", "-std=c++20", before) for it in ("g++", "clang++")),
+    ]:
+        if shutil.which(of):
+            lines = [*(f"#include <{it}>" for it in earlier), *names, *[f"#include <{header}>"] * 2, "int main(void) { return 0; }", ""]
+            expect(run([of, *words, language, standard, "-"], "\n".join(lines).encode()), 0, b"", b"")
+
+
+@case
 def its_names_stand_beside_those_of_the_system(_room):
     source = b"""#include <%s>
 #include <%s>
