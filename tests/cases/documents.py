@@ -388,6 +388,14 @@ def a_graph_in_parts_is_the_same_graph(room):
             wanted = forest_text(30, forest_of(30, arcs)).decode()
             if pasted(room, f"sh parts.sh drawn.gr {size} && boruvka --plain part.*.gr") != (0, wanted):
                 raise AssertionError(f"{size} lines a part: another forest")
+            # a name that awk or split would take for a word of theirs: the vertices aren't those of standard input
+            for name in ["n=5.gr", "-n.gr"]:
+                for part in glob.glob(f"{room}/part.*"):
+                    os.remove(part)
+                shutil.copy(f"{room}/drawn.gr", f"{room}/{name}")
+                found = pasted(room, f"printf 'p sp 99 0\\n' | sh parts.sh {name} {size} && boruvka --plain part.*.gr")
+                if found != (0, wanted):
+                    raise AssertionError(f"{name}: {found!r:.600}")
             # what is there isn't joined to another file's parts
             if pasted(room, f"sh parts.sh drawn.gr {size}") != (1, "part.aa.gr is there\n"):
                 raise AssertionError("parts were written beside others")
