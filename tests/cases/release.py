@@ -514,6 +514,16 @@ def the_same_files_make_the_same_packages(room):
 
 
 @case
+def times_that_no_package_can_have(room):
+    """They are refused before anything is packed."""
+    said = "SOURCE_DATE_EPOCH is %s, and a wheel has times from 1980 to 2106 alone"
+    for at, why in [("0", said), ("315532799", said), ("-5", said), ("4323283200", said), ("abc", "SOURCE_DATE_EPOCH isn't a whole number of seconds"), ("1.5", "SOURCE_DATE_EPOCH isn't a whole number of seconds")]:
+        told = f"tools/dist.py: {why % at if '%' in why else why}\n".encode()
+        expect(run([sys.executable, f"{ROOT}/tools/dist.py", f"{room}/packed"], env={**KIT, "SOURCE_DATE_EPOCH": at}), 1, b"", told)
+        is_so(os.path.exists(f"{room}/packed"), False)
+
+
+@case
 def the_packed_folder_is_whole_and_runs(room):
     name = f"boruvka-{version()}-x86_64-linux"
     content = packed(f"{room}/packed")[f"{name}.tar.gz"]
