@@ -106,6 +106,19 @@ def the_recipes(room):
             raise AssertionError(f"the recipes leave {left}")
 
 
+@case
+def a_clean_up_without_parts(room):
+    """In zsh a pattern that matches nothing takes its command along, and no other."""
+    _, last = blocks_of("docs/RECIPES.md")[-1]
+    for shell in filter(shutil.which, ["sh", "bash", "zsh"]):
+        names = set(re.findall(r"\w+\.\w+", last)) - {"part."}
+        for name in names:
+            written(f"{room}/{name}", b"")
+        run([shell, "-c", last], cwd=room)
+        if os.listdir(room):
+            raise AssertionError(f"{shell} leaves {os.listdir(room)}")
+
+
 def recipe(room, *headings):
     """Makes the files of these recipes, and answers the commands of the last that show something."""
     commands = [it for heading in headings for language, block in blocks_of("docs/RECIPES.md", heading) for it in shown(language, block)]
