@@ -312,7 +312,7 @@ def cmake_finds_the_libraries(room):
         return run(["cmake", f"-DCMAKE_PREFIX_PATH={prefix}", "-S", top, "-B", f"{room}/made"], env=PLAIN)
 
     later = f"{int(major()) + 1}.0"
-    for asked in (later, "0.9", f"{major()}.999"):
+    for asked in (later, "0.9", f"{major()}.999", f"{major()}.0...<{version()}", f"{major()}.0...{major()}.0.5"):
         status, _, errors = configured(asked)
         is_so((asked, status != 0, b"boruvka" in errors), (asked, True, True))
     for asked in ("", major(), version(), f"{version()} EXACT"):
