@@ -21,6 +21,7 @@
 #else
 
 #include <algorithm>
+#include <cstddef>
 #include <cstdint>
 #include <stdexcept>
 #include <string>
@@ -39,7 +40,7 @@ struct refused : std::runtime_error {
 
     static std::string text_of(std::int64_t code) {
         char text[64];
-        return std::string(text, std::min(boruvka_fault_text(code, text, sizeof text), sizeof text - 1));
+        return std::string(text, std::min<std::size_t>(boruvka_fault_text(code, text, sizeof text), sizeof text - 1));
     }
 };
 
@@ -47,6 +48,11 @@ struct refused : std::runtime_error {
 template <class T> T *first_of(std::span<T> all) {
     static std::remove_const_t<T> none{};
     return all.empty() ? &none : all.data();
+}
+
+/* A number of vertices for a call: one past 32 bits, as a negative one is, stays too many. */
+inline std::uint32_t of_32_bits(std::uint64_t n) {
+    return static_cast<std::uint32_t>(std::min<std::uint64_t>(n, UINT32_MAX));
 }
 
 /* The sum of the links' weights. */
@@ -68,37 +74,39 @@ template <class T> T refuse(std::int64_t code) { throw refused(code); }
 #endif
 
 /* The minimum spanning forest of links between the vertices 1 to n, which stands first among them then. */
-inline answer<std::span<boruvka_link>> forest(std::uint32_t n, std::span<boruvka_link> links) {
-    const std::int64_t count = boruvka_forest(n, first_of(links), links.size());
+inline answer<std::span<boruvka_link>> forest(std::uint64_t n, std::span<boruvka_link> links) {
+    const std::int64_t count = boruvka_forest(of_32_bits(n), first_of(links), links.size());
     if (count < 0) return refuse<std::span<boruvka_link>>(count);
     return links.first(static_cast<std::size_t>(count));
 }
 
 /* The places of its links among the arcs from u[i] to v[i] of weight w[i], between the vertices base to base + n - 1. */
-inline answer<std::vector<std::uint32_t>> places(std::uint32_t n, std::uint32_t base, std::span<const std::uint32_t> u,
+inline answer<std::vector<std::uint32_t>> places(std::uint64_t n, std::uint64_t base, std::span<const std::uint32_t> u,
                                                  std::span<const std::uint32_t> v, std::span<const std::int64_t> w) {
-    std::vector<std::uint32_t> found(std::min<std::size_t>(u.size(), n > 0 ? n - 1 : 0));
-    const std::int64_t count = boruvka_places_in(n, base, first_of(u), u.size(), first_of(v), v.size(), first_of(w), w.size(),
-                                                 first_of(std::span(found)), found.size());
+    /* no end is a vertex past 32 bits */
+    if (base > UINT32_MAX && n <= BORUVKA_MAX_VERTICES) n = 0;
+    std::vector<std::uint32_t> found(std::min<std::uint64_t>(u.size(), n > 0 ? n - 1 : 0));
+    const std::int64_t count = boruvka_places_in(of_32_bits(n), of_32_bits(base), first_of(u), u.size(), first_of(v), v.size(),
+                                                 first_of(w), w.size(), first_of(std::span(found)), found.size());
     if (count < 0) return refuse<std::vector<std::uint32_t>>(count);
     found.resize(static_cast<std::size_t>(count));
     return found;
 }
 
 /* The least vertex of each vertex's component under links that close no cycle, that of vertex v at v - 1. */
-inline answer<std::vector<std::uint32_t>> labels(std::uint32_t n, std::span<const boruvka_link> links) {
+inline answer<std::vector<std::uint32_t>> labels(std::uint64_t n, std::span<const boruvka_link> links) {
     if (n > BORUVKA_MAX_VERTICES) return refuse<std::vector<std::uint32_t>>(BORUVKA_TOO_MANY_VERTICES);
     std::vector<std::uint32_t> found(n);
-    const std::int64_t count = boruvka_labels(n, first_of(links), links.size(), first_of(std::span(found)));
+    const std::int64_t count = boruvka_labels(of_32_bits(n), first_of(links), links.size(), first_of(std::span(found)));
     if (count < 0) return refuse<std::vector<std::uint32_t>>(count);
     return found;
 }
 
 /* The merges of the clusters of n points by links that close no cycle, in ascending order of weight, as boruvka_merges has
  * them. */
-inline answer<std::vector<boruvka_merge>> merges(std::uint32_t n, std::span<const boruvka_link> links) {
+inline answer<std::vector<boruvka_merge>> merges(std::uint64_t n, std::span<const boruvka_link> links) {
     std::vector<boruvka_merge> found(links.size());
-    const std::int64_t count = boruvka_merges(n, first_of(links), links.size(), first_of(std::span(found)));
+    const std::int64_t count = boruvka_merges(of_32_bits(n), first_of(links), links.size(), first_of(std::span(found)));
     if (count < 0) return refuse<std::vector<boruvka_merge>>(count);
     return found;
 }

@@ -106,6 +106,7 @@ boruvka: link-to-shared-library-in-wrong-package *
 # What any Linux of the wheel's tag has: the policy manylinux2014 (PEP 599).
 TAG = "py3-none-manylinux2014_x86_64"
 MOST_GLIBC = (2, 17)
+TIMES = (315_532_800, 4_323_283_200)  # from 1980 on, and before 2107: a .zip has no others
 OF_MANYLINUX = {"libc.so.6", "libm.so.6", "libpthread.so.0", "libdl.so.2", "libgcc_s.so.1", "ld-linux-x86-64.so.2"}
 METADATA = """\
 Metadata-Version: 2.1
@@ -173,9 +174,14 @@ class Release:
 
     def __init__(self, program, libraries):
         self.program, self.libraries = program, libraries
-        self.version, self.seconds = version(), seconds()
+        try:
+            self.version, self.seconds = version(), seconds()
+        except ValueError:
+            raise NotPacked("SOURCE_DATE_EPOCH isn't a whole number of seconds") from None
         if self.seconds is None:
             raise NotPacked("the time of the commit isn't known: set SOURCE_DATE_EPOCH")
+        if not TIMES[0] <= self.seconds < TIMES[1]:
+            raise NotPacked(f"SOURCE_DATE_EPOCH is {self.seconds}, and a wheel has times from 1980 to 2106 alone")
 
     def install(self, root, prefix, **folders):
         """What `make install` copies, below a root; all of it has to be there."""

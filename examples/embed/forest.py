@@ -7,6 +7,7 @@ Without a word it takes the shared library that the system's loader finds (after
     python3 forest.py PREFIX/lib/libboruvka.so.1
 """
 import ctypes
+import re
 import sys
 from array import array
 
@@ -28,8 +29,13 @@ def loaded(path):
 
 def forest(library, n, links):
     """The forest of links in a writable buffer, as an array or numpy has it: they are first in it then."""
-    size = ctypes.sizeof(Link)
-    held = (Link * (memoryview(links).nbytes // size)).from_buffer(links)
+    size, view = ctypes.sizeof(Link), memoryview(links)
+    # ctypes would cut n to 32 bits, and read floats as whole numbers (a name stands between colons)
+    if not 0 <= n < 2**32:
+        raise ValueError(f"{n} vertices")
+    if re.sub("[<=]|:[^:]*:", "", view.format) not in ("q", "l", "T{qII}", "T{lII}") or view.nbytes % size:
+        raise ValueError(f"links of the layout {view.format}, of {view.nbytes} bytes")
+    held = (Link * (view.nbytes // size)).from_buffer(links)
     count = library.boruvka_forest(n, ctypes.addressof(held), len(held))
     if count < 0:
         text = ctypes.create_string_buffer(64)

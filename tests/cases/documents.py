@@ -10,7 +10,7 @@ import subprocess
 import sys
 
 from cases.embedding import libraries
-from cases.running import ROOT, SECONDS, Components, Program, case, expect, forest_of, forest_text, ran, run
+from cases.running import ROOT, SECONDS, Components, Program, case, expect, forest_of, forest_text, ran, run, written
 
 sys.path.insert(0, f"{ROOT}/tools")
 
@@ -106,6 +106,19 @@ def the_recipes(room):
             raise AssertionError(f"the recipes leave {left}")
 
 
+@case
+def a_clean_up_without_parts(room):
+    """In zsh a pattern that matches nothing takes its command along, and no other."""
+    _, last = blocks_of("docs/RECIPES.md")[-1]
+    for shell in filter(shutil.which, ["sh", "bash", "zsh"]):
+        names = set(re.findall(r"\w+\.\w+", last)) - {"part."}
+        for name in names:
+            written(f"{room}/{name}", b"")
+        run([shell, "-c", last], cwd=room)
+        if os.listdir(room):
+            raise AssertionError(f"{shell} leaves {os.listdir(room)}")
+
+
 def recipe(room, *headings):
     """Makes the files of these recipes, and answers the commands of the last that show something."""
     commands = [it for heading in headings for language, block in blocks_of("docs/RECIPES.md", heading) for it in shown(language, block)]
@@ -122,6 +135,43 @@ def expect_refused(room, command, name, rows, line, told):
     status, output = pasted(room, command)
     if not status or not re.fullmatch(rf"line {line}: {re.escape(told)}: [^\n]+\n", output):
         raise AssertionError(f"{command}    {rows}\n    wanted line {line}, found {(status, output)!r:.900}")
+
+
+@case
+def ways_between_what_is_no_vertex(room):
+    """They are refused, as is a graph that can't be read; no length is told."""
+    for room in awk_rooms(room):
+        recipe(room, "A bottleneck")
+        for file, start, goal, told in [
+            *(("roads.gr", *it, "start and goal are vertices, 1 to 10\n") for it in [(11, 12), (1, 11), (0, 8), (11, 11), (1, "x"), ("01", 1), ("", ""), ("1 ", 1)]),
+            ("none.gr", 1, 8, "boruvka: cannot open examples/none.gr\n"),
+        ]:
+            found = pasted(room, f"boruvka --plain examples/{file} | awk -v start='{start}' -v goal='{goal}' -f bottleneck.awk")
+            if found != (1, told):
+                raise AssertionError(f"from {start} to {goal}: wanted {told!r}, found {found!r:.600}")
+
+
+@case
+def counts_that_the_recipes_refuse(room):
+    """A count that is mistyped or missing has no answer: neither other clusters, nor weights whose point has moved."""
+    for room in awk_rooms(room):
+        recipe(room, "Clusters")
+        recipe(room, "Decimal weights")
+        csv = recipe(room, "A CSV with ids")[0]
+        for count in ["O4", "4x", "2,5", "1.5", "-2", "two", ""]:
+            for command, name in [
+                (f"awk -v clusters='{count}' -f clusters.awk forest.gr", "clusters"),
+                (f"awk -v digits='{count}' -f point.awk -f whole.awk decimals.gr", "digits"),
+                (f"awk -v digits='{count}' -f point.awk -f decimal.awk forest.gr", "digits"),
+                (csv.replace("digits=2", f"digits='{count}'"), "digits"),
+            ]:
+                status, output = pasted(room, command)
+                if not status or not re.fullmatch(rf"{name} is a count, as in -v {name}=\d\n", output):
+                    raise AssertionError(f"{command}: {(status, output)!r:.600}")
+        for count in ["0", "00"]:
+            status, output = pasted(room, f"awk -v clusters={count} -f clusters.awk forest.gr")
+            if not status or not output.startswith("clusters is a count"):
+                raise AssertionError(f"{count} clusters: {(status, output)!r:.600}")
 
 
 @case
@@ -152,10 +202,18 @@ def lines_that_the_recipe_of_a_csv_refuses(room):
             ([head, "p1,Old Mill,Gate,1,2"], 2),
             ([head, "p1,Old Mill,Gate,1", ""], 3),
             ([head, 'p1,"Old Mill",Gate,1'], 2),
+            ([head, "p1,Old Mill,Gate,1", "p2,Old Mill ,Gate,0"], 3),
+            ([head, "p1, Old Mill,Gate,1"], 2),
+            ([head, "p1,Old Mill, ,1"], 2),
+            ([head, "p\t1,Old Mill,Gate,1"], 2),
+            ([head, "p1,Old Mill,\tGate,1"], 2),
             ([head, 'p1,"Mill, old",Gate,1'], 2),
             (["id;from;to;metres", "p1;Old Mill;Gate;1"], 1),
         ]:
             expect_refused(room, plain, "pipes.csv", rows, line, rows[line - 1])
+        # (csv takes a quote behind a space for a part of the field)
+        for row, told in [('p1, "Old Mill",Gate,1', 'p1\t "Old Mill"\tGate\t1'), ('p1,"Old Mill","Gate ",1', "p1\tOld Mill\tGate \t1")]:
+            expect_refused(room, quoted, "quoted.csv", [head, row], 2, told)
         for row in ['p1,"Old\tMill",Gate,1', 'p1,"Old\nMill",Gate,1', 'p1,"Old\r\nMill",Gate,1']:
             fields = str(["p1", row.split('"')[1], "Gate", "1"])
             expect_refused(room, quoted, "quoted.csv", [head, row], 2, fields)
@@ -182,6 +240,96 @@ def decimals_that_no_float_tells_apart(room):
             it.write("c a line more\np sp 2 1\na 1 2 92233720368547758.08\n")
         if pasted(room, command) != (1, "boruvka: line 3: WeightOutOfRange\n"):
             raise AssertionError(pasted(room, command))
+
+
+@case
+def weights_as_the_program_reads_them(room):
+    """Wherever a carriage return stands, a weight is turned or has its point moved; what is no weight is refused."""
+    for room in awk_rooms(room):
+        [turned] = recipe(room, "A maximum spanning forest")
+        [scaled] = recipe(room, "Decimal weights")
+        for end in ["\n", "\r\n", "\n\r"]:
+            rows = ["p sp 4 5", "a 1 2 5", "a 2 3 -0", "a 1 3\t0", "a 3 4 -9223372036854775807", "a 4 1 -9223372036854775806"]
+            with open(f"{room}/examples/roads.gr", "w", encoding="utf-8", newline="") as it:
+                it.write("".join(f"{row}{end}" for row in rows))
+            wanted = "p sp 4 3\na 1 2 5\na 1 3 0\na 1 4 -9223372036854775806\n"
+            if pasted(room, turned) != (0, wanted):
+                raise AssertionError(f"{end!r}: wanted {wanted!r}, found {pasted(room, turned)!r:.600}")
+            with open(f"{room}/decimals.gr", "w", encoding="utf-8", newline="") as it:
+                it.write("".join(f"{row}{end}" for row in ["p sp 3 3", "a 1 2 5", "a 2 3 4", "a 1 3 4.5"]))
+            if pasted(room, scaled) != (0, "p sp 3 2\na 2 3 4.00\na 1 3 4.50\n"):
+                raise AssertionError(f"{end!r}: {pasted(room, scaled)!r:.600}")
+        for weight in ["--5", "-+5", "+5", "-", "--", "5x", "-x", "0x5", "1e3", ".5", "5 5", ""]:
+            with open(f"{room}/examples/roads.gr", "w", encoding="utf-8") as it:
+                it.write(f"p sp 2 1\na 1 2 {weight}\n")
+            if pasted(room, turned) != (0, "boruvka: line 2: BadArc\n"):
+                raise AssertionError(f"{weight}: {pasted(room, turned)!r:.600}")
+
+
+@case
+def names_in_files_of_others(room):
+    """A byte order mark, tabs, line ends of two bytes and a last line without one are no part of a name; a column more is refused."""
+    trains = ["Brno Praha 205", "Brno\tOlomouc 80", "Olomouc Praha 250", "Wien Brno 9007199254740993", "Wien  Brno 9007199254740992"]
+    wanted = "Brno Olomouc 80\nBrno Praha 205\nBrno Wien 9007199254740992\n"
+    for room in awk_rooms(room):
+        [show] = recipe(room, "Names in place of numbers")
+        number = "awk -f number.awk trains.txt > trains.gr"
+        for text in ["\n".join([*trains, ""]), "\ufeff" + "\r\n".join(trains)]:
+            for locale in ["C", "C.UTF-8"]:
+                with open(f"{room}/trains.txt", "w", encoding="utf-8", newline="") as it:
+                    it.write(text)
+                found = pasted(room, f"export LC_ALL={locale}; {number} && {show}")
+                if found != (0, wanted):
+                    raise AssertionError(f"{text!r}: wanted {wanted!r}, found {found!r:.600}")
+        for row in ["Brno Praha 205 180", "New York 5 7", "Brno Praha", "Brno", ""]:
+            expect_refused(room, number, "trains.txt", [trains[0], row], 2, row)
+
+
+@case
+def the_links_that_a_picture_draws_black(room):
+    """They are the forest's, however the file spells them: by hand."""
+    net = [("1", "2", "9007199254740993"), ("1", "02", "9007199254740992"), ("3", "2", "-007"), ("3", "3", "5"), ("9", "10", "05")]
+    black = ["1 -- 2 [label=9007199254740992", "2 -- 3 [label=-7", "9 -- 10 [label=5"]
+    grey = ["1 -- 2 [label=9007199254740993", "3 -- 3 [label=5"]
+    draw = blocks_of("docs/RECIPES.md", "A picture")[0][1]
+    for room in awk_rooms(room):
+        pasted(room, draw)
+        for end in ["\n", "\r\n"]:
+            with open(f"{room}/examples/roads.gr", "w", encoding="utf-8", newline="") as it:
+                it.write(end.join([f"p sp 10 {len(net)}", *(" ".join(("a", *it)) for it in net), ""]))
+            if pasted(room, draw) != (0, ""):
+                raise AssertionError(f"{pasted(room, draw)!r:.600}")
+            with open(f"{room}/roads.dot", encoding="utf-8", newline="") as it:
+                lines = it.read().split("\n")
+            found = [sorted(it.split(",")[0] for it in lines if ink in it) for ink in ("penwidth=3", "grey60")]
+            if found != [black, grey]:
+                raise AssertionError(f"wanted {[black, grey]}, found {found}")
+
+
+@case
+def points_of_any_unit(room):
+    """The clusters of points don't depend on the unit, from far below one to far past it: by hand."""
+    recipe(room, "Clusters")
+    recipe(room, "Points")
+    for unit in ["1e-300", "1e-9", "0.0001", "1", "1e6", "1e15", "1e100"]:
+        with open(f"{room}/points.csv", "w", encoding="utf-8") as it:
+            it.write("".join(f"{float(unit) * x!r},{float(unit) * y!r}\n" for x, y in [(0, 0), (3, 4), (30, 0), (33, -4.001), (30, 3)]))
+        for clusters, wanted in [(2, [1, 1, 3, 3, 3]), (3, [1, 1, 3, 4, 3]), (4, [1, 2, 3, 4, 3])]:
+            found = pasted(room, f"python3 nearest.py 4 < points.csv | boruvka --plain | awk -v clusters={clusters} -f clusters.awk")
+            if found != (0, "".join(f"{point} {least}\n" for point, least in enumerate(wanted, 1))):
+                raise AssertionError(f"{clusters} clusters, a unit of {unit}: {found!r:.600}")
+
+
+@case
+def points_that_lie_nowhere(room):
+    """They are refused at once: some kept the search going, or had another point's neighbours."""
+    recipe(room, "Clusters")
+    recipe(room, "Points")
+    for rows in ["0,0 1,nan", "nan,0 1,1", "0,inf 1,1", "-inf,0 1,1", "1e200,1e200 -1e200,0", "1e308,0 -1e308,0"]:
+        written(f"{room}/points.csv", rows.replace(" ", "\n").encode())
+        found = pasted(room, "timeout 10 python3 nearest.py 1 < points.csv")
+        if found != (1, "coordinates are finite, and at most 1e150\n"):
+            raise AssertionError(f"{rows}: {found!r:.600}")
 
 
 @case
@@ -253,6 +401,14 @@ def a_graph_in_parts_is_the_same_graph(room):
             wanted = forest_text(30, forest_of(30, arcs)).decode()
             if pasted(room, f"sh parts.sh drawn.gr {size} && boruvka --plain part.*.gr") != (0, wanted):
                 raise AssertionError(f"{size} lines a part: another forest")
+            # a name that awk or split would take for a word of theirs: the vertices aren't those of standard input
+            for name in ["n=5.gr", "-n.gr"]:
+                for part in glob.glob(f"{room}/part.*"):
+                    os.remove(part)
+                shutil.copy(f"{room}/drawn.gr", f"{room}/{name}")
+                found = pasted(room, f"printf 'p sp 99 0\\n' | sh parts.sh {name} {size} && boruvka --plain part.*.gr")
+                if found != (0, wanted):
+                    raise AssertionError(f"{name}: {found!r:.600}")
             # what is there isn't joined to another file's parts
             if pasted(room, f"sh parts.sh drawn.gr {size}") != (1, "part.aa.gr is there\n"):
                 raise AssertionError("parts were written beside others")

@@ -154,6 +154,34 @@ def the_examples_of_other_languages(room):
     expect(run([sys.executable, "-B", f"{embed}/forest.py", shared]), 0, SMALL_FOREST, b"")
 
 
+LAYOUTS = b"""import sys
+from array import array
+
+sys.path.insert(0, sys.argv[1])
+import forest
+
+library = forest.loaded(sys.argv[2])
+words = [17, 1 | 2 << 32, 10, 1 | 2 << 32]
+for n, links in [
+    (2, array("q", words)), (2, (forest.Link * 2)((17, 1, 2), (10, 1, 2))), (2**32 + 2, array("q", words)), (-1, array("q", words)),
+    (2, array("q", words[:3])), (2, array("d", words)), (2, array("Q", words)), (2, array("i", [17, 0, 1, 2])), (2, bytearray(16)),
+]:
+    try:
+        print([(it.weight, it.low, it.high) for it in forest.forest(library, n, links)])
+    except ValueError as error:
+        print(error)
+"""
+
+
+@case
+def buffers_of_other_layouts(_room):
+    """The example of Python refuses what isn't links of whole weights, and a number of vertices past 32 bits."""
+    wanted = ["[(10, 1, 2)]"] * 2 + ["4294967298 vertices", "-1 vertices", "links of the layout q, of 24 bytes", "links of the layout d, of 32 bytes"]
+    wanted += ["links of the layout Q, of 32 bytes", "links of the layout i, of 16 bytes", "links of the layout B, of 16 bytes"]
+    words = [sys.executable, "-B", "-", f"{ROOT}/examples/embed", libraries()[1]]
+    expect(run(words, LAYOUTS), 0, "".join(f"{it}\n" for it in wanted).encode(), b"")
+
+
 @case
 def calls_over_spans(room):
     archive, _ = libraries()
@@ -213,6 +241,20 @@ def the_header_for_spans_says_what_it_needs(_room):
             status, output, errors = run([*words, f"-std={standard}", *more, "-"], b"#include <boruvka.hpp>\n")
             told = [it for it in errors.splitlines() if b"error:" in it]
             expect((status != 0, output, [wanted in it for it in told]), True, b"", [True])
+
+
+@case
+def the_headers_stand_behind_macros_of_common_names(_room):
+    """Those of headers of other systems, after the library's own headers, and so that each header is read twice."""
+    names = ["#define min(a, b) ((a) < (b) ? (a) : (b))", "#define max(a, b) ((a) > (b) ? (a) : (b))", "#define small char", "#define linux 1", "#define interface struct"]
+    before = ["algorithm", "cstddef", "cstdint", "span", "stdexcept", "string", "type_traits", "vector"]
+    words = ["-Wall", "-Wextra", "-pedantic", "-Werror", INCLUDE, "-fsyntax-only", "-x"]
+    for of, language, header, standard, earlier in [
+        *((it, "c", "boruvka.h", "-std=c99", []) for it in ("gcc", "clang")), *((it, "c++", "boruvka.hpp", "-std=c++20", before) for it in ("g++", "clang++")),
+    ]:
+        if shutil.which(of):
+            lines = [*(f"#include <{it}>" for it in earlier), *names, *[f"#include <{header}>"] * 2, "int main(void) { return 0; }", ""]
+            expect(run([of, *words, language, standard, "-"], "\n".join(lines).encode()), 0, b"", b"")
 
 
 @case

@@ -312,7 +312,7 @@ def cmake_finds_the_libraries(room):
         return run(["cmake", f"-DCMAKE_PREFIX_PATH={prefix}", "-S", top, "-B", f"{room}/made"], env=PLAIN)
 
     later = f"{int(major()) + 1}.0"
-    for asked in (later, "0.9", f"{major()}.999"):
+    for asked in (later, "0.9", f"{major()}.999", f"{major()}.0...<{version()}", f"{major()}.0...{major()}.0.5"):
         status, _, errors = configured(asked)
         is_so((asked, status != 0, b"boruvka" in errors), (asked, True, True))
     for asked in ("", major(), version(), f"{version()} EXACT"):
@@ -511,6 +511,16 @@ def the_same_files_make_the_same_packages(room):
     # the time is the commit's, or the one that is set
     later = packed(f"{room}/third", env={**KIT, "SOURCE_DATE_EPOCH": str(AT + 86400)})
     is_so([it for it in first if later[it] == first[it]], [])
+
+
+@case
+def times_that_no_package_can_have(room):
+    """They are refused before anything is packed."""
+    said = "SOURCE_DATE_EPOCH is %s, and a wheel has times from 1980 to 2106 alone"
+    for at, why in [("0", said), ("315532799", said), ("-5", said), ("4323283200", said), ("abc", "SOURCE_DATE_EPOCH isn't a whole number of seconds"), ("1.5", "SOURCE_DATE_EPOCH isn't a whole number of seconds")]:
+        told = f"tools/dist.py: {why % at if '%' in why else why}\n".encode()
+        expect(run([sys.executable, f"{ROOT}/tools/dist.py", f"{room}/packed"], env={**KIT, "SOURCE_DATE_EPOCH": at}), 1, b"", told)
+        is_so(os.path.exists(f"{room}/packed"), False)
 
 
 @case
