@@ -379,9 +379,9 @@ def _arguments(given: list[Any]) -> list[Any]:
         raise TypeError("a frame is for boruvka.from_edges")
     n = given.pop(0) if len(given) == 4 or given and isinstance(given[0], numbers.Number) else None
     if len(given) == 2:
-        edges = held(given[0], "edges")
         if is_masked(given[0]):
             raise ValueError("edges have masked entries: leave these edges out first")
+        edges = held(given[0], "edges")
         if edges.ndim != 2 or edges.shape[1] != 2:
             how = "edges.T has them" if edges.ndim == 2 and edges.shape[0] == 2 else "or give n, u, v and w"
             raise TypeError(f"edges have the shape {edges.shape}, and need two columns; {how}")
@@ -468,12 +468,12 @@ def held(given: Any, name: str) -> NDArray[Any]:
 
 
 def _column(given: Any, name: str) -> NDArray[Any]:
+    if is_masked(given):
+        raise ValueError(f"{name} has masked entries, as {name}{np.argwhere(mask_of(given))[0].tolist()} is: leave these edges out first")
     column = held(given, name)
     if column.ndim != 1:
         how = ": an array of two columns stands for u and v" if column.ndim == 2 and name in "uv" else ""
         raise ValueError(f"{name} has {column.ndim} dimensions, and needs one{how}")
-    if is_masked(given):
-        raise ValueError(f"{name} has masked entries, as {name}[{np.argmax(mask_of(given))}] is: leave these edges out first")
     if column.dtype != object and hasattr(given, "__array__"):
         return column
     each = column.tolist() if column.dtype == object else list(given)
@@ -487,12 +487,14 @@ def expect_no_masks(given: Any, name: str) -> None:
 
 
 def is_masked(given: Any) -> bool:
-    """Whether an array of numpy, or of pandas, masks something."""
+    """Whether an array of numpy or of pandas masks something, or a list holds one that does."""
     return bool(np.any(mask_of(given)))
 
 
 def mask_of(given: Any) -> Any:
-    """What it masks. (Numpy tells no type of this function.)"""
+    """What it masks; of a list, which entries do. (Numpy tells no type of this function.)"""
+    if isinstance(given, (list, tuple)) and any(issubclass(it, np.ma.MaskedArray) for it in {*map(type, given)}):
+        return [is_masked(it) for it in given]
     masked: Any = np.ma
     return masked.getmask(given)
 

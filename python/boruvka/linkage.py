@@ -309,9 +309,9 @@ def _up_to(forest: Forest, height: Real) -> int:
 
 
 def _numbers(y: Any) -> NDArray[np.float64]:
-    given = held(y, "y")
     if is_masked(y):
         raise ValueError("y has masked entries: leave these points out first")
+    given = held(y, "y")
     if given.dtype.kind not in "biuf" or given.dtype.itemsize > 8:
         how = ": .astype(float) makes them" if given.dtype == object and " as " not in why_none(given, "y", "biuf") else ""
         raise TypeError(f"{why_none(given, 'y', 'biuf')}, and has to be real numbers of up to 64 bits{how}")
