@@ -290,7 +290,8 @@ def _best_first(given: object) -> Forest:
     if not isinstance(given, Forest):
         raise TypeError(f"a {type(given).__name__} is no Forest, as `spanning_tree` or `minimum_spanning_forest` answers it")
     w = given.w[::-1] if given.maximum else given.w
-    if (w[1:] >= w[:-1]).all():
+    # (of a single edge nothing else is compared)
+    if (w[1:] >= w[:-1]).all() and (w[:1] == w[:1]).all():
         return given
     if np.isnan(given.w).any():
         raise ValueError(f"forest.w[{np.isnan(given.w).argmax()}] is NaN")

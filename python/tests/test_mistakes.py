@@ -94,6 +94,8 @@ CUTS = {
     "n and tree exchanged": (lambda: merges(PATH, 4), TypeError, "^a int is no Forest"),
     "a forest without places": (lambda: Forest([0], [1], [2]), TypeError, "'index'"),
     "weights as texts": (lambda: Forest([0], [1], ["2"], [0]), TypeError, r"^w has the dtype <U1, as w\[0\] is '2', and weights are real numbers$"),
+    "a single weight that is NaN": (lambda: labels(2, Forest([0], [1], [math.nan], [0]), height=1.0), ValueError, r"^forest.w\[0\] is NaN$"),
+    "a merge at NaN": (lambda: merges(2, Forest([0], [1], [math.nan], [0])), ValueError, r"^forest.w\[0\] is NaN$"),
     "a weight that is NaN": (lambda: labels(3, Forest([0, 1], [1, 2], [math.nan, 2], [0, 1]), clusters=1), ValueError, r"^forest.w\[0\] is NaN$"),
     "a number of clusters as a text": (lambda: labels(4, PATH, clusters="2"), TypeError, "^clusters is '2', and has to be a whole number$"),
     "several numbers of clusters": (lambda: labels(4, PATH, clusters=np.array([2, 3])), TypeError, r"^clusters is array\(\[2, 3\]\), and has to be a whole number$"),
