@@ -317,19 +317,31 @@ def _numbers(y: Any) -> NDArray[np.float64]:
         how = ": .astype(float) makes them" if given.dtype == object and " as " not in why_none(given, "y", "biuf") else ""
         raise TypeError(f"{why_none(given, 'y', 'biuf')}, and has to be real numbers of up to 64 bits{how}")
     numbers = given.astype(np.float64, copy=False)
-    if given.dtype.kind == "f" and not hasattr(y, "__array__") and (np.abs(given) >= _EXACT).any():
-        for row, each in enumerate(y if given.ndim == 2 else ()):
-            of_each(list(each), given[row], f"y[{row}]")
-        if given.ndim == 1:
-            of_each(list(y), given, "y")
+    expect_no_rounding(y, given, numbers, "y")
+    return numbers
+
+
+def expect_no_rounding(y: Any, given: NDArray[Any], numbers: NDArray[np.float64], name: str) -> None:
+    """A ValueError if a whole number of y isn't among these doubles; `given` is what numpy makes of y, which has this name."""
     if given.dtype.kind in "iu" and given.dtype.itemsize == 8 and given.size and max(-int(given.min()), int(given.max())) > _EXACT:
         # (doubles below 2^64 lie at most 2^11 apart)
         is_rounded = numbers % 2048 != given % 2048
         if is_rounded.any():
             place = np.unravel_index(is_rounded.argmax(), given.shape)
             how = "take the least of each column off first" if given.ndim == 2 else "minimum_spanning_forest takes its pairs, and no double"
-            raise ValueError(f"y[{', '.join(map(str, place))}] is {given[place]}, which a double would round: {how}")
-    return numbers
+            raise ValueError(f"{name}[{', '.join(map(str, place))}] is {given[place]}, which a double would round: {how}")
+    is_frame = hasattr(y, "iloc") and given.ndim == 2
+    if given.dtype.kind in "iu" or hasattr(y, "__array__") and not is_frame or not (np.abs(numbers) >= _EXACT).any():
+        return
+    if is_frame:
+        # (its columns may have other dtypes than they have side by side)
+        for place in range(given.shape[1]):
+            of_each(y.iloc[:, place].tolist(), numbers[:, place], f"{name}.iloc[:, {place}]")
+    elif given.ndim == 2:
+        for row, each in enumerate(y):
+            of_each(list(each), numbers[row], f"{name}[{row}]")
+    elif given.ndim == 1:
+        of_each(list(y), numbers, name)
 
 
 def _are_distances(points: NDArray[np.float64]) -> bool:

@@ -183,6 +183,7 @@ class Mistakes(unittest.TestCase):
             "a vertex that is NA": (lambda: forest_of(3, pandas.Series([0, None], dtype="Int64"), V, W), TypeError, r"^u has the dtype object, as u\[1\] is <NA>, and vertices are"),
             "a column of names": (lambda: spanning_tree(named), TypeError, r"^y has the dtype object, as y\[0, 0\] is 'a', and has to be real numbers"),
             "a frame in place of edges": (lambda: forest_of(named), TypeError, "^a frame is for boruvka.from_edges$"),
+            "whole numbers beside halves": (lambda: spanning_tree(pandas.DataFrame({"x": [0.5, 0.5], "y": [2**53, 2**53 + 1]})), ValueError, r"^y\.iloc\[:, 1\]\[1\] is 9007199254740993, which numpy would round"),
             "times as coordinates": (lambda: spanning_tree(pandas.DataFrame({"x": pandas.to_timedelta([1, 2])})), TypeError, r"^y has the dtype timedelta64\[ns\]"),
             "a coordinate that is NA": (lambda: spanning_tree(pandas.DataFrame({"x": gaps, "y": gaps})), TypeError, r"^y has the dtype object, as y\[1, 0\] is <NA>"),
             "categories as weights": (lambda: forest_of(3, U, V, pandas.Categorical(["10", "9"])), TypeError, r"^w has the dtype <U2, as w\[0\] is '10'"),
