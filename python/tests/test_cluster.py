@@ -180,6 +180,15 @@ class Estimators(unittest.TestCase):
             with self.assertRaisesRegex(TypeError, f"^{words}, and has to be a whole number$"):
                 made.fit(points)
 
+    def test_whole_numbers_that_doubles_round(self):
+        apart = [[2**53, 0], [2**53 + 1, 0], [2**53 + 2, 0]]
+        for points in (apart, np.array(apart), np.array(apart, np.uint64)):
+            for made in (SingleLinkage(), HDBSCAN(2)):
+                with self.assertRaisesRegex(ValueError, r"^X\[1, 0\] is 9007199254740993, which a double would round: take the least"):
+                    made.fit(points)
+        even = np.array(apart) // 2
+        self.assertEqual(SingleLinkage(distance_threshold=0.5, n_clusters=None).fit_predict(even).tolist(), [0, 0, 1])
+
     def test_refused(self):
         points = np.random.default_rng(5).random((9, 2))
         for wrong in (SingleLinkage(None), SingleLinkage(2, distance_threshold=1.0), SingleLinkage(10), HDBSCAN(1), HDBSCAN(5, min_samples=10), HDBSCAN(cluster_selection_method="best"), HDBSCAN(metric="none")):
