@@ -474,10 +474,15 @@ def _column(given: Any, name: str) -> NDArray[Any]:
     if column.ndim != 1:
         how = ": an array of two columns stands for u and v" if column.ndim == 2 and name in "uv" else ""
         raise ValueError(f"{name} has {column.ndim} dimensions, and needs one{how}")
-    if column.dtype != object and hasattr(given, "__array__"):
+    if column.dtype != object and is_array(given):
         return column
     each = column.tolist() if column.dtype == object else list(given)
     return of_each(each, column if column.dtype != object else np.asarray(each), name)
+
+
+def is_array(given: Any) -> bool:
+    """Whether numpy takes all that it holds in its own dtype."""
+    return hasattr(given, "__array__") or isinstance(given, memoryview)
 
 
 def expect_no_masks(given: Any, name: str) -> None:

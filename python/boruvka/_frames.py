@@ -189,6 +189,9 @@ def _numbered(column: Any, name: Hashable, number: dict[Any, int]) -> NDArray[np
 
 def _listed(column: Any) -> list[Any]:
     """The names as Python has them. (Of times numpy would make whole numbers.)"""
+    if isinstance(column, memoryview):
+        # (it lists few of the forms that numpy knows)
+        column = np.asarray(column)
     if isinstance(column, np.ndarray) and column.dtype.kind in "mM":
         return list(column)
     for way in ("tolist", "to_pylist"):

@@ -17,7 +17,7 @@ from numpy.typing import ArrayLike, NDArray
 
 from boruvka import _library
 from boruvka._entries import expect_no_filling
-from boruvka._forest import Forest, Real, held, is_masked, minimum_spanning_forest, of_each, vertices, whole
+from boruvka._forest import Forest, Real, held, is_array, is_masked, minimum_spanning_forest, of_each, vertices, whole
 from boruvka._metrics import Metric, metric_of
 from boruvka._points import tree_of_points
 from boruvka._weights import why_none
@@ -331,7 +331,7 @@ def expect_no_rounding(y: Any, given: NDArray[Any], numbers: NDArray[np.float64]
             how = "take the least of each column off first" if given.ndim == 2 else "minimum_spanning_forest takes its pairs, and no double"
             raise ValueError(f"{name}[{', '.join(map(str, place))}] is {given[place]}, which a double would round: {how}")
     is_frame = hasattr(y, "iloc") and given.ndim == 2
-    if given.dtype.kind in "iu" or hasattr(y, "__array__") and not is_frame or not (np.abs(numbers) >= _EXACT).any():
+    if given.dtype.kind in "iu" or is_array(y) and not is_frame or not (np.abs(numbers) >= _EXACT).any():
         return
     if is_frame:
         # (its columns may have other dtypes than they have side by side)

@@ -356,6 +356,16 @@ class Refused(unittest.TestCase):
                 order = sorted(range(3), key=lambda i: weights[i])
                 self.assertEqual((forest.index.tolist(), forest.w.tolist()), (order, [weights[i] for i in order]))
 
+    def test_buffers_in_forms_that_python_does_not_read(self):
+        for dtype in ("f2", ">i4", ">f8", "<u2"):
+            ends, weights = (memoryview(np.array(it, dtype)) for it in ([0, 1, 2], [3, 1, 2]))
+            self.assertEqual(minimum_spanning_forest(3, [0, 1, 2], [1, 2, 0], weights).index.tolist(), [1, 2])
+            if "f" not in dtype:
+                self.assertEqual(minimum_spanning_forest(3, ends, [1, 2, 0], weights).index.tolist(), [1, 2])
+                self.assertEqual(boruvka.from_edges({"u": ends, "v": ends[::-1], "w": weights}).names, [0, 1, 2])
+        for points in (np.array([[2.0**60, 1], [2.0**59, 1]]), np.array([[2**60, 1], [2**59, 1]], ">f8")):
+            self.assertEqual(boruvka.linkage.spanning_tree(memoryview(points)).w.tolist(), [2.0**59])
+
     def containers(self, numbers):
         """The same numbers in whatever may hold them one by one."""
         whole = np.empty(len(numbers), object)
