@@ -421,7 +421,7 @@ def number_of_threads(threads: Any) -> int:
 def whole(given: Any, name: str, what: str = "") -> int:
     """A whole number that was given by this name."""
     # (True is one to Python)
-    if not isinstance(given, bool):
+    if not isinstance(given, (bool, np.bool_)):
         try:
             return operator.index(given)
         except TypeError:
