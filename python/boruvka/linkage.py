@@ -170,7 +170,7 @@ def merges(n: SupportsIndex, forest: Forest) -> NDArray[np.float64]:
     Raises
     ------
     ValueError
-        If the edges don't connect all n vertices.
+        If the edges don't connect all n vertices, or a double would round a weight.
     TypeError
         If n is no whole number, or `forest` is no Forest.
 
@@ -192,7 +192,11 @@ def merges(n: SupportsIndex, forest: Forest) -> NDArray[np.float64]:
     links = np.zeros(len(forest.w), _library.LINK)
     links["low"], links["high"] = u + 1, v + 1
     rows = _library.merges(count, links)
-    return np.column_stack([rows["first"], rows["second"], forest.w, rows["size"]]).astype(np.float64, copy=False)
+    heights = forest.w.astype(np.float64)
+    place = _first_rounded(forest.w, heights)
+    if place is not None:
+        raise ValueError(f"forest.w[{place[0]}] is {forest.w[place]}, which a double would round: a linkage matrix has no other heights, and labels cuts without one")
+    return np.column_stack([rows["first"], rows["second"], heights, rows["size"]])
 
 
 @overload
@@ -323,13 +327,10 @@ def _numbers(y: Any) -> NDArray[np.float64]:
 
 def expect_no_rounding(y: Any, given: NDArray[Any], numbers: NDArray[np.float64], name: str) -> None:
     """A ValueError if a whole number of y isn't among these doubles; `given` is what numpy makes of y, which has this name."""
-    if given.dtype.kind in "iu" and given.dtype.itemsize == 8 and given.size and max(-int(given.min()), int(given.max())) > _EXACT:
-        # (doubles below 2^64 lie at most 2^11 apart)
-        is_rounded = numbers % 2048 != given % 2048
-        if is_rounded.any():
-            place = np.unravel_index(is_rounded.argmax(), given.shape)
-            how = "take the least of each column off first" if given.ndim == 2 else "minimum_spanning_forest takes its pairs, and no double"
-            raise ValueError(f"{name}[{', '.join(map(str, place))}] is {given[place]}, which a double would round: {how}")
+    place = _first_rounded(given, numbers)
+    if place is not None:
+        how = "take the least of each column off first" if given.ndim == 2 else "minimum_spanning_forest takes its pairs, and no double"
+        raise ValueError(f"{name}[{', '.join(map(str, place))}] is {given[place]}, which a double would round: {how}")
     is_frame = hasattr(y, "iloc") and given.ndim == 2
     if given.dtype.kind in "iu" or is_array(y) and not is_frame or not (np.abs(numbers) >= _EXACT).any():
         return
@@ -342,6 +343,15 @@ def expect_no_rounding(y: Any, given: NDArray[Any], numbers: NDArray[np.float64]
             of_each(list(each), numbers[row], f"{name}[{row}]")
     elif given.ndim == 1:
         of_each(list(y), numbers, name)
+
+
+def _first_rounded(given: NDArray[Any], numbers: NDArray[np.float64]) -> tuple[int, ...] | None:
+    """The place of the first whole number that isn't the double in its place, if there is one."""
+    if given.dtype.kind not in "iu" or given.dtype.itemsize < 8 or not given.size or max(-int(given.min()), int(given.max())) <= _EXACT:
+        return None
+    # (doubles below 2^64 lie at most 2^11 apart)
+    is_rounded = numbers % 2048 != given % 2048
+    return tuple(map(int, np.unravel_index(is_rounded.argmax(), given.shape))) if is_rounded.any() else None
 
 
 def _are_distances(points: NDArray[np.float64]) -> bool:

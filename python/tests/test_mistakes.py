@@ -92,6 +92,7 @@ CUTS = {
     "points": (lambda: labels(10, POINTS, clusters=2), TypeError, "^a ndarray is no Forest"),
     "another n": (lambda: labels(3, PATH, clusters=2), ValueError, "^n is 3, and has to be from 4, the number of the forest's vertices"),
     "merges of several components": (lambda: merges(5, PATH), ValueError, "^3 edges don't make one tree of 5 vertices: a forest of several components has no linkage$"),
+    "merges at heights that doubles round": (lambda: forest_of(3, U, V, [2**53 + 1, 2**53]).linkage(), ValueError, r"^forest\.w\[1\] is 9007199254740993, which a double would round: "),
     "n and tree exchanged": (lambda: merges(PATH, 4), TypeError, "^a int is no Forest"),
     "a forest without places": (lambda: Forest([0], [1], [2]), TypeError, "'index'"),
     "weights as texts": (lambda: Forest([0], [1], ["2"], [0]), TypeError, r"^w has the dtype <U1, as w\[0\] is '2', and weights are real numbers$"),
