@@ -176,9 +176,7 @@ class Forest:
         for it in (a, b):
             if not 0 <= it < self.n:
                 raise ValueError(f"{it} is no vertex: they are 0 to {self.n - 1}")
-        ends = np.concatenate([self.u, self.v])
-        if len(ends) and not 0 <= ends.min() <= ends.max() < self.n:
-            raise ValueError(f"an edge of the forest has an end that is none of its {self.n} vertices")
+        ends = self._ends()
         order = np.argsort(ends, kind="stable")
         starts = np.searchsorted(ends[order], np.arange(self.n + 1))
         came: dict[int, tuple[int, int, bool]] = {a: (a, -1, False)}
@@ -199,6 +197,13 @@ class Forest:
             found.append((place, is_back))
         return found[::-1]
 
+    def _ends(self) -> NDArray[Any]:
+        """The lower ends and then the higher, which are vertices."""
+        ends = np.concatenate([self.u, self.v])
+        if len(ends) and not 0 <= ends.min() <= ends.max() < self.n:
+            raise ValueError(f"an edge of the forest has an end that is none of its {self.n} vertices")
+        return ends
+
     def to_frame(self) -> pandas.DataFrame:
         """A frame of pandas with the columns u, v, w and index; u and v are names, if the vertices have any.
 
@@ -206,6 +211,7 @@ class Forest:
         """
         import pandas
 
+        self._ends()
         places = {"index": self.index} if self.index.ndim == 1 else dict(zip(("chunk", "row"), self.index.T))
         frame = pandas.DataFrame({"u": self.u, "v": self.v, "w": self.w, **places})
         return frame if self.names is None else frame.assign(u=self._named(self.u), v=self._named(self.v))
@@ -226,6 +232,7 @@ class Forest:
 
         if names is not None:
             return replace(self, names=names).to_networkx()
+        self._ends()
         _expect_keys(self.names or ())
         graph = networkx.Graph()
         graph.add_nodes_from(self._named(np.arange(self.n)))
@@ -245,6 +252,7 @@ class Forest:
         places = np.asarray(points)
         if places.shape != (self.n, 2):
             raise ValueError(f"points has the shape {places.shape}, and {self.n} points of a plane are drawn")
+        self._ends()
         axes = pyplot.gca() if ax is None else ax
         axes.add_collection(LineCollection(np.stack([places[self.u], places[self.v]], axis=1), colors="silver", zorder=1))
         clusters = np.zeros(self.n, int) if labels is None else np.asarray(labels)

@@ -4,6 +4,7 @@ import contextlib
 import ctypes
 import decimal
 import fractions
+import importlib.util
 import math
 import mmap
 import threading
@@ -206,6 +207,14 @@ class Knowing(unittest.TestCase):
             self.forest.to_networkx("abcbefg")
         with self.assertRaisesRegex(TypeError, r"^names\[2\] is a list, which can't be a key of a dict, as vertices of networkx are$"):
             self.forest.to_networkx([0, 1, [2], 3, 4, 5, 6])
+
+    def test_ends_that_are_no_vertices_of_it(self):
+        for u, v in [([-1], [1]), ([0], [2])]:
+            forest = Forest(u, v, [1], [0], n=2, names=["a", "b"])
+            for call, module in [(forest.to_frame, "pandas"), (forest.to_networkx, "networkx"), (lambda: forest.plot([[0, 0], [1, 1]]), "matplotlib"), (lambda: forest.path(0, 1), "numpy")]:
+                if importlib.util.find_spec(module):
+                    with self.assertRaisesRegex(ValueError, "^an edge of the forest has an end that is none of its 2 vertices$"):
+                        call()
 
     def test_as_a_picture(self):
         try:
