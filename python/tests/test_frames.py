@@ -134,7 +134,7 @@ class Frames(unittest.TestCase):
 
     def test_texts_of_numbers_and_of_bytes(self):
         """They are two vertices, as Python has it, and that is said."""
-        for one, other in [(1, "1"), (2.0, "2"), (2, "2.0"), (7, " 7")]:
+        for one, other in [(1, "1"), (2.0, "2"), (2, "2.0"), (7, " 7"), (1, np.str_("1"))]:
             with self.assertWarnsRegex(UserWarning, f"^the text '{other}' and the number .* name two vertices: ") as told:
                 forest = boruvka.from_edges({"u": [one, 5], "v": ["a", other], "w": [1, 2]})
             self.assertEqual((forest.names, told.filename), ([one, 5, "a", other], __file__))
