@@ -249,6 +249,12 @@ class Protocol(unittest.TestCase):
     def test_several_pieces(self):
         self.assertEqual(self.names(Chunks(texts(["a", "b"]), texts([]), texts(["c"]))), ["a", "b", "c"])
 
+    def test_a_piece_without_entries_may_have_no_offsets(self):
+        for offsets in ((Buffer(np.empty(0, np.int32)), (0, 32, "l", "=")), None):
+            empty = texts([])
+            empty.buffers["offsets"] = offsets
+            self.assertEqual((self.names(empty), self.names(Chunks(empty, texts(["a"])))), ([], ["a"]))
+
     def test_what_is_missing(self):
         bits, bytes_ = np.array([0b101], np.uint8), np.array([1, 0, 1], np.uint8)
         for column in [
