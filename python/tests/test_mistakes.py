@@ -134,6 +134,8 @@ OF_POINTS = {
     "masked points to be drawn": (lambda: boruvka.show(np.ma.masked_equal([[1.0, 2.0]], 1)), ValueError, "^points has masked entries"),
     "points to be drawn of which one is masked": (lambda: boruvka.show([*np.ma.masked_equal([[1.0, 2.0]], 1)]), ValueError, "^points has masked entries"),
     "complex points to be drawn": (lambda: boruvka.show(np.array([[1j, 2]])), TypeError, "^points has the dtype complex128: "),
+    "points to be drawn that doubles round": (lambda: boruvka.show([[2**53 + 1, 0], [2**53, 0]]), ValueError, r"^points\[0, 0\] is 9007199254740993, which a double would round: take the least"),
+    "long doubles to be drawn": (lambda: boruvka.show(np.zeros((2, 2), np.longdouble)), TypeError, "^points has the dtype float128: coordinates are real numbers of up to 64 bits$"),
     "no point": (lambda: spanning_tree(np.empty((0, 2))), ValueError, "^there is no point$"),
     "a distance that is negative": (lambda: spanning_tree([1, -2, 3]), ValueError, r"^y\[1\] is -2.0: a distance isn't finite, or is negative$"),
     "complex coordinates": (lambda: spanning_tree([[1j], [2]]), TypeError, "^y has the dtype complex128, and has to be real numbers"),
