@@ -189,6 +189,13 @@ class Estimators(unittest.TestCase):
         even = np.array(apart) // 2
         self.assertEqual(SingleLinkage(distance_threshold=0.5, n_clusters=None).fit_predict(even).tolist(), [0, 0, 1])
 
+    def test_masked_points(self):
+        hidden = np.ma.masked_equal([[0.0, 0.0], [1.0, 1.0], [99.0, 99.0]], 99)
+        for points in (hidden, [*hidden]):
+            for made in (SingleLinkage(), HDBSCAN(2)):
+                with self.assertRaisesRegex(ValueError, "^X has masked entries: leave them out first$"):
+                    made.fit(points)
+
     def test_refused(self):
         points = np.random.default_rng(5).random((9, 2))
         for wrong in (SingleLinkage(None), SingleLinkage(2, distance_threshold=1.0), SingleLinkage(10), HDBSCAN(1), HDBSCAN(5, min_samples=10), HDBSCAN(cluster_selection_method="best"), HDBSCAN(metric="none")):
