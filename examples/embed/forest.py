@@ -29,6 +29,8 @@ def loaded(path):
 def forest(library, n, links):
     """The forest of links in a writable buffer, as an array or numpy has it: they are first in it then."""
     size = ctypes.sizeof(Link)
+    if memoryview(links).nbytes % size or not 0 <= n < 1 << 32:
+        raise ValueError("n has 32 bits, and each link 16 bytes")
     held = (Link * (memoryview(links).nbytes // size)).from_buffer(links)
     count = library.boruvka_forest(n, ctypes.addressof(held), len(held))
     if count < 0:

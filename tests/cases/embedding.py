@@ -152,6 +152,11 @@ def the_examples_of_other_languages(room):
         expect(run(["rustc", "--edition", "2024", "-D", "warnings", "-L", LIBRARIES, "-o", f"{room}/of_rust", f"{embed}/forest.rs"]), 0, b"", b"")
         expect(run([f"{room}/of_rust"]), 0, SMALL_FOREST, b"")
     expect(run([sys.executable, "-B", f"{embed}/forest.py", shared]), 0, SMALL_FOREST, b"")
+    # what C would take without its upper bits, or leave half a link of
+    code = "import forest, sys; from array import array; print(forest.forest(forest.loaded(sys.argv[1]), {}))"
+    for words in ("2**32 + 6, array('q', [5, 1 | 2 << 32])", "-1, array('q', [5, 1 | 2 << 32])", "6, array('q', [5, 1 | 2 << 32, 7])"):
+        status, told, errors = run([sys.executable, "-B", "-c", code.format(words), shared], env={**os.environ, "PYTHONPATH": embed})
+        expect((status, told, errors.splitlines()[-1:]), 1, b"", [b"ValueError: n has 32 bits, and each link 16 bytes"])
 
 
 @case
