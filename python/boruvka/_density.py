@@ -9,7 +9,7 @@ from numpy.typing import NDArray
 class Condensed:
     """The clusters of at least so many points, while the density grows.
 
-    Density is 1 over the height. Cluster 0 is all points. A cluster ends where it falls into several that are large
+    Density is `unit` over the height. Cluster 0 is all points. A cluster ends where it falls into several that are large
     enough; else it goes on, and points leave it. `owner` is the last cluster of each point, and `left` the density at
     which it leaves. `parent`, `birth` and `lasting` tell of each cluster where it came from, at which density, and for
     how long its points stay, all summed.
@@ -19,6 +19,9 @@ class Condensed:
         n = len(merges) + 1
         self.children = merges[:, :2].astype(np.intp).tolist()
         self.heights = [-np.inf] * n + merges[:, 2].tolist()
+        # (a power of two, no more than any height but 0: so that no sum of densities is past all doubles)
+        least_height = merges[:, 2].min(initial=np.inf, where=merges[:, 2] > 0)
+        self.unit = float(np.ldexp(0.5, np.frexp(least_height)[1])) if least_height < np.inf else 1.0
         self.sizes = [1] * n + merges[:, 3].astype(np.intp).tolist()
         self.n, self.least = n, least
         self.starts, self.order = self.leaf_order()
@@ -40,7 +43,7 @@ class Condensed:
     def fall_apart(self, node: int, cluster: int) -> list[tuple[int, int]]:
         """Takes a node of the merges apart; which of its parts go on, and as which clusters."""
         height = self.heights[node]
-        density = 1 / height if height > 0 else np.inf
+        density = self.unit / height if height > 0 else np.inf
         parts = self.parts(node, height)
         large = [it for it in parts if self.sizes[it] >= self.least]
         is_end = len(large) != 1

@@ -176,9 +176,7 @@ class Forest:
         for it in (a, b):
             if not 0 <= it < self.n:
                 raise ValueError(f"{it} is no vertex: they are 0 to {self.n - 1}")
-        ends = np.concatenate([self.u, self.v])
-        if len(ends) and not 0 <= ends.min() <= ends.max() < self.n:
-            raise ValueError(f"an edge of the forest has an end that is none of its {self.n} vertices")
+        ends = self._ends()
         order = np.argsort(ends, kind="stable")
         starts = np.searchsorted(ends[order], np.arange(self.n + 1))
         came: dict[int, tuple[int, int, bool]] = {a: (a, -1, False)}
@@ -199,6 +197,13 @@ class Forest:
             found.append((place, is_back))
         return found[::-1]
 
+    def _ends(self) -> NDArray[Any]:
+        """The lower ends and then the higher, which are vertices."""
+        ends = np.concatenate([self.u, self.v])
+        if len(ends) and not 0 <= ends.min() <= ends.max() < self.n:
+            raise ValueError(f"an edge of the forest has an end that is none of its {self.n} vertices")
+        return ends
+
     def to_frame(self) -> pandas.DataFrame:
         """A frame of pandas with the columns u, v, w and index; u and v are names, if the vertices have any.
 
@@ -206,6 +211,7 @@ class Forest:
         """
         import pandas
 
+        self._ends()
         places = {"index": self.index} if self.index.ndim == 1 else dict(zip(("chunk", "row"), self.index.T))
         frame = pandas.DataFrame({"u": self.u, "v": self.v, "w": self.w, **places})
         return frame if self.names is None else frame.assign(u=self._named(self.u), v=self._named(self.v))
@@ -226,6 +232,7 @@ class Forest:
 
         if names is not None:
             return replace(self, names=names).to_networkx()
+        self._ends()
         _expect_keys(self.names or ())
         graph = networkx.Graph()
         graph.add_nodes_from(self._named(np.arange(self.n)))
@@ -245,6 +252,7 @@ class Forest:
         places = np.asarray(points)
         if places.shape != (self.n, 2):
             raise ValueError(f"points has the shape {places.shape}, and {self.n} points of a plane are drawn")
+        self._ends()
         axes = pyplot.gca() if ax is None else ax
         axes.add_collection(LineCollection(np.stack([places[self.u], places[self.v]], axis=1), colors="silver", zorder=1))
         clusters = np.zeros(self.n, int) if labels is None else np.asarray(labels)
@@ -379,9 +387,9 @@ def _arguments(given: list[Any]) -> list[Any]:
         raise TypeError("a frame is for boruvka.from_edges")
     n = given.pop(0) if len(given) == 4 or given and isinstance(given[0], numbers.Number) else None
     if len(given) == 2:
-        edges = held(given[0], "edges")
         if is_masked(given[0]):
             raise ValueError("edges have masked entries: leave these edges out first")
+        edges = held(given[0], "edges")
         if edges.ndim != 2 or edges.shape[1] != 2:
             how = "edges.T has them" if edges.ndim == 2 and edges.shape[0] == 2 else "or give n, u, v and w"
             raise TypeError(f"edges have the shape {edges.shape}, and need two columns; {how}")
@@ -421,7 +429,7 @@ def number_of_threads(threads: Any) -> int:
 def whole(given: Any, name: str, what: str = "") -> int:
     """A whole number that was given by this name."""
     # (True is one to Python)
-    if not isinstance(given, bool):
+    if not isinstance(given, (bool, np.bool_)):
         try:
             return operator.index(given)
         except TypeError:
@@ -468,16 +476,21 @@ def held(given: Any, name: str) -> NDArray[Any]:
 
 
 def _column(given: Any, name: str) -> NDArray[Any]:
+    if is_masked(given):
+        raise ValueError(f"{name} has masked entries, as {name}{np.argwhere(mask_of(given))[0].tolist()} is: leave these edges out first")
     column = held(given, name)
     if column.ndim != 1:
         how = ": an array of two columns stands for u and v" if column.ndim == 2 and name in "uv" else ""
         raise ValueError(f"{name} has {column.ndim} dimensions, and needs one{how}")
-    if is_masked(given):
-        raise ValueError(f"{name} has masked entries, as {name}[{np.argmax(mask_of(given))}] is: leave these edges out first")
-    if column.dtype != object and hasattr(given, "__array__"):
+    if column.dtype != object and is_array(given):
         return column
     each = column.tolist() if column.dtype == object else list(given)
     return of_each(each, column if column.dtype != object else np.asarray(each), name)
+
+
+def is_array(given: Any) -> bool:
+    """Whether numpy takes all that it holds in its own dtype."""
+    return hasattr(given, "__array__") or isinstance(given, memoryview)
 
 
 def expect_no_masks(given: Any, name: str) -> None:
@@ -487,12 +500,14 @@ def expect_no_masks(given: Any, name: str) -> None:
 
 
 def is_masked(given: Any) -> bool:
-    """Whether an array of numpy, or of pandas, masks something."""
+    """Whether an array of numpy or of pandas masks something, or a list holds one that does."""
     return bool(np.any(mask_of(given)))
 
 
 def mask_of(given: Any) -> Any:
-    """What it masks. (Numpy tells no type of this function.)"""
+    """What it masks; of a list, which entries do. (Numpy tells no type of this function.)"""
+    if isinstance(given, (list, tuple)) and any(issubclass(it, np.ma.MaskedArray) for it in {*map(type, given)}):
+        return [is_masked(it) for it in given]
     masked: Any = np.ma
     return masked.getmask(given)
 

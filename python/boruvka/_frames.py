@@ -129,9 +129,9 @@ def _expect_one_kind_of_times(names: Iterable[Any]) -> None:
 def _warn_of_texts(number: Mapping[Any, int]) -> None:
     """Warns if a name is the text of another, which is a number or bytes."""
     types = {*map(type, number)}
-    if str not in types or len(types) == 1:
+    if not any(issubclass(it, str) for it in types) or len(types) == 1:
         return
-    for text in (it for it in number if type(it) is str):
+    for text in (str(it) for it in number if isinstance(it, str)):
         if _number_of(text) in number:
             words = f"the number {_number_of(text)} name two vertices: .astype(str) of both columns makes them one"
         elif text.encode(errors="replace") in number:
@@ -189,6 +189,9 @@ def _numbered(column: Any, name: Hashable, number: dict[Any, int]) -> NDArray[np
 
 def _listed(column: Any) -> list[Any]:
     """The names as Python has them. (Of times numpy would make whole numbers.)"""
+    if isinstance(column, memoryview):
+        # (it lists few of the forms that numpy knows)
+        column = np.asarray(column)
     if isinstance(column, np.ndarray) and column.dtype.kind in "mM":
         return list(column)
     for way in ("tolist", "to_pylist"):

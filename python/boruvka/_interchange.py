@@ -32,6 +32,9 @@ def _entries(chunk: Any, name: Any) -> list[Any]:
     """Those of a column that is in one piece."""
     size = chunk.size() if callable(chunk.size) else chunk.size
     kind, buffers = int(chunk.dtype[0]), chunk.get_buffers()
+    if not size:
+        # (Arrow's texts may have no offsets then)
+        return []
     if kind in _LETTERS or kind == _BOOL:
         each = _numbers(buffers["data"], chunk.offset, size).tolist()
     elif kind == _STRING:

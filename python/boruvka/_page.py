@@ -54,7 +54,7 @@ def show(
     ------
     ValueError
         If there is no point, or there are too many; a coordinate isn't finite, or none of the globe; names aren't one for
-        each point; or the file isn't such a page.
+        each point; a double would round a whole number; or the file isn't such a page.
     TypeError
         If a coordinate is no real number, `globe` is neither True nor False, or names are a set or a dict.
     FileNotFoundError
@@ -100,10 +100,15 @@ def _filled(page: str, table: str) -> str:
 
 def _table(points: ArrayLike, names: Sequence[str] | None, globe: bool) -> str:
     """The points as the text of a table."""
+    # (which is loaded when it is first used)
+    from boruvka.linkage import expect_no_rounding
+
     expect_no_masks(points, "points")
-    if np.asarray(points).dtype.kind not in "biuf":
-        raise TypeError(f"{why_none(np.asarray(points), 'points', 'biuf')}: coordinates are real numbers")
-    given = np.asarray(points, dtype=np.float64)
+    held = np.asarray(points)
+    if held.dtype.kind not in "biuf" or held.dtype.itemsize > 8:
+        raise TypeError(f"{why_none(held, 'points', 'biuf')}: coordinates are real numbers of up to 64 bits")
+    given = held.astype(np.float64)
+    expect_no_rounding(points, held, given, "points")
     if given.ndim != 2 or given.shape[1] != 2:
         raise ValueError(f"points has the shape {given.shape}: it must be (n, 2), x and y of each")
     if not 1 <= len(given) <= _MOST_POINTS:

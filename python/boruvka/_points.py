@@ -95,16 +95,18 @@ def tree_of_points(points: Numbers, p: float, nearest: int | None) -> tuple[Plac
     If `nearest` is given, two points reach each other at the greatest of their distance and of how far each of them is
     from the so many nearest of all points, itself counted.
     """
-    space = Space(points, p)
-    trees = _trees_for(space)
-    if nearest:
-        space.core = _core_by_trees(space, trees, nearest) if trees else _core_by_rows(space, nearest)
-    if len(space.columns) == 1 and not nearest:
-        order = np.argsort(space.columns[0], kind="stable")
-        one, other = order[:-1], order[1:]
-    else:
-        one, other = _by_rounds(space, trees) if trees else _by_rows(space)
-    return one, other, space.heights(one, other)
+    # (a step past all doubles is infinite, and is taken only where there is no other)
+    with np.errstate(over="ignore"):
+        space = Space(points, p)
+        trees = _trees_for(space)
+        if nearest:
+            space.core = _core_by_trees(space, trees, nearest) if trees else _core_by_rows(space, nearest)
+        if len(space.columns) == 1 and not nearest:
+            order = np.argsort(space.columns[0], kind="stable")
+            one, other = order[:-1], order[1:]
+        else:
+            one, other = _by_rounds(space, trees) if trees else _by_rows(space)
+        return one, other, space.heights(one, other)
 
 
 def _pieces(points: NDArray[Any], width: int) -> Iterator[NDArray[Any]]:

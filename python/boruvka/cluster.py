@@ -8,8 +8,8 @@ import numpy as np
 from numpy.typing import ArrayLike, NDArray
 
 from boruvka._density import Condensed
-from boruvka._forest import Forest, whole
-from boruvka.linkage import cut, spanning_tree
+from boruvka._forest import Forest, expect_no_masks, whole
+from boruvka.linkage import cut, expect_no_rounding, spanning_tree
 
 if TYPE_CHECKING:
     Self = TypeVar("Self", bound="_Estimator")
@@ -45,6 +45,9 @@ class _OverTree(_Estimator):
             points = self._validate_data(X, dtype=np.float64, ensure_min_samples=2)
         else:
             points = validate_data(self, X, dtype=np.float64, ensure_min_samples=2)
+        # (scikit-learn uncovers what is masked, and makes doubles of all)
+        expect_no_masks(X, "X")
+        expect_no_rounding(X, np.asarray(X), points, "X")
         self.tree_ = spanning_tree(points, metric=self.metric, p=self.p, min_samples=min_samples)
         return self.tree_
 

@@ -73,6 +73,8 @@ def minimum_spanning_forest(
     for it in (u, v, w):
         if it not in frame.columns:
             raise KeyError(f"the frame has no column {it!r}")
+        if list(frame.columns).count(it) > 1:
+            raise ValueError(f"the frame has {list(frame.columns).count(it)} columns {it!r}")
     if whole(split_every, "split_every") < 2:
         raise ValueError(f"split_every is {split_every}, and has to be at least 2")
     words = {"n": count, "names": [u, v, w], "maximum": truth(maximum, "maximum")}

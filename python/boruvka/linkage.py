@@ -17,7 +17,7 @@ from numpy.typing import ArrayLike, NDArray
 
 from boruvka import _library
 from boruvka._entries import expect_no_filling
-from boruvka._forest import Forest, Real, held, is_masked, minimum_spanning_forest, of_each, vertices, whole
+from boruvka._forest import Forest, Real, held, is_array, is_masked, minimum_spanning_forest, of_each, vertices, whole
 from boruvka._metrics import Metric, metric_of
 from boruvka._points import tree_of_points
 from boruvka._weights import why_none
@@ -170,7 +170,7 @@ def merges(n: SupportsIndex, forest: Forest) -> NDArray[np.float64]:
     Raises
     ------
     ValueError
-        If the edges don't connect all n vertices.
+        If the edges don't connect all n vertices, or a double would round a weight.
     TypeError
         If n is no whole number, or `forest` is no Forest.
 
@@ -192,7 +192,11 @@ def merges(n: SupportsIndex, forest: Forest) -> NDArray[np.float64]:
     links = np.zeros(len(forest.w), _library.LINK)
     links["low"], links["high"] = u + 1, v + 1
     rows = _library.merges(count, links)
-    return np.column_stack([rows["first"], rows["second"], forest.w, rows["size"]]).astype(np.float64, copy=False)
+    heights = forest.w.astype(np.float64)
+    place = _first_rounded(forest.w, heights)
+    if place is not None:
+        raise ValueError(f"forest.w[{place[0]}] is {forest.w[place]}, which a double would round: a linkage matrix has no other heights, and labels cuts without one")
+    return np.column_stack([rows["first"], rows["second"], heights, rows["size"]])
 
 
 @overload
@@ -290,7 +294,8 @@ def _best_first(given: object) -> Forest:
     if not isinstance(given, Forest):
         raise TypeError(f"a {type(given).__name__} is no Forest, as `spanning_tree` or `minimum_spanning_forest` answers it")
     w = given.w[::-1] if given.maximum else given.w
-    if (w[1:] >= w[:-1]).all():
+    # (of a single edge nothing else is compared)
+    if (w[1:] >= w[:-1]).all() and (w[:1] == w[:1]).all():
         return given
     if np.isnan(given.w).any():
         raise ValueError(f"forest.w[{np.isnan(given.w).argmax()}] is NaN")
@@ -309,26 +314,44 @@ def _up_to(forest: Forest, height: Real) -> int:
 
 
 def _numbers(y: Any) -> NDArray[np.float64]:
-    given = held(y, "y")
     if is_masked(y):
         raise ValueError("y has masked entries: leave these points out first")
+    given = held(y, "y")
     if given.dtype.kind not in "biuf" or given.dtype.itemsize > 8:
         how = ": .astype(float) makes them" if given.dtype == object and " as " not in why_none(given, "y", "biuf") else ""
         raise TypeError(f"{why_none(given, 'y', 'biuf')}, and has to be real numbers of up to 64 bits{how}")
     numbers = given.astype(np.float64, copy=False)
-    if given.dtype.kind == "f" and not hasattr(y, "__array__") and (np.abs(given) >= _EXACT).any():
-        for row, each in enumerate(y if given.ndim == 2 else ()):
-            of_each(list(each), given[row], f"y[{row}]")
-        if given.ndim == 1:
-            of_each(list(y), given, "y")
-    if given.dtype.kind in "iu" and given.dtype.itemsize == 8 and given.size and max(-int(given.min()), int(given.max())) > _EXACT:
-        # (doubles below 2^64 lie at most 2^11 apart)
-        is_rounded = numbers % 2048 != given % 2048
-        if is_rounded.any():
-            place = np.unravel_index(is_rounded.argmax(), given.shape)
-            how = "take the least of each column off first" if given.ndim == 2 else "minimum_spanning_forest takes its pairs, and no double"
-            raise ValueError(f"y[{', '.join(map(str, place))}] is {given[place]}, which a double would round: {how}")
+    expect_no_rounding(y, given, numbers, "y")
     return numbers
+
+
+def expect_no_rounding(y: Any, given: NDArray[Any], numbers: NDArray[np.float64], name: str) -> None:
+    """A ValueError if a whole number of y isn't among these doubles; `given` is what numpy makes of y, which has this name."""
+    place = _first_rounded(given, numbers)
+    if place is not None:
+        how = "take the least of each column off first" if given.ndim == 2 else "minimum_spanning_forest takes its pairs, and no double"
+        raise ValueError(f"{name}[{', '.join(map(str, place))}] is {given[place]}, which a double would round: {how}")
+    is_frame = hasattr(y, "iloc") and given.ndim == 2
+    if given.dtype.kind in "iu" or is_array(y) and not is_frame or not (np.abs(numbers) >= _EXACT).any():
+        return
+    if is_frame:
+        # (its columns may have other dtypes than they have side by side)
+        for place in range(given.shape[1]):
+            of_each(y.iloc[:, place].tolist(), numbers[:, place], f"{name}.iloc[:, {place}]")
+    elif given.ndim == 2:
+        for row, each in enumerate(y):
+            of_each(list(each), numbers[row], f"{name}[{row}]")
+    elif given.ndim == 1:
+        of_each(list(y), numbers, name)
+
+
+def _first_rounded(given: NDArray[Any], numbers: NDArray[np.float64]) -> tuple[int, ...] | None:
+    """The place of the first whole number that isn't the double in its place, if there is one."""
+    if given.dtype.kind not in "iu" or given.dtype.itemsize < 8 or not given.size or max(-int(given.min()), int(given.max())) <= _EXACT:
+        return None
+    # (doubles below 2^64 lie at most 2^11 apart)
+    is_rounded = numbers % 2048 != given % 2048
+    return tuple(map(int, np.unravel_index(is_rounded.argmax(), given.shape))) if is_rounded.any() else None
 
 
 def _are_distances(points: NDArray[np.float64]) -> bool:

@@ -6,7 +6,7 @@ and so is one whose weights can't be put in order as 64-bit numbers. Such weight
 beside integers past 2^53, and other types such as `Fraction`.
 
 The ends of the edges are put into arrays at the first call. Networkx keeps these with the graph (from version 3.3 on),
-and drops them when a method changes the graph. Weights are read at each call.
+and drops them when a method changes the graph. With a view it keeps nothing. Weights are read at each call.
 """
 
 from __future__ import annotations
@@ -131,6 +131,9 @@ def maximum_spanning_tree(
 
 def convert_from_nx(graph: nx.Graph, **_: Any) -> ArrayGraph:
     """What networkx gives to the functions in place of its graph, and keeps with it."""
+    if hasattr(graph, "_graph"):
+        # (a view changes with another graph, whose methods drop nothing here: so networkx is told to keep nothing)
+        graph.__networkx_cache__ = None
     return ArrayGraph(graph)
 
 

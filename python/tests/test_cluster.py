@@ -121,6 +121,18 @@ class Density(unittest.TestCase):
         self.assertEqual(found.probabilities_.tolist(), [1.0] * 20 + [0.0])
         self.assertEqual(set(HDBSCAN(5).fit_predict(np.zeros((20, 2)))), {-1})
 
+    def test_clusters_are_those_of_the_same_points_in_a_smaller_unit(self):
+        # (whole steps are exact, down to multiples of the least double)
+        draw = np.random.default_rng(6)
+        points = np.concatenate([draw.integers(low, high, (20, 2)) for low, high in [(0, 9), (30, 60), (190, 200)]]).astype(np.float64)
+        for method in ("eom", "leaf"):
+            made = HDBSCAN(5, metric="manhattan", cluster_selection_method=method)
+            labels, strengths = made.fit_predict(points), made.probabilities_
+            self.assertGreater(labels.max(), 1)
+            for unit in (2.0**-1022, 2.0**-1030, 5e-324):
+                self.assertEqual(made.fit_predict(points * unit).tolist(), labels.tolist())
+                self.assertEqual(made.probabilities_.tolist(), strengths.tolist())
+
     def test_beside_scikit_learns(self):
         try:
             from sklearn.cluster import HDBSCAN as Theirs
@@ -167,6 +179,22 @@ class Estimators(unittest.TestCase):
         ]:
             with self.assertRaisesRegex(TypeError, f"^{words}, and has to be a whole number$"):
                 made.fit(points)
+
+    def test_whole_numbers_that_doubles_round(self):
+        apart = [[2**53, 0], [2**53 + 1, 0], [2**53 + 2, 0]]
+        for points in (apart, np.array(apart), np.array(apart, np.uint64)):
+            for made in (SingleLinkage(), HDBSCAN(2)):
+                with self.assertRaisesRegex(ValueError, r"^X\[1, 0\] is 9007199254740993, which a double would round: take the least"):
+                    made.fit(points)
+        even = np.array(apart) // 2
+        self.assertEqual(SingleLinkage(distance_threshold=0.5, n_clusters=None).fit_predict(even).tolist(), [0, 0, 1])
+
+    def test_masked_points(self):
+        hidden = np.ma.masked_equal([[0.0, 0.0], [1.0, 1.0], [99.0, 99.0]], 99)
+        for points in (hidden, [*hidden]):
+            for made in (SingleLinkage(), HDBSCAN(2)):
+                with self.assertRaisesRegex(ValueError, "^X has masked entries: leave them out first$"):
+                    made.fit(points)
 
     def test_refused(self):
         points = np.random.default_rng(5).random((9, 2))

@@ -87,6 +87,8 @@ class OneProcess(unittest.TestCase):
         ]:
             with self.assertRaisesRegex(error, words):
                 minimum_spanning_forest(*given)
+        with self.assertRaisesRegex(ValueError, "^the frame has 2 columns 'w'$"):
+            minimum_spanning_forest(in_partitions(self.roads[["u", "v", "w", "w"]], [0, 3]), 4)
         for wrong in (1, 0, -1):
             with self.assertRaisesRegex(ValueError, f"^split_every is {wrong}, and has to be at least 2$"):
                 minimum_spanning_forest(frame, 4, split_every=wrong)

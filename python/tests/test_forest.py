@@ -4,6 +4,7 @@ import contextlib
 import ctypes
 import decimal
 import fractions
+import importlib.util
 import math
 import mmap
 import threading
@@ -207,6 +208,14 @@ class Knowing(unittest.TestCase):
         with self.assertRaisesRegex(TypeError, r"^names\[2\] is a list, which can't be a key of a dict, as vertices of networkx are$"):
             self.forest.to_networkx([0, 1, [2], 3, 4, 5, 6])
 
+    def test_ends_that_are_no_vertices_of_it(self):
+        for u, v in [([-1], [1]), ([0], [2])]:
+            forest = Forest(u, v, [1], [0], n=2, names=["a", "b"])
+            for call, module in [(forest.to_frame, "pandas"), (forest.to_networkx, "networkx"), (lambda: forest.plot([[0, 0], [1, 1]]), "matplotlib"), (lambda: forest.path(0, 1), "numpy")]:
+                if importlib.util.find_spec(module):
+                    with self.assertRaisesRegex(ValueError, "^an edge of the forest has an end that is none of its 2 vertices$"):
+                        call()
+
     def test_as_a_picture(self):
         try:
             import matplotlib
@@ -355,6 +364,16 @@ class Refused(unittest.TestCase):
                 forest = minimum_spanning_forest(4, [0, 1, 2], [1, 2, 3], held)
                 order = sorted(range(3), key=lambda i: weights[i])
                 self.assertEqual((forest.index.tolist(), forest.w.tolist()), (order, [weights[i] for i in order]))
+
+    def test_buffers_in_forms_that_python_does_not_read(self):
+        for dtype in ("f2", ">i4", ">f8", "<u2"):
+            ends, weights = (memoryview(np.array(it, dtype)) for it in ([0, 1, 2], [3, 1, 2]))
+            self.assertEqual(minimum_spanning_forest(3, [0, 1, 2], [1, 2, 0], weights).index.tolist(), [1, 2])
+            if "f" not in dtype:
+                self.assertEqual(minimum_spanning_forest(3, ends, [1, 2, 0], weights).index.tolist(), [1, 2])
+                self.assertEqual(boruvka.from_edges({"u": ends, "v": ends[::-1], "w": weights}).names, [0, 1, 2])
+        for points in (np.array([[2.0**60, 1], [2.0**59, 1]]), np.array([[2**60, 1], [2**59, 1]], ">f8")):
+            self.assertEqual(boruvka.linkage.spanning_tree(memoryview(points)).w.tolist(), [2.0**59])
 
     def containers(self, numbers):
         """The same numbers in whatever may hold them one by one."""

@@ -134,7 +134,7 @@ class Frames(unittest.TestCase):
 
     def test_texts_of_numbers_and_of_bytes(self):
         """They are two vertices, as Python has it, and that is said."""
-        for one, other in [(1, "1"), (2.0, "2"), (2, "2.0"), (7, " 7")]:
+        for one, other in [(1, "1"), (2.0, "2"), (2, "2.0"), (7, " 7"), (1, np.str_("1"))]:
             with self.assertWarnsRegex(UserWarning, f"^the text '{other}' and the number .* name two vertices: ") as told:
                 forest = boruvka.from_edges({"u": [one, 5], "v": ["a", other], "w": [1, 2]})
             self.assertEqual((forest.names, told.filename), ([one, 5, "a", other], __file__))
@@ -248,6 +248,12 @@ class Protocol(unittest.TestCase):
 
     def test_several_pieces(self):
         self.assertEqual(self.names(Chunks(texts(["a", "b"]), texts([]), texts(["c"]))), ["a", "b", "c"])
+
+    def test_a_piece_without_entries_may_have_no_offsets(self):
+        for offsets in ((Buffer(np.empty(0, np.int32)), (0, 32, "l", "=")), None):
+            empty = texts([])
+            empty.buffers["offsets"] = offsets
+            self.assertEqual((self.names(empty), self.names(Chunks(empty, texts(["a"])))), ([], ["a"]))
 
     def test_what_is_missing(self):
         bits, bytes_ = np.array([0b101], np.uint8), np.array([1, 0, 1], np.uint8)

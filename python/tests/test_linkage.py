@@ -277,6 +277,11 @@ class Exact(unittest.TestCase):
             self.expect_all_pairs(beside)
         # each step can be held, though the whole way can't
         self.assertEqual(spanning_tree([[-1.5e308], [0], [1.5e308]]).w.tolist(), [1.5e308] * 2)
+        with warnings.catch_warnings():
+            warnings.simplefilter("error")
+            for tiny, words in [(0, {"metric": "minkowski", "p": 18}), (1e-300, {}), (1e-300, {"metric": "manhattan"}), (1e-300, {"min_samples": 2})]:
+                tree = spanning_tree([[-1.5e308, tiny], [0, 0], [1.5e308, 0]], **words)
+                self.assertEqual(tree.w.tolist(), [1.5e308] * 2)
 
     def test_when_all_pairs_are_looked_at(self):
         """As the notes of spanning_tree tell it, by p and by how many times sizes of coordinates differ; zeros don't count."""

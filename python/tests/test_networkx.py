@@ -199,6 +199,27 @@ class Found(unittest.TestCase):
         (held,) = graph.__networkx_cache__["backends"]["boruvka"].values()
         self.assertEqual((found[1:], held.u.tolist()), (found[:2], [0, 1, 2]))
 
+    def test_views_of_graphs_that_were_changed(self):
+        kept = {0, 1}
+        for made in (
+            lambda it: it.subgraph(range(4)),
+            lambda it: it.edge_subgraph([*it.edges]),
+            lambda it: it.copy(as_view=True),
+            lambda it: it.to_undirected(as_view=True),
+            lambda it: nx.restricted_view(it, [9], []),
+            lambda it: it.subgraph(range(4)).subgraph(range(4)),
+        ):
+            for kind in (nx.Graph, nx.MultiGraph):
+                graph = kind([(0, 1), (1, 2), (2, 3)])
+                view = made(graph)
+                self.assertEqual(sorted(nx.minimum_spanning_edges(view, data=False, keys=False, backend="boruvka")), [(0, 1), (1, 2), (2, 3)])
+                graph.remove_edge(0, 1)
+                self.assertEqual(sorted(nx.minimum_spanning_edges(view, data=False, keys=False, backend="boruvka")), [(1, 2), (2, 3)])
+        view = nx.subgraph_view(nx.path_graph(4), filter_node=kept.__contains__)
+        self.assertEqual(list(nx.minimum_spanning_tree(view, backend="boruvka")), [0, 1])
+        kept.add(2)
+        self.assertEqual(list(nx.minimum_spanning_tree(view, backend="boruvka").edges), [(0, 1), (1, 2)])
+
     def test_what_networkx_answers_itself(self):
         graph = nx.Graph([(1, 2, {"weight": 2**70}), (2, 3, {"weight": 0.5}), (1, 3, {"weight": 2**70 + 1})])
         self.assertEqual(list(nx.minimum_spanning_edges(graph, data=False, backend="boruvka")), [(2, 3), (1, 2)])
