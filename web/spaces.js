@@ -38,7 +38,9 @@ export class Plane {
     const most = Math.max(across.high - across.low, up.high - up.low);
     if (points.length && !Number.isFinite(Math.hypot(across.high - across.low, up.high - up.low))) return null;
     const scale = most > 0 ? 2 ** -Math.max(-1022, Math.min(1022, Math.floor(Math.log2(most)))) : 1;
-    return new Plane(points.map(it => it * scale), scale);
+    // what all points share is 0: scaled, it may be past what doubles hold
+    const by = [across, up].map(it => it.low < it.high ? scale : 0);
+    return new Plane(points.map((it, i) => it * by[i % 2]), scale);
   }
 
   inOrder(order) {

@@ -127,6 +127,18 @@ def candidates_hold_the_shortest_net(room):
             found = lengths_of(zip(links[::3], links[1::3], links[2::3]), len(points))
             is_so((shape.__name__, n, found == lengths_by_prim(room, points)), (shape.__name__, n, True))
 
+
+@case
+def candidates_beside_a_coordinate_that_all_share(room):
+    """However large that is beside the others."""
+    for shared, step in [(5, 1e-310), (1e308, 0.001), (-1.7976931348623157e308, 0.25), (1e10, 1e-300)]:
+        for turn in (1, -1):
+            points = [(shared, y * step)[::turn] for y in (0, 4, 1)]
+            links = by_node(room, f"{modules(room)}/candidates.js", "plane", points)
+            found = lengths_of(zip(links[::3], links[1::3], links[2::3]), 3)
+            is_so([math.isclose(a, b, rel_tol=1e-12) for a, b in zip(found, [step, 3 * step], strict=True)], [True, True])
+
+
 @case
 def candidates_on_the_globe(room):
     draw = random.Random(85)
