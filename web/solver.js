@@ -27,6 +27,7 @@ const CAUSES = {
   LongRow: 'A row has a million letters at most. Is this a table?',
   TooManyLines: 'A table has 20 million lines at most.',
   OpenQuote: 'A quotation mark opens here, and none closes.',
+  StrayQuote: 'A quotation mark stands within a field. Put the field in quotes, and write each mark in it twice.',
   OtherColumns: 'It has another number of fields than the first row.',
   TooManyColumns: 'A table has 1,000 columns at most.',
   OneColumn: 'A table needs two columns at least, between commas, semicolons, tabs or spaces.',

@@ -17,7 +17,7 @@ class Reader {
   }
 
   fields(row, line, count) {
-    const fields = fieldsOf(row, this.separator);
+    const fields = fieldsOf(row, this.separator, line);
     if (fields.length > MOST_COLUMNS) throw new Refusal('TooManyColumns', line, String(fields.length));
     if (count && fields.length !== count) throw new Refusal('OtherColumns', line, `${fields.length} in place of ${count}`);
     return fields;

@@ -124,6 +124,8 @@ TAKEN = [
     ("id.csv", b"id,x,y\n100,0,0\n900,3,4\n", "2", "5"),
     ("turned.csv", b"Y,name,X\n4,a,3\n0,b,0\n", "2", "5"),
     ("quotes.csv", b'name,x,y\n"a, ""b""\nc",0,0\n"",3,4\n', "2", "5"),
+    # marks that hide no separator are letters, as Python's csv reads them
+    ("marks.csv", b'name,x,y\na "b" c,0,0\n5" by 6",3,4\n', "2", "5"),
     ("semicolons.csv", b"1,5;2,5\n4,5;6,5\n", "2", "5"),
     ("semicolons.csv", b"x;y\n1.5;2.5\n4.5;6.5\n", "2", "5"),
     ("quoted.csv", b'"0","0"\n"3","4"\n', "2", "5"),
@@ -255,6 +257,9 @@ FAULTS = [
     ("bad.csv", b"x,y\n" + b"1,2\n" * 9 + b"1\n", "line 11: OtherColumns (1 in place of 2)"),
     ("bad.csv", b"1,5;2\n1.5;2\n", "line 2: PointAndComma (‘1.5’)"),
     ("bad.csv", b'x,y\n"1,2\n3,4\n', "line 2: OpenQuote"),
+    ("bad.csv", b'name,x,y\n5" pipe,0,0\n6" pipe,3,4\n7 pipe,1,1\n', "line 2: StrayQuote (‘5\" pipe,0,0’)"),
+    ("bad.csv", b'from,to\na 5",b 6"\n', "line 2: StrayQuote (‘a 5\",b 6\"’)"),
+    ("bad.txt", b'name x y\n5" 0 0\n6" 3 4\n', "line 2: StrayQuote (‘5\" 0 0’)"),
     ("bad.csv", b"x,y\n1,\xe4\n", "NoUtf8"),
     ("bad.csv", b"x,y\n1,2\0\n", "line 1: NoText"),
     ("bad.csv", b"", "NoPoint"),
