@@ -44,6 +44,13 @@ function byHeader(header) {
   return all.length === 1 && isPlain ? { choice } : { guess: choice };
 }
 
+// What is to be said of a header: that its words aren't known, so that it may be data; and that a height is left out.
+export function headerTold(header, { kind, roles }) {
+  const told = header.slice(0, 4).map(it => `‘${it.slice(0, 40)}’`).join(', '), z = found(header, ['z'])[0];
+  if (!byWords(header, kind)) return [`The first row is read as names of columns: ${told}. If it is a row of data, put one of names before it.`];
+  return kind === 'plane' && z !== undefined && !Object.values(roles).includes(z) ? [`The column ${header[z]} is left out: points lie on paper here.`] : [];
+}
+
 // What the first rows of a table leave to choose: { choice } that is plain, or { guess }, to be asked about.
 export function chosenBy(rows, commas) {
   const isNumber = it => !Number.isNaN(numberOf(it, commas)), [header] = rows, hasHeader = !header.some(isNumber);

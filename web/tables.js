@@ -1,7 +1,7 @@
 // What a table says, row by row: points with their names, or links between names.
 
 import { Refusal } from './boruvka.js';
-import { chosenBy, hasComma, numberOf } from './columns.js';
+import { chosenBy, hasComma, headerTold, numberOf } from './columns.js';
 import { Packer } from './names.js';
 import { fieldsOf, separatorOf } from './rows.js';
 
@@ -136,7 +136,8 @@ export async function readTable(source, choice) {
     const fields = reader.fields(row, line, count);
     if (!choice.hasHeader || line > head) table.take(fields, line);
   });
-  return { ...table.all(reader.notes()), choice: { ...choice, separator, commas: Boolean(reader.comma) } };
+  const notes = [...(choice.hasHeader ? headerTold(rows[0], choice) : []), ...reader.notes()];
+  return { ...table.all(notes), choice: { ...choice, separator, commas: Boolean(reader.comma) } };
 }
 
 // The table again, each row with one more field, as a file. `cell` answers that of each row of data.

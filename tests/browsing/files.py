@@ -162,6 +162,31 @@ def files_that_are_taken(_room):
     page.expect(points="3", total="5")
 
 
+# what is said of a first row that may be data, and of a column that changes nothing
+HEADS = [
+    ("−5,−3\n0,0\n3,4\n", "The first row is read as names of columns: ‘−5’, ‘−3’. If it is a row of data, put one of names before it."),
+    ("NA;NA\n0;0\n3;4\n", "The first row is read as names of columns: ‘NA’, ‘NA’. If it is a row of data, put one of names before it."),
+    ("x,y,z\n0,0,0\n3,4,9\n", "The column z is left out: points lie on paper here."),
+    ("x,y,note\n0,0,0\n3,4,9\n", ""),
+    ("0,0\n3,4\n", ""),
+]
+
+
+@case
+def first_rows_that_are_guessed(_room):
+    page = Page.opened()
+    for text, told in HEADS:
+        page.drop(("points.csv", text.encode()))
+        is_so((text, page.text("notes")), (text, told))
+        page.expect(points="2", total="5")
+    # links between names: nothing tells the first from a header
+    page.browser.run(DROP_SOON, [("links.csv", base64.b64encode(b"Bern,Rome\nRome,Oslo\n").decode())])
+    page.browser.wait("document.getElementById('columns').open")
+    page.browser.run("document.querySelector('#columns button[value=take]').click()")
+    page.settle()
+    is_so(page.text("notes").split(" If ")[0], "The first row is read as names of columns: ‘Bern’, ‘Rome’.")
+
+
 @case
 def the_towns_of_the_repository(_room):
     """Its columns by the header, kilometres on great circles, and their archipelagos as the Python example has them."""
