@@ -21,6 +21,7 @@ const CAUSES = {
   PlacesDiffer: 'The graph has another number of vertices than this file has places.',
   NoText: 'This is no text. Unpack it, or save it as CSV.',
   NoUtf8: 'Some letters aren’t UTF-8. Save it as “CSV UTF-8”.',
+  NoUtf16: 'It begins as UTF-16, and some letters aren’t. Was the file cut off?',
   Unreadable: 'The file can’t be read. Was it moved, or changed since it was opened?',
   BadGzip: 'It can’t be unpacked. Was the file cut off?',
   TooLong: 'A text of this kind may have a gigabyte at most. The program takes more.',

@@ -286,6 +286,8 @@ FAULTS = [
     ("bad.csv", b'from,to\na 5",b 6"\n', "line 2: StrayQuote (‘a 5\",b 6\"’)"),
     ("bad.txt", b'name x y\n5" 0 0\n6" 3 4\n', "line 2: StrayQuote (‘5\" 0 0’)"),
     ("bad.csv", b"x,y\n1,\xe4\n", "NoUtf8"),
+    ("bad.csv", "1,2\n3,4\n".encode("utf-16")[:-1], "NoUtf16"),
+    ("bad.csv", b"\xfe\xff\0001\0,\0002\0\n\xd8\0", "NoUtf16"),
     ("bad.csv", b"x,y\n1,2\0\n", "line 1: NoText"),
     ("bad.csv", b"", "NoPoint"),
     ("bad.csv", b"\n \n\r\n", "NoPoint"),
