@@ -3,7 +3,7 @@
 import { MOST_CARRIED, addressOf } from './address.js';
 import { numbersOf } from './clusters.js';
 import { dendrogramSvg } from './dendrogram.js';
-import { pointsCsv } from './out.js';
+import { pointsText } from './out.js';
 import { pictureSvg } from './picture.js';
 import { canPlay, filmed } from './playing.js';
 import { state } from './state.js';
@@ -60,7 +60,7 @@ export function listenToSaving(solver, fault) {
       }
     };
   }
-  $('copylink').onclick = () => copied(async () => addressOf(await pointsCsv(state.shown).text()), fault);
+  $('copylink').onclick = () => copied(async () => addressOf(await pointsText(state.shown)), fault);
   $('copypython').onclick = () => copied(async () => pythonText(), fault);
 }
 
