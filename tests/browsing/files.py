@@ -139,6 +139,8 @@ TAKEN = [
     ("unnamed", SMALL_NET, "6", "13"),
     ("links.csv", b"source,target,weight\na,b,1.5\nb,c,2\nc,a,-1\nc,c,5\n", "3", "0.5"),
     ("links.csv", b"From;To\na;b\nb;c\n", "3", "2"),
+    # as math.fsum has it
+    ("links.csv", b"source,target,weight\na,b,1e16\nb,c,1\nc,d,-1e16\n", "4", "1"),
     # by the haversine formula in Python's floats, with 6371 km
     ("globe.csv", b"Longitude,LATITUDE\n0,0\n90,0\n0,90\n", "3", "20,015.09 km"),
     ("globe.csv", b"lat,lon\n0,179.5\n0,-179.5\n", "2", "111.1949 km"),
