@@ -33,11 +33,12 @@ let solver;
 
 const counted = it => it.toLocaleString('en').replace('-', '−');
 
-// A weight: a whole number exactly, a length to seven digits.
+// A weight: a whole number exactly, a length to seven digits, or to the units where these are more.
 function measured(it) {
-  if (typeof it === 'bigint' || !Number.isFinite(it)) return counted(it);
-  const notation = it && (Math.abs(it) >= 1e15 || Math.abs(it) < 1e-6) ? 'scientific' : 'standard';
-  return it.toLocaleString('en', { maximumSignificantDigits: 7, notation }).replace('-', '−');
+  if (typeof it === 'bigint' || Number.isSafeInteger(it) || !Number.isFinite(it)) return counted(it);
+  const size = Math.abs(it), notation = size >= 1e15 || size < 1e-6 ? 'scientific' : 'standard';
+  const digits = size >= 1e7 && size < 1e15 ? { maximumFractionDigits: 0 } : { maximumSignificantDigits: 7 };
+  return it.toLocaleString('en', { ...digits, notation }).replace('-', '−');
 }
 
 // The weight of a forest's link.

@@ -139,6 +139,9 @@ TAKEN = [
     ("unnamed", SMALL_NET, "6", "13"),
     ("links.csv", b"source,target,weight\na,b,1.5\nb,c,2\nc,a,-1\nc,c,5\n", "3", "0.5"),
     ("links.csv", b"From;To\na;b\nb;c\n", "3", "2"),
+    # a whole number to its last digit
+    ("links.csv", b"source,target,weight\na,b,123456789\nb,c,9007199130284201\n", "3", "9,007,199,253,740,990"),
+    ("links.csv", b"source,target,weight\na,b,12345678.25\nb,c,0.5\n", "3", "12,345,679"),
     # as math.fsum has it
     ("links.csv", b"source,target,weight\na,b,1e16\nb,c,1\nc,d,-1e16\n", "4", "1"),
     # by the haversine formula in Python's floats, with 6371 km
