@@ -368,7 +368,7 @@ function listenToWindow() {
   addEventListener('paste', event => {
     if (!event.target.matches('input, textarea')) openAll(event.clipboardData);
   });
-  addEventListener('hashchange', () => openFirst());
+  addEventListener('hashchange', () => openFirst().catch(fault));
   document.ondragover = event => {
     event.preventDefault();
     document.body.classList.add('over');

@@ -200,6 +200,11 @@ def addresses_that_are_no_data(_room):
         page = Page.opened(more)
         is_so((page.text("fault")[: len(told)], page.text("points")), (told, "0"))
     page.browser.complaints()
+    # where the page is open already
+    page = Page.opened()
+    page.browser.run("location.hash = '#d=AAAA'")
+    page.browser.wait("document.getElementById('fault').textContent.startsWith('BadAddress')", seconds=5)
+    is_so((page.text("points"), page.browser.complaints()), ("1,500", []))
 
 
 @case
