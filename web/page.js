@@ -254,9 +254,13 @@ async function openFile(file, isNow) {
   note(answer.notes ?? []);
 }
 
-// Opens files, graphs before their places. A file that is refused changes nothing.
+// Opens a file, and a graph before its places. A file that is refused changes nothing.
 async function open(files) {
-  const isNow = beginOther(), isPlaces = file => /\.co(\.gz)?$/i.test(file.name);
+  const isNow = beginOther(), isPlaces = file => /\.co(\.gz)?$/i.test(file.name), places = files.filter(isPlaces).length;
+  if (Math.max(places, files.length - places) > 1) {
+    fault(new Refused({ kind: 'SeveralFiles', what: String(files.length) }));
+    return;
+  }
   busy(1);
   for (const it of document.querySelectorAll('dialog[open]')) it.close();
   for (const file of [...files].sort((a, b) => isPlaces(a) - isPlaces(b))) {

@@ -24,6 +24,7 @@ const CAUSES = {
   NoUtf16: 'It begins as UTF-16, and some letters aren’t. Was the file cut off?',
   Unreadable: 'The file can’t be read. Was it moved, or changed since it was opened?',
   BadGzip: 'It can’t be unpacked. Was the file cut off?',
+  SeveralFiles: 'Open one table or graph at a time, and perhaps its places (.co): none is joined to another here.',
   TooLong: 'A text of this kind may have a gigabyte at most. The program takes more.',
   LongRow: 'A row has a million letters at most. Is this a table?',
   TooManyLines: 'A table has 20 million lines at most.',

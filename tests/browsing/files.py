@@ -350,6 +350,16 @@ def refused_files(_room):
 
 
 @case
+def several_files(_room):
+    """The last one was shown alone, as if it were all."""
+    page = Page.opened()
+    before = page.shown()
+    for names in (["a.csv", "b.csv"], ["a.gr", "b.gr", "b.co"], ["a.co", "b.co"]):
+        page.drop(*((name, SMALL_NET if name.endswith(".gr") else PLACES if name.endswith(".co") else b"0,0\n3,4\n") for name in names))
+        is_so((page.text("fault").split(". ")[0], page.shown()), (f"SeveralFiles ({len(names)})", before))
+
+
+@case
 def a_file_that_is_refused_while_points_are_joined(_room):
     """The points before them stay: a file ends what was begun."""
     page = Page.opened()
