@@ -56,6 +56,18 @@ def clicked_points(_room):
 
 
 @case
+def a_point_far_from_zero(_room):
+    """In metres of a map, the pen sets it where it is put: not on the next full ten."""
+    page = Page.opened()
+    page.drop(("utm.csv", b"x,y\n391234.5,5812345.25\n391244.5,5812345.25\n391244.5,5812355.25\n"))
+    page.click("pen")
+    page.browser.click_at("picture", 400, 400)
+    page.expect(points="4")
+    script = "return Promise.all([import('./state.js'), import('./view.js')]).then(([{ state: { shown } }, { lens }]) => [lens().across(shown.points[6]), lens().down(shown.points[7])])"
+    is_so([abs(it - 400) < 0.2 for it in page.browser.run(script)], [True, True])
+
+
+@case
 def points_by_keys(_room):
     page = Page.cleared()
     page.click("pen")
