@@ -72,6 +72,8 @@ function tellFigures() {
   put('heaviest', k ? weightAt(k - 1) : '');
   put('kept', clusters?.kept ? weightAt(clusters.kept - 1) : '');
   put('milliseconds', shown ? counted(Math.round(10 * shown.milliseconds) / 10) : '');
+  const notes = shown?.notes.join(' ') ?? '';
+  if ($('notes').textContent !== notes) put('notes', notes); // so that it is read aloud once
   put('by', shown ? (shown.isProved ? 'proved code' : 'JavaScript, not proved') : '');
 }
 
@@ -138,7 +140,6 @@ function tell() {
 }
 
 const fault = error => { $('fault').textContent = error ? error.message : ''; };
-const note = notes => { $('notes').textContent = notes.join(' '); };
 
 // ---- points in
 
@@ -149,7 +150,6 @@ function beginOther() {
   solver.stop();
   stopPlaying();
   fault(null);
-  note([]);
   return () => own === turn;
 }
 
@@ -251,7 +251,6 @@ async function openFile(file, isNow) {
   if (!answer) return;
   if (answer.kind === 'places') await putPlaces(answer.points);
   else await showOther(answer, { file, view: null, penned: 0, cross: null });
-  note(answer.notes ?? []);
 }
 
 // Opens a file, and a graph before its places. A file that is refused changes nothing.
