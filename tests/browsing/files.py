@@ -167,6 +167,8 @@ def files_that_are_taken(_room):
     is_so(page.text("notes"), "1 of the links join a name with itself, and are left out. No column is a weight: each link weighs 1.")
     page.click("clear")
     is_so(page.text("notes"), "")
+    page.drop(("none.gr", b"p sp 0 0\n"))
+    page.expect(points="0", size="0", say="0 clusters.")
     page.drop(("long.csv", b"name,x,y\n%s,0,0\n%s,3,4\nc,3,4\n" % (b"a" * 200, b"b" * 201)))
     is_so(page.text("notes"), "1 of the names are cut to 200 characters.")
     page.expect(points="3", total="5")
