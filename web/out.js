@@ -35,13 +35,16 @@ export function grOf(n, links) {
   return text.blob('text/plain');
 }
 
+// A double past 2^53 isn't written as a whole number: the zeros at its end would not be its own.
+const written = it => Math.abs(it) > Number.MAX_SAFE_INTEGER ? it.toExponential() : it;
+
 // The points or vertices, with the numbers of their clusters if these are given. `named` makes a field of a name.
 export function pointsCsv({ n, points, names, kind }, numbers = null, named = guarded) {
   const hasPoints = kind === 'plane' || kind === 'globe', own = names ? [] : ['vertex'];
   const head = { plane: ['x', 'y'], globe: ['longitude', 'latitude'] }[kind] ?? own;
   const text = new Text(`${[...(names ? ['name'] : []), ...head, ...(numbers ? ['cluster'] : [])].join(',')}\n`);
   for (let v = 0; v < n; v++) {
-    const fields = hasPoints ? [points[2 * v], points[2 * v + 1]] : names ? [] : [v + 1];
+    const fields = hasPoints ? [written(points[2 * v]), written(points[2 * v + 1])] : names ? [] : [v + 1];
     text.add(`${[...(names ? [named(nameAt(names, v))] : []), ...fields, ...(numbers ? [numbers[v]] : [])].join(',')}\n`);
   }
   return text.blob('text/csv');

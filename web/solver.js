@@ -39,6 +39,7 @@ const CAUSES = {
   NoLink: 'There is no link in it. A table has a row for each, as “source,target,weight”.',
   NoName: 'An end of this link has no name.',
   LongWeight: 'A whole number past 2^53 would be rounded here. A .gr file keeps it.',
+  LongPlace: 'A whole number past 2^53 would be rounded here. Take the same number off the whole column.',
   NoLatitude: 'A latitude must be -90 to 90. Are the columns the other way round, or in metres?',
   NoLongitude: 'A longitude must be -360 to 360. Are the columns in metres?',
   TooManyPoints: 'A million points are taken at most.',

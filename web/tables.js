@@ -30,6 +30,13 @@ class Reader {
     return it;
   }
 
+  // The number. A whole one that doubles round is refused.
+  whole(field, line, kind) {
+    const it = this.number(field, line);
+    if (!Number.isSafeInteger(it) && /^[-+]?\d+$/.test(field) && BigInt(field) !== BigInt(it)) throw new Refusal(kind, line, field.slice(0, 40));
+    return it;
+  }
+
   // Within a table all numbers have a point, or all have a comma.
   hearPoint(field, line) {
     if (hasComma(field)) this.comma ||= field;
@@ -70,7 +77,7 @@ class PointTable extends Points {
   }
 
   take(fields, line) {
-    const { across, up, name } = this.roles, number = it => this.reader.number(fields[it], line);
+    const { across, up, name } = this.roles, number = it => this.reader.whole(fields[it], line, 'LongPlace');
     this.add(number(across), number(up), fields[name], line);
   }
 }
@@ -93,8 +100,7 @@ class LinkTable {
 
   take(fields, line) {
     const { from, to, weight } = this.roles, u = this.id(fields[from], line), v = this.id(fields[to], line);
-    const it = weight >= 0 ? this.reader.number(fields[weight], line) : 1;
-    if (/^[-+]?\d+$/.test(fields[weight]) && !Number.isSafeInteger(it)) throw new Refusal('LongWeight', line, fields[weight]);
+    const it = weight >= 0 ? this.reader.whole(fields[weight], line, 'LongWeight') : 1;
     if (this.weights.length >= MOST_LINKS) throw new Refusal('TooManyLinks', line);
     if (u === v) this.loops++;
     this.ends.push(u, v);

@@ -309,6 +309,7 @@ FAULTS = [
     ("bad.csv", b"source,target\n", "NoLink"),
     ("bad.csv", b"source,target\na,\n", "line 2: NoName"),
     ("bad.csv", b"source,target,weight\na,b,9007199254740993\n", "line 2: LongWeight (9007199254740993)"),
+    ("bad.csv", b"0,0\n9007199254740993,0\n", "line 2: LongPlace (9007199254740993)"),
     ("bad.csv", b"source,target,weight\na,b,\n", "line 2: NoNumber (‘’)"),
     ("bad.csv", b"0,0\n" * 1000001, "line 1000001: TooManyPoints"),
     ("bad.png", b"\x89PNG\r\n\x1a\n\0\0", "NoText (a PNG picture)"),
