@@ -51,11 +51,15 @@ export function headerTold(header, { kind, roles }) {
   return kind === 'plane' && z !== undefined && !Object.values(roles).includes(z) ? [`The column ${header[z]} is left out: points lie on paper here.`] : [];
 }
 
+// Whether a column that no word of a weight stands over may be one.
+const mayLackWeight = ({ kind, roles: { from, to, weight } }, numbers) => kind === 'links' && weight < 0 && numbers.some(it => it !== from && it !== to);
+
 // What the first rows of a table leave to choose: { choice } that is plain, or { guess }, to be asked about.
 export function chosenBy(rows, commas) {
   const isNumber = it => !Number.isNaN(numberOf(it, commas)), [header] = rows, hasHeader = !header.some(isNumber);
   const data = hasHeader ? rows.slice(1) : rows, numbers = [...header.keys()].filter(i => data.some(row => isNumber(row[i])));
   const told = hasHeader ? byHeader(header) : null;
+  if (told?.choice && mayLackWeight(told.choice, numbers)) return { guess: told.choice };
   if (told) return told;
   const name = [...header.keys()].find(i => !numbers.includes(i)), [across, up] = numbers;
   const plain = { kind: 'plane', roles: { across, up, name }, hasHeader };

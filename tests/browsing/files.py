@@ -240,6 +240,13 @@ def columns_that_are_chosen(_room):
         page.browser.run("document.querySelector('#columns button[value=take]').click()")
         page.settle()
         page.expect(points=points, total=total)
+    # links with numbers that no word says are weights: two links of 1 were the net
+    page.browser.run(DROP_SOON, [("table.csv", base64.b64encode(b"from,to,cost\na,b,5\nb,c,6\na,c,1\n").decode())])
+    page.browser.wait("document.getElementById('columns').open", seconds=5)
+    page.set("role-weight", 2)
+    page.browser.run("document.querySelector('#columns button[value=take]').click()")
+    page.settle()
+    page.expect(points="3", total="6")
     page.browser.run(DROP_SOON, [("table.csv", base64.b64encode(b"1,2,3\n").decode())])
     page.browser.wait("document.getElementById('columns').open")
     page.browser.press(ESCAPE)
