@@ -118,11 +118,11 @@ function tellDendrogram() {
 // Once before the next frame, however often the state changes.
 let awaited = 0, drawn = {};
 function tellSoon() {
-  picture.soon();
   awaited ||= requestAnimationFrame(() => {
     awaited = 0;
     tell();
   });
+  picture.soon(); // after what is told, below which it has its place
 }
 
 function tell() {
@@ -130,10 +130,11 @@ function tell() {
   const isSame = Object.keys(now).every(it => now[it] === drawn[it]);
   $('say').textContent = caption();
   tellControls();
+  if (!isSame) tellFigures();
+  if (drawn.shown !== shown && !state.view) measure();
   tellPicked();
   if (isSame) return;
   drawn = now;
-  tellFigures();
   tellSaving();
   tellDendrogram();
   if ($('bars').clientWidth) drawBars($('bars'));
@@ -385,12 +386,16 @@ function listenToWindow() {
 }
 
 // Measures what part of the picture nothing covers.
-function settle() {
+function measure() {
   const isWide = innerWidth > 800, isEmbedded = document.body.classList.contains('embed'), isPulled = document.body.classList.contains('pulled');
   const box = id => $(id).getBoundingClientRect(), gap = 8;
   const right = isWide && !isEmbedded ? box('side').left : innerWidth, top = isEmbedded ? 0 : box('head').bottom + gap;
   const bottom = isEmbedded ? innerHeight : (!isWide && isPulled ? innerHeight - $('side').offsetHeight : box('bar').top) - gap;
   Object.assign(free, { left: 0, top, width: Math.max(40, right), height: Math.max(40, bottom - top) });
+}
+
+function settle() {
+  measure();
   tellSoon();
 }
 

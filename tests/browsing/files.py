@@ -185,6 +185,19 @@ HEADS = [
 
 
 @case
+def no_point_lies_below_what_is_said(_room):
+    """The picture begins under the last line, however many there are."""
+    tall = "x;y\n" + "".join(f"{i * 37 % 11},5;{10 * i}\n" for i in range(60))
+    script = "return Promise.all([import('./state.js'), import('./view.js')]).then(([{ state: { shown } }, { lens }]) => [document.getElementById('notes').getBoundingClientRect().bottom, lens().down(shown.points[119])])"
+    for width, height in [(1280, 800), (390, 844)]:
+        page = Page.opened(width=width, height=height)
+        page.drop(("tall.csv", tall.encode()))
+        page.expect(points="60", notes="A comma is read as the decimal point: 0,5 is 0.5.")
+        bottom, highest = page.browser.run(script)
+        is_so((width, 40 < bottom < highest < bottom + 60), (width, True))
+
+
+@case
 def first_rows_that_are_guessed(_room):
     page = Page.opened()
     for text, told in HEADS:
