@@ -61,14 +61,20 @@ export class Plane {
   }
 }
 
+// Degrees by which each place of the globe has one pair: east from -180 to below 180, and 0 at the poles. Each step is exact.
+export function namedOnce(points) {
+  const east = it => it >= 180 ? it - 360 : it < -180 ? it + 360 : it;
+  return points.map((it, i) => i % 2 ? it : Math.abs(points[i + 1]) === 90 ? 0 : east(it));
+}
+
 // Kilometres on great circles, by the haversine formula. Points are degrees east and north; axes lead out of the earth.
 export class Globe {
   constructor(coordinates, east, north) {
     Object.assign(this, { coordinates, width: 3, east, north, shrink: north.map(Math.cos) });
   }
 
-  static of(points) {
-    const n = points.length / 2, east = new Float64Array(n), north = new Float64Array(n), coordinates = new Float64Array(3 * n);
+  static of(degrees) {
+    const points = namedOnce(degrees), n = points.length / 2, east = new Float64Array(n), north = new Float64Array(n), coordinates = new Float64Array(3 * n);
     for (let v = 0; v < n; v++) {
       [east[v], north[v]] = [points[2 * v] * RADIAN, points[2 * v + 1] * RADIAN];
       coordinates.set([Math.cos(north[v]) * Math.cos(east[v]), Math.cos(north[v]) * Math.sin(east[v]), Math.sin(north[v])], 3 * v);
@@ -87,7 +93,7 @@ export class Globe {
   }
 
   within(square) {
-    return (Math.sqrt(square) + BLUR) ** 2;
+    return square && (Math.sqrt(square) + BLUR) ** 2; // nothing is nearer than 0: else all equal places would be looked at
   }
 
   length(square) {

@@ -19,7 +19,7 @@ import { mergesOf } from './merges.js';
 import { pointsCsv, forestCsv, forestGeoJson, grOf, linkageCsv } from './out.js';
 import { roundsOf } from './rounds.js';
 import { Source, kindOf } from './sources.js';
-import { Globe, Plane, drawnGlobe } from './spaces.js';
+import { Globe, Plane, drawnGlobe, namedOnce } from './spaces.js';
 import { MOST_POINTS, readTable, widened } from './tables.js';
 import { candidates } from './tree.js';
 import { putWeights, totalOf, weightsOf } from './weights.js';
@@ -36,10 +36,11 @@ const isApart = (points, u, v) => points[2 * u] !== points[2 * v] || points[2 * 
 function linksOfPoints(kind, points) {
   const space = (kind === 'globe' ? Globe : Plane).of(points);
   if (!space) throw new Refusal('TooFarApart');
+  const single = kind === 'globe' ? namedOnce(points) : points;
   const found = candidates(space, told), links = new Uint32Array(4 * found.length / 3), lengths = new Float64Array(found.length / 3);
   for (let i = 0; i < lengths.length; i++) {
     const u = found[3 * i], v = found[3 * i + 1];
-    if (found[3 * i + 2] < LEAST_SQUARE && isApart(points, u, v)) throw new Refusal('TooNear');
+    if (found[3 * i + 2] < LEAST_SQUARE && isApart(single, u, v)) throw new Refusal('TooNear');
     lengths[i] = space.length(found[3 * i + 2]);
     links[4 * i + 2] = Math.min(u, v) + 1;
     links[4 * i + 3] = Math.max(u, v) + 1;

@@ -151,6 +151,17 @@ def candidates_on_the_globe(room):
         is_so([(a, b) for a, b in zip(found, wanted) if abs(a - b) > 1e-12 * b + 1e-9], [])
 
 
+@case
+def a_place_of_the_globe_with_several_pairs(room):
+    """At a pole all degrees east are one place, and so are 180 and -180, 0 and 360, however many points lie there."""
+    for points in ([(13.4, 52.5)] * 50000, [(x / 100, 90) for x in range(20000)], [(180 - 360 * (i % 2), 10) for i in range(50000)], [(360 * (i % 2), -89.5) for i in range(50000)]):
+        links = by_node(room, f"{modules(room)}/candidates.js", "globe", points)
+        is_so(set(links[2::3]), {0.0})
+    page = Page.opened()
+    page.drop(("globe.csv", b"lon,lat\n0,90\n120,90\n180,0\n-180,0\n"))
+    page.expect(size="3", total="10,007.54 km")
+
+
 def text_of(points):
     return "".join(f"{x!r},{y!r}\n" for x, y in points).encode()
 
