@@ -11,7 +11,7 @@ const WORDS = {
 };
 const NAMES = ['name', 'label', 'town', 'city', 'title', 'place', 'station', 'id'];
 
-export const NUMBER = /^[-+]?(\d+\.?\d*|\.\d+)(e[-+]?\d+)?$/i;
+const NUMBER = /^[-+]?(\d+\.?\d*|\.\d+)(e[-+]?\d+)?$/i;
 const WITH_COMMA = /^[-+]?\d+,\d+$/;
 
 const MOST_IN_NUMBER = 1000; // characters; no double needs more

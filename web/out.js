@@ -1,6 +1,5 @@
 // Files out that the worker makes, each a Blob. Forests and merges are as worker.js answers them.
 
-import { NUMBER } from './columns.js';
 import { nameAt } from './names.js';
 import { bitsOf } from './weights.js';
 
@@ -26,7 +25,7 @@ class Text {
 const quoted = field => /[",\n\r;]|^\s|\s$/.test(field) ? `"${field.replaceAll('"', '""')}"` : field;
 
 // A field of a file that may be opened by a program that makes formulas of texts: it gets none. A number stays one.
-const guarded = field => /^[=+@\t\r]/.test(field) || (/^-/.test(field) && !NUMBER.test(field)) ? `"'${field.replaceAll('"', '""')}"` : quoted(field);
+const guarded = field => /^[=+@\t\r]/.test(field) || (/^-/.test(field) && Number.isNaN(Number(field))) ? `"'${field.replaceAll('"', '""')}"` : quoted(field);
 
 // The .gr text of links: their weights as whole numbers.
 export function grOf(n, links) {
@@ -51,7 +50,7 @@ export function pointsCsv({ n, points, names, kind }, numbers = null, named = gu
 }
 
 // The points as a table that this page reads again, with the names that they have.
-export const pointsText = shown => pointsCsv(shown, null, quoted).text();
+export const carriedCsv = shown => pointsCsv(shown, null, quoted);
 
 // The forest's links with the names of their ends, the lightest first.
 export function forestCsv({ forest, names, heights, isExact }) {

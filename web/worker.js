@@ -16,7 +16,7 @@ import { linksOfForest, linksOfGraph, pointsOfPlaces } from './graphs.js';
 import { forestByKruskal, mergesByKruskal } from './kruskal.js';
 import { placed } from './layout.js';
 import { mergesOf } from './merges.js';
-import { pointsCsv, forestCsv, forestGeoJson, grOf, linkageCsv } from './out.js';
+import { carriedCsv, pointsCsv, forestCsv, forestGeoJson, grOf, linkageCsv } from './out.js';
 import { roundsOf } from './rounds.js';
 import { Source, kindOf } from './sources.js';
 import { Globe, Plane, drawnGlobe, namedOnce } from './spaces.js';
@@ -107,6 +107,7 @@ const texts = {
   'forest.csv': forestCsv,
   'forest.geojson': forestGeoJson,
   'linkage.csv': linkageCsv,
+  'carried.csv': carriedCsv,
   async 'clusters.csv'(it, { file, numbers }) {
     if (it.choice && it.kind !== 'links' && file) return widened(await Source.of(file), it.choice, 'cluster', at => numbers[at]);
     return pointsCsv(it, numbers);
