@@ -26,6 +26,7 @@ const CAUSES = {
   BadGzip: 'It can’t be unpacked. Was the file cut off?',
   SeveralFiles: 'Open one table or graph at a time, and perhaps its places (.co): none is joined to another here.',
   TooLong: 'A text of this kind may have a gigabyte at most. The program takes more.',
+  LongText: 'Places, and graphs without the module, may have half a gigabyte at most.',
   LongRow: 'A row has a million letters at most. Is this a table?',
   TooManyLines: 'A table has 20 million lines at most.',
   OpenQuote: 'A quotation mark opens here, and none closes.',
