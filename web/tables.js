@@ -148,10 +148,10 @@ export async function readTable(source, choice) {
 
 // The table again, each row with one more field, as a file. `cell` answers that of each row of data.
 export async function widened(source, { hasHeader }, title, cell) {
-  const { separator } = new Reader(separatorOf((await sampleOf(source))[0].row)), parts = [], mark = separator === ' ' ? '\t' : separator;
+  const { separator } = new Reader(separatorOf((await sampleOf(source))[0].row)), parts = [];
   let at = hasHeader ? -1 : 0, text = '';
   await source.rows(row => {
-    text += `${row}${mark}${at < 0 ? title : cell(at)}\n`;
+    text += `${row}${separator}${at < 0 ? title : cell(at)}\n`;
     at++;
     if (text.length > 2 ** 20) {
       parts.push(text);

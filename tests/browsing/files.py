@@ -185,6 +185,17 @@ HEADS = [
 
 
 @case
+def a_saved_table_is_read_again(_room):
+    """Its clusters stand behind the separator that it has, spaces too."""
+    page = Page.opened()
+    for text, saved in [(b"x y\n 0   0\n3 4\n", b"x y cluster\n 0   0 1\n3 4 1\n"), (b"x\ty\n0\t0\n3\t4\n", b"x\ty\tcluster\n0\t0\t1\n3\t4\t1\n")]:
+        page.drop(("points.txt", text))
+        is_so(page.saved("clusters.csv"), saved)
+        page.drop(("again.csv", saved))
+        page.expect(points="2", total="5")
+
+
+@case
 def no_point_lies_below_what_is_said(_room):
     """The picture begins under the last line, however many there are."""
     tall = "x;y\n" + "".join(f"{i * 37 % 11},5;{10 * i}\n" for i in range(60))
