@@ -101,12 +101,12 @@ export class Globe {
   }
 }
 
-// Where points of the globe are drawn: each degree up as long as one across in the middle. It is cut open where most degrees
+// Where points of the globe are drawn, and how wide all degrees are: each degree up as long as one across in the middle. It is cut open where most degrees
 // east have no point.
 export function drawnGlobe(points) {
   const n = points.length / 2, east = new Float64Array(n).map((_, v) => (points[2 * v] % 360 + 360) % 360), sorted = east.slice().sort();
   let cut = 0, most = n ? sorted[0] + 360 - sorted[n - 1] : 0;
   for (let i = 1; i < n; i++) if (sorted[i] - sorted[i - 1] > most) [cut, most] = [sorted[i], sorted[i] - sorted[i - 1]];
   const { low, high } = boundsOf(points, 2, 1), narrow = Math.cos((low + high) / 2 * RADIAN) || 1;
-  return points.map((it, i) => i % 2 ? it : (east[i / 2] < cut ? east[i / 2] + 360 : east[i / 2]) * narrow);
+  return { places: points.map((it, i) => i % 2 ? it : (east[i / 2] < cut ? east[i / 2] + 360 : east[i / 2]) * narrow), turn: 360 * narrow };
 }

@@ -6,6 +6,7 @@
 // What a forest is shown by, in an answer:
 // - `kind`: `plane`, `globe`, `links` (between names) or `graph` (from a .gr); `n` vertices, `names` or null
 // - `points`: x and y of each as they came; `places`: where they are drawn, y upwards; both empty for too large a graph
+// - `turn`: how wide all degrees east are in a map of the globe, or 0
 // - `forest`: links as boruvka.js has them; `heights`: their weights; `isExact`: these were whole numbers; `total`: their sum
 // - `links`: how many were looked at; `merges`: see merges.js; `rounds`: see rounds.js, or null for more than MOST_PLAYED
 // - `isProved`: the module chose the links, in `milliseconds`, and merged clusters; `notes`: what is to be said of the file
@@ -65,9 +66,10 @@ const treeOf = (n, forest) => mergesOf(n, module ? mergesOfLinks(module, n, fore
 function shown(n, forest, begun, more) {
   const milliseconds = performance.now() - begun, { isExact = false, kind, points } = more;
   const merges = n <= MOST_CUT ? treeOf(n, forest) : null, isDrawn = n <= MOST_POINTS;
-  const places = !isDrawn ? new Float64Array() : kind === 'globe' ? drawnGlobe(points) : points ?? placed(n, forest, merges);
+  const drawn = kind === 'globe' && isDrawn ? drawnGlobe(points) : { turn: 0 };
+  const places = !isDrawn ? new Float64Array() : drawn.places ?? points ?? placed(n, forest, merges);
   const rounds = n <= MOST_PLAYED ? roundsOf(n, forest) : null, heights = weightsOf(forest, isExact), total = totalOf(forest, isExact);
-  const found = { n, forest, merges, rounds, heights, total, milliseconds, isExact, isProved: !!module };
+  const found = { n, forest, merges, rounds, heights, total, milliseconds, isExact, isProved: !!module, turn: drawn.turn };
   return { ...found, names: null, notes: [], ...more, points: points ?? new Float64Array(), places };
 }
 

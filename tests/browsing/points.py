@@ -147,6 +147,19 @@ def a_saved_picture(_room):
 
 
 @case
+def a_link_over_the_edge_of_the_map(_room):
+    """It leaves on one side and comes back on the other: no line is longer than its degrees, wherever the map is cut."""
+    page = Page.opened()
+    rows = [(x, 0) for x in range(-180, 180, 20)] + [(x, 10 + abs(x) / 90) for x in range(-170, 190, 20)]
+    page.drop(("globe.csv", "".join(f"{x},{y}\n" for x, y in [("lon", "lat"), *rows]).encode()))
+    page.set("clusters", 1)
+    paths = [it.attrib["d"] for it in xml.etree.ElementTree.fromstring(page.saved("picture.svg")) if it.attrib.get("stroke")]
+    lines = [tuple(map(float, it)) for path in paths for it in re.findall(r"M([-0-9.]+) ([-0-9.]+)L([-0-9.]+) ([-0-9.]+)", path)]
+    wide = page.browser.run("return import('./view.js').then(({ lens }) => lens().zoom)") * 360
+    is_so((len(lines) >= 35, max(abs(it[2] - it[0]) for it in lines) < wide / 10), (True, True))
+
+
+@case
 def small_clusters_are_grey(_room):
     """Of 1,000 points a cluster of nine has no colour of its own, and one of ten has."""
     page = Page.opened()
