@@ -59,5 +59,6 @@ export function clustersTold({ n, merges: { size, colour } }, { count, nodes }) 
   const large = nodes.filter(it => colour[it] !== NONE), few = count - large.length;
   const sizes = Array.from(nodes.subarray(0, 6), it => counted(size[it])), more = count - sizes.length;
   const noise = few ? `; ${counted(few)} of fewer than ${counted(fewOf(n))} ${few === 1 ? 'is' : 'are'} grey` : '';
-  return `${counted(count)} cluster${count === 1 ? '' : 's'}, of ${sizes.join(', ')}${more ? ` and ${counted(more)} more` : ''}${noise}`;
+  const of = sizes.length ? `, of ${sizes.join(', ')}` : '';
+  return `${counted(count)} cluster${count === 1 ? '' : 's'}${of}${more ? ` and ${counted(more)} more` : ''}${noise}`;
 }

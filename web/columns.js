@@ -44,11 +44,22 @@ function byHeader(header) {
   return all.length === 1 && isPlain ? { choice } : { guess: choice };
 }
 
+// What is to be said of a header: that its words aren't known, so that it may be data; and that a height is left out.
+export function headerTold(header, { kind, roles }) {
+  const told = header.slice(0, 4).map(it => `‘${it.slice(0, 40)}’`).join(', '), z = found(header, ['z'])[0];
+  if (!byWords(header, kind)) return [`The first row is read as names of columns: ${told}. If it is a row of data, put one of names before it.`];
+  return kind === 'plane' && z !== undefined && !Object.values(roles).includes(z) ? [`The column ${header[z]} is left out: points lie on paper here.`] : [];
+}
+
+// Whether a column that no word of a weight stands over may be one.
+const mayLackWeight = ({ kind, roles: { from, to, weight } }, numbers) => kind === 'links' && weight < 0 && numbers.some(it => it !== from && it !== to);
+
 // What the first rows of a table leave to choose: { choice } that is plain, or { guess }, to be asked about.
 export function chosenBy(rows, commas) {
   const isNumber = it => !Number.isNaN(numberOf(it, commas)), [header] = rows, hasHeader = !header.some(isNumber);
   const data = hasHeader ? rows.slice(1) : rows, numbers = [...header.keys()].filter(i => data.some(row => isNumber(row[i])));
   const told = hasHeader ? byHeader(header) : null;
+  if (told?.choice && mayLackWeight(told.choice, numbers)) return { guess: told.choice };
   if (told) return told;
   const name = [...header.keys()].find(i => !numbers.includes(i)), [across, up] = numbers;
   const plain = { kind: 'plane', roles: { across, up, name }, hasHeader };

@@ -8,7 +8,22 @@ const MOST_VERTICES = 2 ** 26, MOST_ARCS = 2 ** 30, MOST_PLACED = 1_000_000;
 const LEAST_WEIGHT = -(2n ** 63n), MOST_WEIGHT = 2n ** 63n - 1n;
 const DIGITS = /^\d+$/;
 
-const linesOf = bytes => new TextDecoder('latin1').decode(bytes).replace(/\n$/, '').split('\n');
+const LF = 10, PART = 2 ** 26; // bytes
+const MOST_IN_TEXT = 2 ** 29 - 24; // letters; browsers read a longer text as an empty one
+
+function linesOf(bytes) {
+  if (bytes.length > MOST_IN_TEXT) throw new Refusal('LongText');
+  return new TextDecoder('latin1').decode(bytes).replace(/\n$/, '').split('\n');
+}
+
+// The lines of a text that may be longer, none of which is longer than a part.
+function* linesInParts(bytes) {
+  for (let begin = 0, end; begin < bytes.length; begin = end) {
+    end = bytes.length - begin > PART ? bytes.lastIndexOf(LF, begin + PART) + 1 : bytes.length;
+    yield* linesOf(bytes.subarray(begin, end));
+  }
+}
+
 const wordsOf = line => line.split(/[ \t\r]+/).filter(Boolean);
 
 class Graph {
@@ -58,13 +73,14 @@ export function linksOfGraph(bytes) {
 
 // The vertices of a forest's text, and its links.
 export function linksOfForest(text) {
-  const [head, ...rows] = linesOf(text), [n, k] = head.split(' ').slice(2).map(Number);
+  const lines = linesInParts(text), [n, k] = lines.next().value.split(' ').slice(2).map(Number);
   const forest = new Uint32Array(4 * k), weights = new BigInt64Array(forest.buffer);
-  for (const [i, row] of rows.entries()) {
-    const [, low, high, weight] = row.split(' ');
+  let i = 0;
+  for (const line of lines) {
+    const [, low, high, weight] = line.split(' ');
     forest[4 * i + 2] = low;
     forest[4 * i + 3] = high;
-    weights[2 * i] = BigInt(weight);
+    weights[2 * i++] = BigInt(weight);
   }
   return { n, forest };
 }

@@ -21,11 +21,11 @@ class Text {
   }
 }
 
-// A field of CSV. A program that makes formulas of texts gets none.
-function quoted(field) {
-  const text = /^[=+@\t]|^-\D/.test(field) ? `'${field}` : field;
-  return text !== field || /[",\n\r;]/.test(text) ? `"${text.replaceAll('"', '""')}"` : text;
-}
+// A field of CSV. Spaces at its ends are kept.
+const quoted = field => /[",\n\r;]|^\s|\s$/.test(field) ? `"${field.replaceAll('"', '""')}"` : field;
+
+// A field of a file that may be opened by a program that makes formulas of texts: it gets none. A number stays one.
+const guarded = field => /^[=+@\t\r]/.test(field) || (/^-/.test(field) && Number.isNaN(Number(field))) ? `"'${field.replaceAll('"', '""')}"` : quoted(field);
 
 // The .gr text of links: their weights as whole numbers.
 export function grOf(n, links) {
@@ -34,23 +34,29 @@ export function grOf(n, links) {
   return text.blob('text/plain');
 }
 
-// The points or vertices, with the numbers of their clusters if these are given.
-export function pointsCsv({ n, points, names, kind }, numbers = null) {
+// A double past 2^53 isn't written as a whole number: the zeros at its end would not be its own.
+const written = it => Math.abs(it) > Number.MAX_SAFE_INTEGER ? it.toExponential() : it;
+
+// The points or vertices, with the numbers of their clusters if these are given. `named` makes a field of a name.
+export function pointsCsv({ n, points, names, kind }, numbers = null, named = guarded) {
   const hasPoints = kind === 'plane' || kind === 'globe', own = names ? [] : ['vertex'];
   const head = { plane: ['x', 'y'], globe: ['longitude', 'latitude'] }[kind] ?? own;
   const text = new Text(`${[...(names ? ['name'] : []), ...head, ...(numbers ? ['cluster'] : [])].join(',')}\n`);
   for (let v = 0; v < n; v++) {
-    const fields = hasPoints ? [points[2 * v], points[2 * v + 1]] : names ? [] : [v + 1];
-    text.add(`${[...(names ? [quoted(nameAt(names, v))] : []), ...fields, ...(numbers ? [numbers[v]] : [])].join(',')}\n`);
+    const fields = hasPoints ? [written(points[2 * v]), written(points[2 * v + 1])] : names ? [] : [v + 1];
+    text.add(`${[...(names ? [named(nameAt(names, v))] : []), ...fields, ...(numbers ? [numbers[v]] : [])].join(',')}\n`);
   }
   return text.blob('text/csv');
 }
+
+// The points as a table that this page reads again, with the names that they have.
+export const carriedCsv = shown => pointsCsv(shown, null, quoted);
 
 // The forest's links with the names of their ends, the lightest first.
 export function forestCsv({ forest, names, heights, isExact }) {
   const weights = bitsOf(forest), text = new Text(`from,to,${isExact ? 'weight' : 'length'}\n`);
   for (let i = 0; i < heights.length; i++) {
-    const [low, high] = [2, 3].map(word => quoted(nameAt(names, forest[4 * i + word] - 1)));
+    const [low, high] = [2, 3].map(word => guarded(nameAt(names, forest[4 * i + word] - 1)));
     text.add(`${low},${high},${isExact ? weights[2 * i] : heights[i]}\n`);
   }
   return text.blob('text/csv');

@@ -33,11 +33,12 @@ let solver;
 
 const counted = it => it.toLocaleString('en').replace('-', '−');
 
-// A weight: a whole number exactly, a length to seven digits.
+// A weight: a whole number exactly, a length to seven digits, or to the units where these are more.
 function measured(it) {
-  if (typeof it === 'bigint' || !Number.isFinite(it)) return counted(it);
-  const notation = it && (Math.abs(it) >= 1e15 || Math.abs(it) < 1e-6) ? 'scientific' : 'standard';
-  return it.toLocaleString('en', { maximumSignificantDigits: 7, notation }).replace('-', '−');
+  if (typeof it === 'bigint' || Number.isSafeInteger(it) || !Number.isFinite(it)) return counted(it);
+  const size = Math.abs(it), notation = size >= 1e15 || size < 1e-6 ? 'scientific' : 'standard';
+  const digits = size >= 1e7 && size < 1e15 ? { maximumFractionDigits: 0 } : { maximumSignificantDigits: 7 };
+  return it.toLocaleString('en', { ...digits, notation }).replace('-', '−');
 }
 
 // The weight of a forest's link.
@@ -71,6 +72,8 @@ function tellFigures() {
   put('heaviest', k ? weightAt(k - 1) : '');
   put('kept', clusters?.kept ? weightAt(clusters.kept - 1) : '');
   put('milliseconds', shown ? counted(Math.round(10 * shown.milliseconds) / 10) : '');
+  const notes = shown?.notes.join(' ') ?? '';
+  if ($('notes').textContent !== notes) put('notes', notes); // so that it is read aloud once
   put('by', shown ? (shown.isProved ? 'proved code' : 'JavaScript, not proved') : '');
 }
 
@@ -115,11 +118,11 @@ function tellDendrogram() {
 // Once before the next frame, however often the state changes.
 let awaited = 0, drawn = {};
 function tellSoon() {
-  picture.soon();
   awaited ||= requestAnimationFrame(() => {
     awaited = 0;
     tell();
   });
+  picture.soon(); // after what is told, below which it has its place
 }
 
 function tell() {
@@ -127,17 +130,17 @@ function tell() {
   const isSame = Object.keys(now).every(it => now[it] === drawn[it]);
   $('say').textContent = caption();
   tellControls();
+  if (!isSame) tellFigures();
+  if (drawn.shown !== shown && !state.view) measure();
   tellPicked();
   if (isSame) return;
   drawn = now;
-  tellFigures();
   tellSaving();
   tellDendrogram();
   if ($('bars').clientWidth) drawBars($('bars'));
 }
 
 const fault = error => { $('fault').textContent = error ? error.message : ''; };
-const note = notes => { $('notes').textContent = notes.join(' '); };
 
 // ---- points in
 
@@ -148,7 +151,6 @@ function beginOther() {
   solver.stop();
   stopPlaying();
   fault(null);
-  note([]);
   return () => own === turn;
 }
 
@@ -250,12 +252,15 @@ async function openFile(file, isNow) {
   if (!answer) return;
   if (answer.kind === 'places') await putPlaces(answer.points);
   else await showOther(answer, { file, view: null, penned: 0, cross: null });
-  note(answer.notes ?? []);
 }
 
-// Opens files, graphs before their places. A file that is refused changes nothing.
+// Opens a file, and a graph before its places. A file that is refused changes nothing.
 async function open(files) {
-  const isNow = beginOther(), isPlaces = file => /\.co(\.gz)?$/i.test(file.name);
+  const isNow = beginOther(), isPlaces = file => /\.co(\.gz)?$/i.test(file.name), places = files.filter(isPlaces).length;
+  if (Math.max(places, files.length - places) > 1) {
+    fault(new Refused({ kind: 'SeveralFiles', what: String(files.length) }));
+    return;
+  }
   busy(1);
   for (const it of document.querySelectorAll('dialog[open]')) it.close();
   for (const file of [...files].sort((a, b) => isPlaces(a) - isPlaces(b))) {
@@ -367,7 +372,7 @@ function listenToWindow() {
   addEventListener('paste', event => {
     if (!event.target.matches('input, textarea')) openAll(event.clipboardData);
   });
-  addEventListener('hashchange', () => openFirst());
+  addEventListener('hashchange', () => openFirst().catch(fault));
   document.ondragover = event => {
     event.preventDefault();
     document.body.classList.add('over');
@@ -381,12 +386,16 @@ function listenToWindow() {
 }
 
 // Measures what part of the picture nothing covers.
-function settle() {
+function measure() {
   const isWide = innerWidth > 800, isEmbedded = document.body.classList.contains('embed'), isPulled = document.body.classList.contains('pulled');
   const box = id => $(id).getBoundingClientRect(), gap = 8;
   const right = isWide && !isEmbedded ? box('side').left : innerWidth, top = isEmbedded ? 0 : box('head').bottom + gap;
   const bottom = isEmbedded ? innerHeight : (!isWide && isPulled ? innerHeight - $('side').offsetHeight : box('bar').top) - gap;
   Object.assign(free, { left: 0, top, width: Math.max(40, right), height: Math.max(40, bottom - top) });
+}
+
+function settle() {
+  measure();
   tellSoon();
 }
 

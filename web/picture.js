@@ -19,6 +19,15 @@ export const isDrawnAtOnce = ({ places }) => places.length <= 2 * MOST_SHAPES;
 
 const radiusOf = (n, zoomed) => (n > 1000 ? 2 : n > 200 ? 3 : 4.5) * Math.max(1, Math.min(2, zoomed));
 
+// By how much the end of a link is shifted that leaves a map of the globe on one side and comes back on the other, or 0.
+const shiftOf = ({ turn }, x, toX) => turn && Math.abs(toX - x) > turn / 2 ? Math.sign(x - toX) * turn : 0;
+
+// Half of such a link from each end, in the parts that a scene has, and whose ink each has.
+function halvesOf({ places }, u, v, shift, low, high) {
+  const [x, y, toX, toY] = [places[2 * u], places[2 * u + 1], places[2 * v], places[2 * v + 1]];
+  return [[x, y, toX + shift, toY, Math.min(low, 0.5), u], [toX, toY, x - shift, y, low === 1 ? 0.5 : Math.min(high, 0.5), low === 1 ? u : v]];
+}
+
 function linkShapes(scene, { across, down }) {
   const { shown: { places, forest, heights }, plain } = scene, cut = [], lines = new Map();
   const put = (ink, path) => (lines.get(ink) || lines.set(ink, []).get(ink)).push(path);
@@ -26,7 +35,14 @@ function linkShapes(scene, { across, down }) {
   for (let i = 0; i < heights.length; i++) {
     const [u, v] = [forest[4 * i + 2] - 1, forest[4 * i + 3] - 1], low = scene.lowPart(i), high = scene.highPart(i);
     const [x, y, toX, toY] = [across(places[2 * u]), down(places[2 * u + 1]), across(places[2 * v]), down(places[2 * v + 1])];
-    if (scene.isCut(i)) cut.push(line(x, y, toX, toY, 1));
+    const shift = shiftOf(scene.shown, places[2 * u], places[2 * v]);
+    if (shift) {
+      for (const [fromX, fromY, endX, endY, part, whose] of halvesOf(scene.shown, u, v, shift, low, high)) {
+        const path = line(across(fromX), down(fromY), across(endX), down(endY), part);
+        if (part && scene.isCut(i)) cut.push(path);
+        else if (part) put(scene.inkAt(whose), path);
+      }
+    } else if (scene.isCut(i)) cut.push(line(x, y, toX, toY, 1));
     else {
       if (low) put(scene.inkAt(u), line(x, y, toX, toY, low));
       if (high && low < 1) put(scene.inkAt(v), line(toX, toY, x, y, high));
@@ -113,7 +129,14 @@ function* pixelled(scene, pixels, { left, top, x: middleX, y: middleY, zoom }, s
   for (let i = heights.length - 1; i >= 0; i--) {
     const u = forest[4 * i + 2] - 1, v = forest[4 * i + 3] - 1, low = scene.lowPart(i), high = scene.highPart(i);
     const atX = x(u), atY = y(u), toX = x(v), toY = y(v);
-    if (scene.isCut(i)) pixels.line(atX, atY, toX, toY, cut);
+    const shift = shiftOf(scene.shown, places[2 * u], places[2 * v]);
+    if (shift) {
+      for (const [fromX, fromY, endX, endY, part, whose] of halvesOf(scene.shown, u, v, shift, low, high)) {
+        const [beginX, beginY] = [sharp * (left + (fromX - middleX) * zoom), sharp * (top - (fromY - middleY) * zoom)];
+        const by = sharp * zoom * part, ink = scene.isCut(i) ? cut : word(whose);
+        if (part) pixels.line(beginX, beginY, beginX + (endX - fromX) * by, beginY - (endY - fromY) * by, ink);
+      }
+    } else if (scene.isCut(i)) pixels.line(atX, atY, toX, toY, cut);
     else {
       if (low) pixels.line(atX, atY, atX + (toX - atX) * low, atY + (toY - atY) * low, word(u));
       if (high && low < 1) pixels.line(toX, toY, toX + (atX - toX) * high, toY + (atY - toY) * high, word(v));

@@ -116,8 +116,8 @@ export function listenToKeys(picture, { set, undo }) {
   picture.onblur = () => state.cross && change({ cross: null });
 }
 
-// The place at a pixel, to six digits.
+// The place at a pixel, to six digits, or to as many as keep it within a tenth of the pixel.
 export function placeAt(x, y) {
-  const { placeX, placeY } = lens(viewNow());
-  return [placeX(x), placeY(y)].map(it => Number(it.toPrecision(6)));
+  const { placeX, placeY, zoom } = lens(viewNow()), digits = it => Math.ceil(Math.log10(Math.abs(it) * zoom)) + 2;
+  return [placeX(x), placeY(y)].map(it => Number(it.toPrecision(Math.max(6, Math.min(17, digits(it))))));
 }

@@ -11,7 +11,8 @@ const BREAKS = /\r\n|\n|\r(?=[^])/; // a CR at the end may have its LF in the ne
 export const separatorOf = row => ['\t', ';', ','].find(it => row.replace(/"[^"]*"/g, '').includes(it)) ?? ' ';
 
 // The fields of a row. Quotes round a field are taken off, and two inside of it are one.
-export function fieldsOf(row, separator) {
+export function fieldsOf(row, separator, line) {
+  if (separator === ' ' && row.includes('\n')) throw strayQuote(row, line);
   if (separator === ' ') return row.trim().split(/\s+/).map(unquoted);
   if (!row.includes('"')) return row.split(separator).map(it => it.trim());
   const fields = [];
@@ -19,13 +20,24 @@ export function fieldsOf(row, separator) {
   for (let at = 0; at <= row.length; at++) {
     if (row[at] === '"') isInside = !isInside;
     if (at < row.length && (isInside || row[at] !== separator)) continue;
-    fields.push(unquoted(row.slice(begin, at).trim()));
+    fields.push(heldTogether(row.slice(begin, at).trim(), separator, line));
     begin = at + 1;
   }
   return fields;
 }
 
-const unquoted = field => /^"[^]*"$/.test(field) ? field.slice(1, -1).replaceAll('""', '"') : field;
+const strayQuote = (text, line) => new Refusal('StrayQuote', line, `‘${text.slice(0, 40).split('\n')[0]}’`);
+
+// A field without its quotes. It goes on past a separator or a line only if quotes stand round all of it: a single mark, as of
+// inches, would take the next row in.
+function heldTogether(field, separator, line) {
+  const isWhole = isQuoted(field) && !field.slice(1, -1).replaceAll('""', '').includes('"');
+  if (!isWhole && (field.includes(separator) || field.includes('\n'))) throw strayQuote(field, line);
+  return unquoted(field);
+}
+
+const isQuoted = field => /^"[^]*"$/.test(field);
+const unquoted = field => isQuoted(field) ? field.slice(1, -1).replaceAll('""', '"') : field;
 
 // Whether a line opens a quote that it doesn't close, or closes one that was open.
 const turnsQuotes = line => line.includes('"') && line.split('"').length % 2 === 0;

@@ -3,7 +3,6 @@
 import { MOST_CARRIED, addressOf } from './address.js';
 import { numbersOf } from './clusters.js';
 import { dendrogramSvg } from './dendrogram.js';
-import { pointsCsv } from './out.js';
 import { pictureSvg } from './picture.js';
 import { canPlay, filmed } from './playing.js';
 import { state } from './state.js';
@@ -46,12 +45,17 @@ const FILES = {
 
 const idOf = name => `save-${name.replace('.', '-')}`;
 
+// (another task would stop the one that goes on)
+function waited(solver) {
+  if (solver.asked) throw new Error('Wait until the forest is there.');
+}
+
 // Lets each button of a file save it; `fault` hears what fails.
 export function listenToSaving(solver, fault) {
   for (const [name, { make }] of Object.entries(FILES)) {
     $(idOf(name)).onclick = async () => {
       try {
-        if (solver.asked) throw new Error('Wait until the forest is there.');
+        waited(solver);
         if (name === 'rounds.webm') $('saving').close();
         const content = await make(solver);
         if (content) save(name, content);
@@ -60,7 +64,11 @@ export function listenToSaving(solver, fault) {
       }
     };
   }
-  $('copylink').onclick = () => copied(async () => addressOf(await pointsCsv(state.shown).text()), fault);
+  $('copylink').onclick = () => copied(async () => {
+    waited(solver);
+    const table = await made('carried.csv')(solver);
+    return table && addressOf(await table.text());
+  }, fault);
   $('copypython').onclick = () => copied(async () => pythonText(), fault);
 }
 
@@ -74,7 +82,9 @@ export function tellSaving() {
 // Copies a text; where the browser doesn't, the text is shown to be copied by hand.
 async function copied(text, fault) {
   try {
-    $('copied').value = await text();
+    const it = await text();
+    if (!it) return; // something else was opened meanwhile
+    $('copied').value = it;
     $('copied').hidden = false;
     $('copied').select();
     await navigator.clipboard?.writeText($('copied').value).catch(() => {});

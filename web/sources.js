@@ -76,8 +76,8 @@ export class Source {
     try {
       return await this.rowsIn(encoding, take);
     } catch (error) {
-      if (!(error instanceof TypeError) || encoding !== 'utf-8') throw error;
-      throw new Refusal('NoUtf8');
+      if (!(error instanceof TypeError)) throw error;
+      throw new Refusal(encoding === 'utf-8' ? 'NoUtf8' : 'NoUtf16');
     }
   }
 

@@ -38,7 +38,9 @@ export class Plane {
     const most = Math.max(across.high - across.low, up.high - up.low);
     if (points.length && !Number.isFinite(Math.hypot(across.high - across.low, up.high - up.low))) return null;
     const scale = most > 0 ? 2 ** -Math.max(-1022, Math.min(1022, Math.floor(Math.log2(most)))) : 1;
-    return new Plane(points.map(it => it * scale), scale);
+    // what all points share is 0: scaled, it may be past what doubles hold
+    const by = [across, up].map(it => it.low < it.high ? scale : 0);
+    return new Plane(points.map((it, i) => it * by[i % 2]), scale);
   }
 
   inOrder(order) {
@@ -59,14 +61,20 @@ export class Plane {
   }
 }
 
+// Degrees by which each place of the globe has one pair: east from -180 to below 180, and 0 at the poles. Each step is exact.
+export function namedOnce(points) {
+  const east = it => it >= 180 ? it - 360 : it < -180 ? it + 360 : it;
+  return points.map((it, i) => i % 2 ? it : Math.abs(points[i + 1]) === 90 ? 0 : east(it));
+}
+
 // Kilometres on great circles, by the haversine formula. Points are degrees east and north; axes lead out of the earth.
 export class Globe {
   constructor(coordinates, east, north) {
     Object.assign(this, { coordinates, width: 3, east, north, shrink: north.map(Math.cos) });
   }
 
-  static of(points) {
-    const n = points.length / 2, east = new Float64Array(n), north = new Float64Array(n), coordinates = new Float64Array(3 * n);
+  static of(degrees) {
+    const points = namedOnce(degrees), n = points.length / 2, east = new Float64Array(n), north = new Float64Array(n), coordinates = new Float64Array(3 * n);
     for (let v = 0; v < n; v++) {
       [east[v], north[v]] = [points[2 * v] * RADIAN, points[2 * v + 1] * RADIAN];
       coordinates.set([Math.cos(north[v]) * Math.cos(east[v]), Math.cos(north[v]) * Math.sin(east[v]), Math.sin(north[v])], 3 * v);
@@ -85,7 +93,7 @@ export class Globe {
   }
 
   within(square) {
-    return (Math.sqrt(square) + BLUR) ** 2;
+    return square && (Math.sqrt(square) + BLUR) ** 2; // nothing is nearer than 0: else all equal places would be looked at
   }
 
   length(square) {
@@ -93,12 +101,12 @@ export class Globe {
   }
 }
 
-// Where points of the globe are drawn: each degree up as long as one across in the middle. It is cut open where most degrees
+// Where points of the globe are drawn, and how wide all degrees are: each degree up as long as one across in the middle. It is cut open where most degrees
 // east have no point.
 export function drawnGlobe(points) {
   const n = points.length / 2, east = new Float64Array(n).map((_, v) => (points[2 * v] % 360 + 360) % 360), sorted = east.slice().sort();
   let cut = 0, most = n ? sorted[0] + 360 - sorted[n - 1] : 0;
   for (let i = 1; i < n; i++) if (sorted[i] - sorted[i - 1] > most) [cut, most] = [sorted[i], sorted[i] - sorted[i - 1]];
   const { low, high } = boundsOf(points, 2, 1), narrow = Math.cos((low + high) / 2 * RADIAN) || 1;
-  return points.map((it, i) => i % 2 ? it : (east[i / 2] < cut ? east[i / 2] + 360 : east[i / 2]) * narrow);
+  return { places: points.map((it, i) => i % 2 ? it : (east[i / 2] < cut ? east[i / 2] + 360 : east[i / 2]) * narrow), turn: 360 * narrow };
 }

@@ -1,7 +1,7 @@
 // What a table says, row by row: points with their names, or links between names.
 
 import { Refusal } from './boruvka.js';
-import { chosenBy, hasComma, numberOf } from './columns.js';
+import { chosenBy, hasComma, headerTold, numberOf } from './columns.js';
 import { Packer } from './names.js';
 import { fieldsOf, separatorOf } from './rows.js';
 
@@ -17,7 +17,7 @@ class Reader {
   }
 
   fields(row, line, count) {
-    const fields = fieldsOf(row, this.separator);
+    const fields = fieldsOf(row, this.separator, line);
     if (fields.length > MOST_COLUMNS) throw new Refusal('TooManyColumns', line, String(fields.length));
     if (count && fields.length !== count) throw new Refusal('OtherColumns', line, `${fields.length} in place of ${count}`);
     return fields;
@@ -27,6 +27,13 @@ class Reader {
     const it = numberOf(field, this.commas);
     if (!Number.isFinite(it)) throw new Refusal('NoNumber', line, `‘${field.slice(0, 40)}’`);
     if (this.commas) this.hearPoint(field, line);
+    return it;
+  }
+
+  // The number. A whole one that doubles round is refused.
+  whole(field, line, kind) {
+    const it = this.number(field, line);
+    if (!Number.isSafeInteger(it) && /^[-+]?\d+$/.test(field) && BigInt(field) !== BigInt(it)) throw new Refusal(kind, line, field.slice(0, 40));
     return it;
   }
 
@@ -70,7 +77,7 @@ class PointTable extends Points {
   }
 
   take(fields, line) {
-    const { across, up, name } = this.roles, number = it => this.reader.number(fields[it], line);
+    const { across, up, name } = this.roles, number = it => this.reader.whole(fields[it], line, 'LongPlace');
     this.add(number(across), number(up), fields[name], line);
   }
 }
@@ -93,8 +100,7 @@ class LinkTable {
 
   take(fields, line) {
     const { from, to, weight } = this.roles, u = this.id(fields[from], line), v = this.id(fields[to], line);
-    const it = weight >= 0 ? this.reader.number(fields[weight], line) : 1;
-    if (/^[-+]?\d+$/.test(fields[weight]) && !Number.isSafeInteger(it)) throw new Refusal('LongWeight', line, fields[weight]);
+    const it = weight >= 0 ? this.reader.whole(fields[weight], line, 'LongWeight') : 1;
     if (this.weights.length >= MOST_LINKS) throw new Refusal('TooManyLinks', line);
     if (u === v) this.loops++;
     this.ends.push(u, v);
@@ -136,15 +142,16 @@ export async function readTable(source, choice) {
     const fields = reader.fields(row, line, count);
     if (!choice.hasHeader || line > head) table.take(fields, line);
   });
-  return { ...table.all(reader.notes()), choice: { ...choice, separator, commas: Boolean(reader.comma) } };
+  const notes = [...(choice.hasHeader ? headerTold(rows[0], choice) : []), ...reader.notes()];
+  return { ...table.all(notes), choice: { ...choice, separator, commas: Boolean(reader.comma) } };
 }
 
 // The table again, each row with one more field, as a file. `cell` answers that of each row of data.
 export async function widened(source, { hasHeader }, title, cell) {
-  const { separator } = new Reader(separatorOf((await sampleOf(source))[0].row)), parts = [], mark = separator === ' ' ? '\t' : separator;
+  const { separator } = new Reader(separatorOf((await sampleOf(source))[0].row)), parts = [];
   let at = hasHeader ? -1 : 0, text = '';
   await source.rows(row => {
-    text += `${row}${mark}${at < 0 ? title : cell(at)}\n`;
+    text += `${row}${separator}${at < 0 ? title : cell(at)}\n`;
     at++;
     if (text.length > 2 ** 20) {
       parts.push(text);

@@ -26,9 +26,27 @@ export function weightsOf(links, isExact) {
   return weights;
 }
 
+// The sum of doubles, rounded once: partial sums that don't overlap keep what each addition loses (Shewchuk 1997).
+function sumOf(values) {
+  const parts = [];
+  for (const value of values) {
+    let sum = value, count = 0;
+    for (const part of parts) {
+      const isLess = Math.abs(sum) < Math.abs(part), large = isLess ? part : sum, small = isLess ? sum : part;
+      sum = large + small;
+      const lost = small - (sum - large);
+      if (lost) parts[count++] = lost;
+    }
+    parts.length = count;
+    parts.push(sum);
+  }
+  const sum = parts.reduceRight((sum, it) => sum + it, 0);
+  return Number.isNaN(sum) ? values.reduce((sum, it) => sum + it, 0) : sum; // past what doubles hold
+}
+
 // The sum of a forest's weights; of whole numbers it is exact, a BigInt.
 export function totalOf(links, isExact) {
-  if (!isExact) return weightsOf(links, false).reduce((sum, it) => sum + it, 0);
+  if (!isExact) return sumOf(weightsOf(links, false));
   const bits = bitsOf(links);
   let total = 0n;
   for (let i = 0; i < bits.length; i += 2) total += bits[i];

@@ -6,6 +6,7 @@
 // What a forest is shown by, in an answer:
 // - `kind`: `plane`, `globe`, `links` (between names) or `graph` (from a .gr); `n` vertices, `names` or null
 // - `points`: x and y of each as they came; `places`: where they are drawn, y upwards; both empty for too large a graph
+// - `turn`: how wide all degrees east are in a map of the globe, or 0
 // - `forest`: links as boruvka.js has them; `heights`: their weights; `isExact`: these were whole numbers; `total`: their sum
 // - `links`: how many were looked at; `merges`: see merges.js; `rounds`: see rounds.js, or null for more than MOST_PLAYED
 // - `isProved`: the module chose the links, in `milliseconds`, and merged clusters; `notes`: what is to be said of the file
@@ -16,10 +17,10 @@ import { linksOfForest, linksOfGraph, pointsOfPlaces } from './graphs.js';
 import { forestByKruskal, mergesByKruskal } from './kruskal.js';
 import { placed } from './layout.js';
 import { mergesOf } from './merges.js';
-import { pointsCsv, forestCsv, forestGeoJson, grOf, linkageCsv } from './out.js';
+import { carriedCsv, pointsCsv, forestCsv, forestGeoJson, grOf, linkageCsv } from './out.js';
 import { roundsOf } from './rounds.js';
 import { Source, kindOf } from './sources.js';
-import { Globe, Plane, drawnGlobe } from './spaces.js';
+import { Globe, Plane, drawnGlobe, namedOnce } from './spaces.js';
 import { MOST_POINTS, readTable, widened } from './tables.js';
 import { candidates } from './tree.js';
 import { putWeights, totalOf, weightsOf } from './weights.js';
@@ -36,10 +37,11 @@ const isApart = (points, u, v) => points[2 * u] !== points[2 * v] || points[2 * 
 function linksOfPoints(kind, points) {
   const space = (kind === 'globe' ? Globe : Plane).of(points);
   if (!space) throw new Refusal('TooFarApart');
+  const single = kind === 'globe' ? namedOnce(points) : points;
   const found = candidates(space, told), links = new Uint32Array(4 * found.length / 3), lengths = new Float64Array(found.length / 3);
   for (let i = 0; i < lengths.length; i++) {
     const u = found[3 * i], v = found[3 * i + 1];
-    if (found[3 * i + 2] < LEAST_SQUARE && isApart(points, u, v)) throw new Refusal('TooNear');
+    if (found[3 * i + 2] < LEAST_SQUARE && isApart(single, u, v)) throw new Refusal('TooNear');
     lengths[i] = space.length(found[3 * i + 2]);
     links[4 * i + 2] = Math.min(u, v) + 1;
     links[4 * i + 3] = Math.max(u, v) + 1;
@@ -64,9 +66,10 @@ const treeOf = (n, forest) => mergesOf(n, module ? mergesOfLinks(module, n, fore
 function shown(n, forest, begun, more) {
   const milliseconds = performance.now() - begun, { isExact = false, kind, points } = more;
   const merges = n <= MOST_CUT ? treeOf(n, forest) : null, isDrawn = n <= MOST_POINTS;
-  const places = !isDrawn ? new Float64Array() : kind === 'globe' ? drawnGlobe(points) : points ?? placed(n, forest, merges);
+  const drawn = kind === 'globe' && isDrawn ? drawnGlobe(points) : { turn: 0 };
+  const places = !isDrawn ? new Float64Array() : drawn.places ?? points ?? placed(n, forest, merges);
   const rounds = n <= MOST_PLAYED ? roundsOf(n, forest) : null, heights = weightsOf(forest, isExact), total = totalOf(forest, isExact);
-  const found = { n, forest, merges, rounds, heights, total, milliseconds, isExact, isProved: !!module };
+  const found = { n, forest, merges, rounds, heights, total, milliseconds, isExact, isProved: !!module, turn: drawn.turn };
   return { ...found, names: null, notes: [], ...more, points: points ?? new Float64Array(), places };
 }
 
@@ -106,6 +109,7 @@ const texts = {
   'forest.csv': forestCsv,
   'forest.geojson': forestGeoJson,
   'linkage.csv': linkageCsv,
+  'carried.csv': carriedCsv,
   async 'clusters.csv'(it, { file, numbers }) {
     if (it.choice && it.kind !== 'links' && file) return widened(await Source.of(file), it.choice, 'cluster', at => numbers[at]);
     return pointsCsv(it, numbers);

@@ -127,6 +127,18 @@ def candidates_hold_the_shortest_net(room):
             found = lengths_of(zip(links[::3], links[1::3], links[2::3]), len(points))
             is_so((shape.__name__, n, found == lengths_by_prim(room, points)), (shape.__name__, n, True))
 
+
+@case
+def candidates_beside_a_coordinate_that_all_share(room):
+    """However large that is beside the others."""
+    for shared, step in [(5, 1e-310), (1e308, 0.001), (-1.7976931348623157e308, 0.25), (1e10, 1e-300)]:
+        for turn in (1, -1):
+            points = [(shared, y * step)[::turn] for y in (0, 4, 1)]
+            links = by_node(room, f"{modules(room)}/candidates.js", "plane", points)
+            found = lengths_of(zip(links[::3], links[1::3], links[2::3]), 3)
+            is_so([math.isclose(a, b, rel_tol=1e-12) for a, b in zip(found, [step, 3 * step], strict=True)], [True, True])
+
+
 @case
 def candidates_on_the_globe(room):
     draw = random.Random(85)
@@ -137,6 +149,17 @@ def candidates_on_the_globe(room):
         is_so(len(found), n - 1)
         # (sines are rounded, and by another order of steps to another last digit)
         is_so([(a, b) for a, b in zip(found, wanted) if abs(a - b) > 1e-12 * b + 1e-9], [])
+
+
+@case
+def a_place_of_the_globe_with_several_pairs(room):
+    """At a pole all degrees east are one place, and so are 180 and -180, 0 and 360, however many points lie there."""
+    for points in ([(13.4, 52.5)] * 50000, [(x / 100, 90) for x in range(20000)], [(180 - 360 * (i % 2), 10) for i in range(50000)], [(360 * (i % 2), -89.5) for i in range(50000)]):
+        links = by_node(room, f"{modules(room)}/candidates.js", "globe", points)
+        is_so(set(links[2::3]), {0.0})
+    page = Page.opened()
+    page.drop(("globe.csv", b"lon,lat\n0,90\n120,90\n180,0\n-180,0\n"))
+    page.expect(size="3", total="10,007.54 km")
 
 
 def text_of(points):

@@ -124,6 +124,8 @@ TAKEN = [
     ("id.csv", b"id,x,y\n100,0,0\n900,3,4\n", "2", "5"),
     ("turned.csv", b"Y,name,X\n4,a,3\n0,b,0\n", "2", "5"),
     ("quotes.csv", b'name,x,y\n"a, ""b""\nc",0,0\n"",3,4\n', "2", "5"),
+    # marks that hide no separator are letters, as Python's csv reads them
+    ("marks.csv", b'name,x,y\na "b" c,0,0\n5" by 6",3,4\n', "2", "5"),
     ("semicolons.csv", b"1,5;2,5\n4,5;6,5\n", "2", "5"),
     ("semicolons.csv", b"x;y\n1.5;2.5\n4.5;6.5\n", "2", "5"),
     ("quoted.csv", b'"0","0"\n"3","4"\n', "2", "5"),
@@ -137,6 +139,11 @@ TAKEN = [
     ("unnamed", SMALL_NET, "6", "13"),
     ("links.csv", b"source,target,weight\na,b,1.5\nb,c,2\nc,a,-1\nc,c,5\n", "3", "0.5"),
     ("links.csv", b"From;To\na;b\nb;c\n", "3", "2"),
+    # a whole number to its last digit
+    ("links.csv", b"source,target,weight\na,b,123456789\nb,c,9007199130284201\n", "3", "9,007,199,253,740,990"),
+    ("links.csv", b"source,target,weight\na,b,12345678.25\nb,c,0.5\n", "3", "12,345,679"),
+    # as math.fsum has it
+    ("links.csv", b"source,target,weight\na,b,1e16\nb,c,1\nc,d,-1e16\n", "4", "1"),
     # by the haversine formula in Python's floats, with 6371 km
     ("globe.csv", b"Longitude,LATITUDE\n0,0\n90,0\n0,90\n", "3", "20,015.09 km"),
     ("globe.csv", b"lat,lon\n0,179.5\n0,-179.5\n", "2", "111.1949 km"),
@@ -153,11 +160,67 @@ def files_that_are_taken(_room):
         is_so((name, text[:60], page.text("fault"), page.text("points"), page.text("total")), (name, text[:60], "", points, total))
     page.drop(("semicolons.csv", b"1,5;2,5\n4,5;6,5\n"))
     is_so(page.text("notes"), "A comma is read as the decimal point: 1,5 is 1.5.")
-    page.drop(("links.csv", b"source,target\nc,c\na,b\n"))
+    # they go with what is shown
+    page.drop(("bad.csv", b"1\n"))
+    is_so((page.text("points"), page.text("notes")), ("2", "A comma is read as the decimal point: 1,5 is 1.5."))
+    page.drop(("links.csv", b"source,target\nc,c\na,b\n"), ("places.co", b"p aux sp co 3\nv 1 0 0\nv 2 3 4\nv 3 5 5\n"))
     is_so(page.text("notes"), "1 of the links join a name with itself, and are left out. No column is a weight: each link weighs 1.")
+    page.click("clear")
+    is_so(page.text("notes"), "")
+    page.drop(("none.gr", b"p sp 0 0\n"))
+    page.expect(points="0", size="0", say="0 clusters.")
     page.drop(("long.csv", b"name,x,y\n%s,0,0\n%s,3,4\nc,3,4\n" % (b"a" * 200, b"b" * 201)))
     is_so(page.text("notes"), "1 of the names are cut to 200 characters.")
     page.expect(points="3", total="5")
+
+
+# what is said of a first row that may be data, and of a column that changes nothing
+HEADS = [
+    ("−5,−3\n0,0\n3,4\n", "The first row is read as names of columns: ‘−5’, ‘−3’. If it is a row of data, put one of names before it."),
+    ("NA;NA\n0;0\n3;4\n", "The first row is read as names of columns: ‘NA’, ‘NA’. If it is a row of data, put one of names before it."),
+    ("x,y,z\n0,0,0\n3,4,9\n", "The column z is left out: points lie on paper here."),
+    ("x,y,note\n0,0,0\n3,4,9\n", ""),
+    ("0,0\n3,4\n", ""),
+]
+
+
+@case
+def a_saved_table_is_read_again(_room):
+    """Its clusters stand behind the separator that it has, spaces too."""
+    page = Page.opened()
+    for text, saved in [(b"x y\n 0   0\n3 4\n", b"x y cluster\n 0   0 1\n3 4 1\n"), (b"x\ty\n0\t0\n3\t4\n", b"x\ty\tcluster\n0\t0\t1\n3\t4\t1\n")]:
+        page.drop(("points.txt", text))
+        is_so(page.saved("clusters.csv"), saved)
+        page.drop(("again.csv", saved))
+        page.expect(points="2", total="5")
+
+
+@case
+def no_point_lies_below_what_is_said(_room):
+    """The picture begins under the last line, however many there are."""
+    tall = "x;y\n" + "".join(f"{i * 37 % 11},5;{10 * i}\n" for i in range(60))
+    script = "return Promise.all([import('./state.js'), import('./view.js')]).then(([{ state: { shown } }, { lens }]) => [document.getElementById('notes').getBoundingClientRect().bottom, lens().down(shown.points[119])])"
+    for width, height in [(1280, 800), (390, 844)]:
+        page = Page.opened(width=width, height=height)
+        page.drop(("tall.csv", tall.encode()))
+        page.expect(points="60", notes="A comma is read as the decimal point: 0,5 is 0.5.")
+        bottom, highest = page.browser.run(script)
+        is_so((width, 40 < bottom < highest < bottom + 60), (width, True))
+
+
+@case
+def first_rows_that_are_guessed(_room):
+    page = Page.opened()
+    for text, told in HEADS:
+        page.drop(("points.csv", text.encode()))
+        is_so((text, page.text("notes")), (text, told))
+        page.expect(points="2", total="5")
+    # links between names: nothing tells the first from a header
+    page.browser.run(DROP_SOON, [("links.csv", base64.b64encode(b"Bern,Rome\nRome,Oslo\n").decode())])
+    page.browser.wait("document.getElementById('columns').open")
+    page.browser.run("document.querySelector('#columns button[value=take]').click()")
+    page.settle()
+    is_so(page.text("notes").split(" If ")[0], "The first row is read as names of columns: ‘Bern’, ‘Rome’.")
 
 
 @case
@@ -201,6 +264,13 @@ def columns_that_are_chosen(_room):
         page.browser.run("document.querySelector('#columns button[value=take]').click()")
         page.settle()
         page.expect(points=points, total=total)
+    # links with numbers that no word says are weights: two links of 1 were the net
+    page.browser.run(DROP_SOON, [("table.csv", base64.b64encode(b"from,to,cost\na,b,5\nb,c,6\na,c,1\n").decode())])
+    page.browser.wait("document.getElementById('columns').open", seconds=5)
+    page.set("role-weight", 2)
+    page.browser.run("document.querySelector('#columns button[value=take]').click()")
+    page.settle()
+    page.expect(points="3", total="6")
     page.browser.run(DROP_SOON, [("table.csv", base64.b64encode(b"1,2,3\n").decode())])
     page.browser.wait("document.getElementById('columns').open")
     page.browser.press(ESCAPE)
@@ -255,7 +325,12 @@ FAULTS = [
     ("bad.csv", b"x,y\n" + b"1,2\n" * 9 + b"1\n", "line 11: OtherColumns (1 in place of 2)"),
     ("bad.csv", b"1,5;2\n1.5;2\n", "line 2: PointAndComma (‘1.5’)"),
     ("bad.csv", b'x,y\n"1,2\n3,4\n', "line 2: OpenQuote"),
+    ("bad.csv", b'name,x,y\n5" pipe,0,0\n6" pipe,3,4\n7 pipe,1,1\n', "line 2: StrayQuote (‘5\" pipe,0,0’)"),
+    ("bad.csv", b'from,to\na 5",b 6"\n', "line 2: StrayQuote (‘a 5\",b 6\"’)"),
+    ("bad.txt", b'name x y\n5" 0 0\n6" 3 4\n', "line 2: StrayQuote (‘5\" 0 0’)"),
     ("bad.csv", b"x,y\n1,\xe4\n", "NoUtf8"),
+    ("bad.csv", "1,2\n3,4\n".encode("utf-16")[:-1], "NoUtf16"),
+    ("bad.csv", b"\xfe\xff\0001\0,\0002\0\n\xd8\0", "NoUtf16"),
     ("bad.csv", b"x,y\n1,2\0\n", "line 1: NoText"),
     ("bad.csv", b"", "NoPoint"),
     ("bad.csv", b"\n \n\r\n", "NoPoint"),
@@ -265,6 +340,7 @@ FAULTS = [
     ("bad.csv", b"source,target\n", "NoLink"),
     ("bad.csv", b"source,target\na,\n", "line 2: NoName"),
     ("bad.csv", b"source,target,weight\na,b,9007199254740993\n", "line 2: LongWeight (9007199254740993)"),
+    ("bad.csv", b"0,0\n9007199254740993,0\n", "line 2: LongPlace (9007199254740993)"),
     ("bad.csv", b"source,target,weight\na,b,\n", "line 2: NoNumber (‘’)"),
     ("bad.csv", b"0,0\n" * 1000001, "line 1000001: TooManyPoints"),
     ("bad.png", b"\x89PNG\r\n\x1a\n\0\0", "NoText (a PNG picture)"),
@@ -310,6 +386,16 @@ def refused_files(_room):
     is_so(page.browser.complaints(), [])
     page.drop(("small.gr", SMALL_NET))
     page.expect(points="6", total="13")
+
+
+@case
+def several_files(_room):
+    """The last one was shown alone, as if it were all."""
+    page = Page.opened()
+    before = page.shown()
+    for names in (["a.csv", "b.csv"], ["a.gr", "b.gr", "b.co"], ["a.co", "b.co"]):
+        page.drop(*((name, SMALL_NET if name.endswith(".gr") else PLACES if name.endswith(".co") else b"0,0\n3,4\n") for name in names))
+        is_so((page.text("fault").split(". ")[0], page.shown()), (f"SeveralFiles ({len(names)})", before))
 
 
 @case

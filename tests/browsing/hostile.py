@@ -76,6 +76,25 @@ def a_table_past_what_a_text_may_hold(room):
 
 
 @case
+def a_graph_past_what_a_text_may_hold(room):
+    """Its forest's text is as long: it was read as empty, and shown as a graph without vertices."""
+    large()
+    path, n, step = f"{room}/path.gr", 14_500_000, 500_000
+    with open(path, "w", encoding="utf-8") as it:
+        it.write(f"p sp {n} {n - 1}\n")
+        for first in range(1, n, step):
+            it.write("".join(f"a {v} {v + 1} -9223372036854775807\n" for v in range(first, min(n, first + step))))
+    is_so(os.path.getsize(path) > 536_870_888, True)
+    page = Page.opened()
+    page.click("open")
+    page.browser.write("files", path)
+    page.browser.wait("document.getElementById('points').textContent === '14,500,000'", seconds=SECONDS)
+    page.settle(SECONDS)
+    page.expect(points="14,500,000", size="14,499,999", total=f"−{9223372036854775807 * (n - 1):,}")
+    os.unlink(path)
+
+
+@case
 def a_gzip_that_expands_without_end(_room):
     large()
     page = Page.opened()

@@ -184,6 +184,13 @@ def data_in_the_address(_room):
     page = Page.opened(link[len(page.address) :])
     page.expect(points="2", total="5")
     is_so(page.saved("clusters.csv"), b"name,x,y,cluster\none,0,0,1\ntwo,3,4,1\n")
+    # so large a double is read again as itself, 2^60
+    page.drop(("large.csv", b"x,y\n1152921504606846976,0\n0,0\n"))
+    page.click("save")
+    page.click("copylink")
+    page.browser.wait("document.getElementById('copied').value")
+    page = Page.opened(page.value("copied")[len(page.address) :])
+    page.expect(points="2", total="1.152922E18")
 
 
 @case
@@ -200,6 +207,11 @@ def addresses_that_are_no_data(_room):
         page = Page.opened(more)
         is_so((page.text("fault")[: len(told)], page.text("points")), (told, "0"))
     page.browser.complaints()
+    # where the page is open already
+    page = Page.opened()
+    page.browser.run("location.hash = '#d=AAAA'")
+    page.browser.wait("document.getElementById('fault').textContent.startsWith('BadAddress')", seconds=5)
+    is_so((page.text("points"), page.browser.complaints()), ("1,500", []))
 
 
 @case

@@ -56,6 +56,18 @@ def clicked_points(_room):
 
 
 @case
+def a_point_far_from_zero(_room):
+    """In metres of a map, the pen sets it where it is put: not on the next full ten."""
+    page = Page.opened()
+    page.drop(("utm.csv", b"x,y\n391234.5,5812345.25\n391244.5,5812345.25\n391244.5,5812355.25\n"))
+    page.click("pen")
+    page.browser.click_at("picture", 400, 400)
+    page.expect(points="4")
+    script = "return Promise.all([import('./state.js'), import('./view.js')]).then(([{ state: { shown } }, { lens }]) => [lens().across(shown.points[6]), lens().down(shown.points[7])])"
+    is_so([abs(it - 400) < 0.2 for it in page.browser.run(script)], [True, True])
+
+
+@case
 def points_by_keys(_room):
     page = Page.cleared()
     page.click("pen")
@@ -132,6 +144,19 @@ def a_saved_picture(_room):
     is_so(marks[GREY], 1)
     left = re.search(GREY + r'" d="M([0-9.]+) ([0-9.]+)', page.saved("picture.svg").decode())
     is_so((abs(float(left[1]) + 4.5 - 800) < 0.2, abs(float(left[2]) - 190) < 0.2), (True, True))
+
+
+@case
+def a_link_over_the_edge_of_the_map(_room):
+    """It leaves on one side and comes back on the other: no line is longer than its degrees, wherever the map is cut."""
+    page = Page.opened()
+    rows = [(x, 0) for x in range(-180, 180, 20)] + [(x, 10 + abs(x) / 90) for x in range(-170, 190, 20)]
+    page.drop(("globe.csv", "".join(f"{x},{y}\n" for x, y in [("lon", "lat"), *rows]).encode()))
+    page.set("clusters", 1)
+    paths = [it.attrib["d"] for it in xml.etree.ElementTree.fromstring(page.saved("picture.svg")) if it.attrib.get("stroke")]
+    lines = [tuple(map(float, it)) for path in paths for it in re.findall(r"M([-0-9.]+) ([-0-9.]+)L([-0-9.]+) ([-0-9.]+)", path)]
+    wide = page.browser.run("return import('./view.js').then(({ lens }) => lens().zoom)") * 360
+    is_so((len(lines) >= 35, max(abs(it[2] - it[0]) for it in lines) < wide / 10), (True, True))
 
 
 @case

@@ -56,6 +56,23 @@ def names_that_are_formulas(_room):
 
 
 @case
+def names_that_begin_with_a_minus(_room):
+    """What OWASP shows as an attack by CSV is no formula; a number, and a link to this page, keep the name."""
+    page, names = Page.opened(), ["-2+3+cmd|' /C calc'!A0", "-1.5e3", "=1", "@x", "  both ends "]
+    rows = "".join(f'"{name}",{i},0\n' for i, name in enumerate(names))
+    page.drop(("points.csv", f"name,x,y\n{rows}".encode()))
+    told = [row[:2] for row in csv.reader(io.StringIO(page.saved("forest.csv").decode()))][1:]
+    is_so({it for row in told for it in row}, {"'-2+3+cmd|' /C calc'!A0", "-1.5e3", "'=1", "'@x", "  both ends "})
+    page.click("save")
+    page.click("copylink")
+    page.browser.wait("document.getElementById('copied').value")
+    page = Page.opened(page.value("copied")[len(page.address) :])
+    page.expect(points="5")
+    found = page.browser.run("return Promise.all([import('./state.js'), import('./names.js')]).then(([{ state }, { nameAt }]) => [0, 1, 2, 3, 4].map(v => nameAt(state.shown.names, v)))")
+    is_so(found, names)
+
+
+@case
 def merges_as_scipy_has_them(_room):
     page, (points, text) = Page.opened(), drawn_points(4, 300)
     page.drop(("points.csv", text))
