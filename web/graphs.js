@@ -97,7 +97,8 @@ class Places {
   put(words, fault) {
     if (!this.points) throw fault('NoProblemYet');
     const [v, x, y] = words.slice(1).map(Number);
-    if (words.length !== 4 || !Number.isInteger(v) || !Number.isFinite(x) || !Number.isFinite(y)) throw fault('BadPlace');
+    const isPlace = words.length === 4 && Number.isInteger(v) && Number.isFinite(x) && Number.isFinite(y);
+    if (!isPlace || words.some(it => /0[box]/i.test(it))) throw fault('BadPlace'); // (0x10 is a number to JavaScript alone)
     if (v < 1 || v > this.points.length / 2) throw fault('EndOutOfRange');
     if (!Number.isNaN(this.points[2 * v - 2])) throw fault('SecondPlace');
     this.points.set([x, y], 2 * v - 2);

@@ -74,10 +74,10 @@ export function forestGeoJson({ forest, names, heights, points }) {
 }
 
 // The merges as scipy's linkage has them: two nodes, the lower first, the height, and how many points they have together.
-export function linkageCsv({ n, heights, merges: { larger, smaller, size } }) {
-  const text = new Text();
+export function linkageCsv({ n, forest, heights, isExact, merges: { larger, smaller, size } }) {
+  const weights = bitsOf(forest), text = new Text();
   for (let i = 0; i < heights.length; i++) {
-    text.add(`${Math.min(larger[i], smaller[i])},${Math.max(larger[i], smaller[i])},${heights[i]},${size[n + i]}\n`);
+    text.add(`${Math.min(larger[i], smaller[i])},${Math.max(larger[i], smaller[i])},${isExact ? weights[2 * i] : heights[i]},${size[n + i]}\n`);
   }
   return text.blob('text/csv');
 }

@@ -360,6 +360,8 @@ FAULTS = [
     ("bad.co", b"p sp 2 1\n", "line 1: BadProblem"),
     ("bad.co", b"p aux sp co 1000001\n", "line 1: TooLarge"),
     ("bad.co", b"p aux sp co 2\nv 1 2\n", "line 2: BadPlace"),
+    ("bad.co", b"p aux sp co 1\nv 0x1 2 3\n", "line 2: BadPlace"),
+    ("bad.co", b"p aux sp co 1\nv 1 0B10 3\n", "line 2: BadPlace"),
     ("bad.co", b"p aux sp co 2\nv 3 1 1\n", "line 2: EndOutOfRange"),
     ("bad.co", b"p aux sp co 2\nv 1 1 1\nv 1 1 1\n", "line 3: SecondPlace"),
     ("bad.co", b"p aux sp co 2\nv 1 1 1\n", "line 3: MissingPlaces"),

@@ -212,6 +212,9 @@ def the_dendrogram_of_several_trees(_room):
     is_so(told[2], (["3", "7", "7", "7 clusters"], [1, 2, 3, 4, 5, 6, 7]))
     is_so((told[3], told[4]), (told[1], told[0]))
     page.keep("trees")
+    # doubles would round these heights
+    page.drop(("far.gr", b"p sp 3 2\na 1 2 9007199254740993\na 2 3 -9007199254740993\n"))
+    is_so(page.saved("linkage.csv"), b"1,2,-9007199254740993,2\n0,3,9007199254740993,3\n")
     for n, m in [(60, 40), (60, 200)]:
         arcs = [(draw.randint(1, n), draw.randint(1, n), draw.randint(0, 9)) for _ in range(m)]
         page.drop(("drawn.gr", file_of(n, arcs)))
