@@ -74,15 +74,16 @@ template <class T> T refuse(std::int64_t code) { throw refused(code); }
 #endif
 
 /* The minimum spanning forest of links between the vertices 1 to n, which stands first among them then. */
-inline answer<std::span<boruvka_link>> forest(std::uint64_t n, std::span<boruvka_link> links) {
+[[nodiscard]] inline answer<std::span<boruvka_link>> forest(std::uint64_t n, std::span<boruvka_link> links) {
     const std::int64_t count = boruvka_forest(of_32_bits(n), first_of(links), links.size());
     if (count < 0) return refuse<std::span<boruvka_link>>(count);
     return links.first(static_cast<std::size_t>(count));
 }
 
 /* The places of its links among the arcs from u[i] to v[i] of weight w[i], between the vertices base to base + n - 1. */
-inline answer<std::vector<std::uint32_t>> places(std::uint64_t n, std::uint64_t base, std::span<const std::uint32_t> u,
-                                                 std::span<const std::uint32_t> v, std::span<const std::int64_t> w) {
+[[nodiscard]] inline answer<std::vector<std::uint32_t>> places(std::uint64_t n, std::uint64_t base,
+                                                               std::span<const std::uint32_t> u, std::span<const std::uint32_t> v,
+                                                               std::span<const std::int64_t> w) {
     /* no end is a vertex past 32 bits */
     if (base > UINT32_MAX && n <= BORUVKA_MAX_VERTICES) n = 0;
     std::vector<std::uint32_t> found(std::min<std::uint64_t>(u.size(), n > 0 ? n - 1 : 0));
@@ -94,7 +95,7 @@ inline answer<std::vector<std::uint32_t>> places(std::uint64_t n, std::uint64_t 
 }
 
 /* The least vertex of each vertex's component under links that close no cycle, that of vertex v at v - 1. */
-inline answer<std::vector<std::uint32_t>> labels(std::uint64_t n, std::span<const boruvka_link> links) {
+[[nodiscard]] inline answer<std::vector<std::uint32_t>> labels(std::uint64_t n, std::span<const boruvka_link> links) {
     if (n > BORUVKA_MAX_VERTICES) return refuse<std::vector<std::uint32_t>>(BORUVKA_TOO_MANY_VERTICES);
     std::vector<std::uint32_t> found(n);
     const std::int64_t count = boruvka_labels(of_32_bits(n), first_of(links), links.size(), first_of(std::span(found)));
@@ -104,7 +105,7 @@ inline answer<std::vector<std::uint32_t>> labels(std::uint64_t n, std::span<cons
 
 /* The merges of the clusters of n points by links that close no cycle, in ascending order of weight, as boruvka_merges has
  * them. */
-inline answer<std::vector<boruvka_merge>> merges(std::uint64_t n, std::span<const boruvka_link> links) {
+[[nodiscard]] inline answer<std::vector<boruvka_merge>> merges(std::uint64_t n, std::span<const boruvka_link> links) {
     std::vector<boruvka_merge> found(links.size());
     const std::int64_t count = boruvka_merges(of_32_bits(n), first_of(links), links.size(), first_of(std::span(found)));
     if (count < 0) return refuse<std::vector<boruvka_merge>>(count);

@@ -44,7 +44,7 @@ int main() {
     const auto labels = boruvka::labels(2, {});
     std::printf(" %u %u", labels[0], labels[1]);
     try {
-        boruvka::forest(2, bad);
+        (void)boruvka::forest(2, bad);
     } catch (const boruvka::refused &refused) {
         std::printf(", %s\\n", refused.what());
     }
@@ -255,6 +255,18 @@ def the_headers_stand_behind_macros_of_common_names(_room):
         if shutil.which(of):
             lines = [*(f"#include <{it}>" for it in earlier), *names, *[f"#include <{header}>"] * 2, "int main(void) { return 0; }", ""]
             expect(run([of, *words, language, standard, "-"], "\n".join(lines).encode()), 0, b"", b"")
+
+
+@case
+def a_dropped_answer_is_warned_of(_room):
+    """It may be a refusal, or how many links the forest has."""
+    of = next(filter(shutil.which, ("g++", "clang++")), None)
+    if not of:
+        raise Skipped("no g++ or clang++ is there")
+    for call in ["forest(2, {})", "places(2, 1, {}, {}, {})", "labels(2, {})", "merges(2, {})"]:
+        lines = f"#include <boruvka.hpp>\nint main() {{ boruvka::{call}; return 0; }}\n".encode()
+        status, output, errors = run([of, "-std=c++20", "-Werror", INCLUDE, "-fsyntax-only", "-x", "c++", "-"], lines)
+        expect((status != 0, output, b"nodiscard" in errors), True, b"", True)
 
 
 @case
