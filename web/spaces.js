@@ -101,8 +101,8 @@ export class Globe {
   }
 }
 
-// Where points of the globe are drawn, and how wide all degrees are: each degree up as long as one across in the middle. It is cut open where most degrees
-// east have no point.
+// Where points of the globe are drawn, and how wide all degrees are: each degree up as long as one across in the middle. It
+// is cut open where most degrees east have no point.
 export function drawnGlobe(points) {
   const n = points.length / 2, east = new Float64Array(n).map((_, v) => (points[2 * v] % 360 + 360) % 360), sorted = east.slice().sort();
   let cut = 0, most = n ? sorted[0] + 360 - sorted[n - 1] : 0;

@@ -111,7 +111,7 @@ def a_clean_up_without_parts(room):
     """In zsh a pattern that matches nothing takes its command along, and no other."""
     _, last = blocks_of("docs/RECIPES.md")[-1]
     for shell in filter(shutil.which, ["sh", "bash", "zsh"]):
-        names = set(re.findall(r"\w+\.\w+", last)) - {"part."}
+        names = set(re.findall(r"\w+\.\w+", last))
         for name in names:
             written(f"{room}/{name}", b"")
         run([shell, "-c", last], cwd=room)

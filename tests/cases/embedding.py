@@ -263,6 +263,8 @@ def a_dropped_answer_is_warned_of(_room):
     of = next(filter(shutil.which, ("g++", "clang++")), None)
     if not of:
         raise Skipped("no g++ or clang++ is there")
+    if run([of, "-std=c++20", "-fsyntax-only", "-x", "c++", "-"], b"#include <span>\n")[0]:
+        raise Skipped(f"{of} has no C++20")
     for call in ["forest(2, {})", "places(2, 1, {}, {}, {})", "labels(2, {})", "merges(2, {})"]:
         lines = f"#include <boruvka.hpp>\nint main() {{ boruvka::{call}; return 0; }}\n".encode()
         status, output, errors = run([of, "-std=c++20", "-Werror", INCLUDE, "-fsyntax-only", "-x", "c++", "-"], lines)
