@@ -1,5 +1,5 @@
 -- Picks that are found by the components for which links are offered.
-use Rattle.std.proofs.Common.{◌≡◌, ℕ, ◌+◌, ◌-◌, ◌<◌, ◌≤◌, ◌≢◌, ◌⊎◌, ◌↔◌, min, Bool, true, false, List, [], ◌++◌, length, map, get_or, set, Contains, Some, refl, sym, ap, ◌∙◌, subst, inl, inr, arith}
+use Rattle.std.proofs.Common.{◌≡◌, ℕ, ◌+◌, ◌-◌, ◌<◌, ◌≤◌, ◌≢◌, ◌⊎◌, ◌↔◌, min, Bool, true, false, List, [], length, map, get_or, set, Contains, Some, refl, sym, ap, ◌∙◌, subst, inl, inr, arith}
 use Rattle.std.specs.Prelude.{Option, All, Any, MatchBool, IsTrue, slice_get}
 use Rattle.std.proofs.lemmas.Int.{ints}
 use Rattle.std.specs.List.{list_all}
@@ -7,7 +7,7 @@ use Rattle.std.specs.Option.{option_to_list}
 use Rattle.std.proofs.lemmas.Bool.{cases_lt, cases_eq}
 use Rattle.std.proofs.lemmas.Option.{slice_get_cases, slice_get_read}
 use Rattle.std.proofs.lemmas.List.{get_or_default, get_or-set_same, get_or-set_other}
-use Rattle.std.proofs.lemmas.List.Elements.{All-contains, All-contains_itself, Contains-append_left, Contains-append_right}
+use Rattle.std.proofs.lemmas.List.Elements.{All-contains, All-contains_itself}
 use Rattle.links.specs.declared.links.Link.{Link}
 use Rattle.links.specs.Labels.{label_of}
 use Rattle.links.specs.Offers.{Offer}
@@ -17,7 +17,6 @@ use Rattle.links.specs.AnswerValue.{AnswerValue}
 use Rattle.round_theory.specs.Offers.{Leaves}
 use Rattle.round_theory.proofs.Cutting.{any_from, flat_map_contains}
 use Rattle.round_theory.proofs.Leaving.{leaves_end, leaves_low, leaves_high}
-use Rattle.round_theory.proofs.Steps.{append_either}
 use Rattle.round_core.proofs.Books.{leaves_if, all_at, offered, offer_at, in_option, map_contains, map_from}
 use Rattle.round_core.specs.PickNumbers.{IsKeyNumber, no_pick}
 use Rattle.round_core.specs.BookValue.{is_leaving, is_offer, named_links, all_named, IsRight, CanCount}
@@ -64,16 +63,6 @@ taken_of_answer cut answers i a start old new lt at taken = λ j in_old. elim (t
   | inl stayed ↦ inl stayed
   | inr (l, offered, key) ↦ inr (l, any_from (λ (b : AnswerValue). IsOfferedBy (links_at cut b.shard) b.offers (start + j + 1) l) answers a (i, lt, sym at) offered, key)
 ]
-
--- those of two lists are where those of each are
-pub counted_both : (labels numbers : List ℕ) (front back whole : List Link) → front ++ back ≡ whole → AreCountedIn labels numbers front × AreCountedIn labels numbers back ↔ AreCountedIn labels numbers whole
-counted_both labels numbers front back whole is = (
-  λ both l l_in. elim ((append_either front back l).0 (subst (λ xs. Contains xs l) (sym is) l_in)) [ inl first ↦ both.0 l first | inr second ↦ both.1 l second ],
-  λ all. (
-    λ l l_in. all l (subst (λ xs. Contains xs l) is (Contains-append_left front back l l_in)),
-    λ l l_in. all l (subst (λ xs. Contains xs l) is (Contains-append_right front back l l_in)),
-  ),
-)
 
 -- a link that is offered for a label is one that the offers name, and leaves it
 pub offered_leaves : (links : List Link) (labels : List ℕ) (offers : List Offer) (c : ℕ) (l : Link) → list_all (is_offer links labels) offers ≡ true → IsOfferedBy links offers c l
@@ -159,12 +148,26 @@ all_counted labels numbers links offers false now xs are leaving (k, x, lt, at, 
       ],
 )
 
--- the links of one answer are among those of all
-pub counted_of_one : (cut : List (List Link)) (labels numbers : List ℕ) (answers : List AnswerValue) (i : ℕ) (a : AnswerValue) → i < length answers → a ≡ get_or answers i a
-    → AreCountedIn labels numbers (all_named cut answers) → AreCountedIn labels numbers (named_links (links_at cut a.shard) a.offers)
-counted_of_one cut labels numbers answers i a lt at all l l_in =
-    all l ((flat_map_contains (λ (b : AnswerValue). named_links (links_at cut b.shard) b.offers) answers l).1
-    (any_from (λ (b : AnswerValue). Contains (named_links (links_at cut b.shard) b.offers) l) answers a (i, lt, sym at) l_in))
+-- and those of answers where a look at each answer finds that the links it names are
+pub all_answers_counted : (cut : List (List Link)) (labels numbers : List ℕ) (answers : List AnswerValue) (b : Bool) {X : Type 0} (now : X → AnswerValue) (xs : List X) → map now xs ≡ answers
+    → MatchBool b (All (λ x. IsTrue true ↔ AreCountedIn labels numbers (named_links (links_at cut (now x).shard) (now x).offers)) xs)
+        (Any (λ x. IsTrue false ↔ AreCountedIn labels numbers (named_links (links_at cut (now x).shard) (now x).offers)) xs)
+    → IsTrue b ↔ AreCountedIn labels numbers (all_named cut answers)
+all_answers_counted cut labels numbers answers true now xs are all = (
+  λ _ l l_in.
+      let named : AnswerValue → List Link = λ a. named_links (links_at cut a.shard) a.offers in
+      let (k, a, lt, at, named_in) = (flat_map_contains named answers l).0 l_in in
+      let (x, x_in, is) = map_from now xs k a (rw are lt) (rw are at) in
+      (All-contains (λ y. IsTrue true ↔ AreCountedIn labels numbers (named (now y))) xs x all x_in).0 refl l (subst (λ b. Contains (named b) l) (sym is) named_in),
+  λ _. refl,
+)
+all_answers_counted cut labels numbers answers false now xs are (k, x, lt, at, not) = (
+  λ wrong. absurd (cc),
+  λ counted.
+      let named : AnswerValue → List Link = λ a. named_links (links_at cut a.shard) a.offers in
+      let here : Contains answers (now x) = subst (λ heard. Contains heard (now x)) are (map_contains now xs x (k, lt, at)) in
+      not.1 (λ l l_in. counted l ((flat_map_contains named answers l).1 (any_from (λ a. Contains (named a) l) answers (now x) here l_in))),
+)
 
 -- answers that can be counted name places
 pub placed_of : (cut : List (List Link)) (labels : List ℕ) (answers : List AnswerValue) → CanCount cut labels answers → All (IsPlaced cut) answers

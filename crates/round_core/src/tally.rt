@@ -2,11 +2,12 @@
 //!
 //! By several, each offered link is first taken for the component that its offer names, by parts of the components. That is
 //! all where answers are light: the link's other component has an offer of its own there, of a link that isn't greater. Whether
-//! it is so is looked at, by several threads for an answer of many offers, which write nothing. Where it isn't, all offers are counted in one thread. So
+//! it is so is looked at, by several threads too, which write nothing. Where it isn't, all offers are counted in one thread. So
 //! nothing but the time stands on whether the least was taken: what was taken has to be offered, and the look finds the rest.
 ghost use Rattle.std.specs.Prelude.{◌≡◌, ◌≢◌, [], ◌∷◌, ◌<◌, ◌≤◌, ◌↔◌, length, slice_get, Some, IsTrue};
 ghost use Rattle.links.specs.declared.links.Link.{Link as TheLink};
 ghost use Rattle.links.specs.Labels.{label_of};
+ghost use Rattle.links.specs.Cut.{links_at};
 ghost use Rattle.round_core.specs.BookValue.{named_links, all_named, CanCount, CanCountOffers};
 ghost use Rattle.round_core.specs.OwnPicks.{IsCountedIn, AreCountedIn, CanCountInto, AreLeastNumbers, Counts};
 
@@ -20,6 +21,9 @@ use std::thread::Threads;
 
 // Fewer offers than these are counted in one thread.
 const FEW_OFFERS: usize = 1 << 14;
+
+// No thread looks at fewer offers of one answer than these.
+const MANY_OFFERS: usize = 1 << 16;
 
 // How many offers the answers have.
 pub(crate) fn offers_in<A: Allocator>(answers: &[Answer<A>]) -> usize {
@@ -53,7 +57,7 @@ pub(crate) fn count_by_threads<R: Threads + Sync, A: Allocator + Copy + Send + S
     count_answers(cut, labels, answers, numbers);
 }
 
-// Whether no link that the answers offer is below the number of one of its components.
+// Whether no link that the answers offer is below the number of one of its components. Threads share the answers.
 fn are_counted<R: Threads + Sync, A: Allocator + Copy + Send + Sync>(
     rt: &R,
     cut: &Cut<A>,
@@ -65,16 +69,19 @@ fn are_counted<R: Threads + Sync, A: Allocator + Copy + Send + Sync>(
     requires each_vertex { length numbers.now ≡ length labels.now }
     ensures { IsTrue result ↔ AreCountedIn labels.now numbers.now (all_named cut.now answers.now) }
 {
-    for answer in answers {
-        let links = cut.shard(answer.shard).links;
-        if !offers_are_counted(rt, labels, links, answer.offers.pairs(), numbers) {
-            return false;
-        }
-    }
-    true
+    answers.par_iter().all(
+        rt,
+        |answer: &Answer<A>| -> bool
+            requires { CanCount cut.now labels.now (answer.now ∷ []) × (length numbers.now ≡ length labels.now) }
+            ensures { IsTrue result ↔ AreCountedIn labels.entry.now numbers.entry.now (named_links (links_at cut.entry.now answer.now.shard) answer.now.offers) }
+        {
+            let links = cut.shard(answer.shard).links;
+            offers_are_counted(rt, labels, links, answer.offers.pairs(), numbers)
+        },
+    )
 }
 
-// The same of the offers of one shard, by several threads where there are many.
+// The same of the offers of one shard, which threads share where there are very many.
 fn offers_are_counted<R: Threads + Sync>(
     rt: &R,
     labels: &EndLabels,
@@ -86,7 +93,7 @@ fn offers_are_counted<R: Threads + Sync>(
     requires each_vertex { length numbers.now ≡ length labels.now }
     ensures { IsTrue result ↔ AreCountedIn labels.now numbers.now (named_links links.now pairs.now) }
 {
-    pairs.par_iter().with_min_len(FEW_OFFERS / 2).all(
+    pairs.par_iter().with_min_len(MANY_OFFERS).all(
         rt,
         |pair: &(u32, u32)| -> bool
             requires { CanCountOffers links.now labels.now (pair.now ∷ []) × (length numbers.now ≡ length labels.now) }
