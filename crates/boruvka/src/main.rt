@@ -29,6 +29,7 @@ mod standard;
 #[cfg(test)]
 mod tests;
 
+use byte_streams::Gathered;
 use std::process::ExitCode;
 use std::{env, io};
 
@@ -42,7 +43,7 @@ fn main(rt: HostRuntime) -> ExitCode {
         Ok(words) => command::command(
             &rt,
             words.as_slice(),
-            &mut rt.stdin(),
+            &mut Gathered::new(rt.stdin()),
             &mut rt.stdout(),
             &mut errors,
             &mut rt.stderr(),

@@ -1,6 +1,7 @@
-// Readers and writers of std that fail once: the failure is answered, and nothing is tried again.
+// Readers and writers of std that fail once: the failure is answered, and nothing is tried again. Reads of pieces are
+// gathered in large buffers alone.
 use super::same::expect_same;
-use byte_streams::{Failed, FillFault, PutFault, Sink, Source, Uncounted, fill, put};
+use byte_streams::{Failed, FillFault, Gathered, PutFault, Sink, Source, Uncounted, fill, put};
 use std::io;
 use std::io::{ErrorKind, Read, Write};
 
@@ -18,6 +19,26 @@ impl Read for InterruptedReader<'_> {
             return Err(io::Error::from(ErrorKind::Interrupted));
         }
         Read::read(&mut self.bytes, buf)
+    }
+}
+
+// A reader that gives at most so many bytes at once, and of which one read is interrupted.
+#[derive(Drop)]
+struct PiecewiseReader<'a> {
+    bytes: &'a [u8],
+    piece: usize,
+    reads_before: u32,
+}
+
+impl Read for PiecewiseReader<'_> {
+    fn read(&mut self, buf: &mut [u8]) -> io::Result<usize> {
+        if self.reads_before == 0 {
+            self.reads_before = u32::MAX;
+            return Err(io::Error::from(ErrorKind::Interrupted));
+        }
+        self.reads_before = self.reads_before.saturating_sub(1);
+        let most = buf.len().min(self.piece);
+        Read::read(&mut self.bytes, &mut buf[..most])
     }
 }
 
@@ -97,4 +118,74 @@ fn a_failed_flush_is_answered_and_takes_nothing(rt: HostRuntime) {
     expect_same(&rt, put(&mut sink, b"p sp"), Ok(()));
     expect_same(&rt, sink.flush(), Err(Failed));
     expect_same(&rt, sink.0.taken.as_slice(), b"p sp".as_slice());
+}
+
+// The bytes of a text past the largest single read, each another than the one before.
+fn text_of(rt: &HostRuntime, size: usize) -> Vec<u8> {
+    let mut text = Vec::new(rt.alloc());
+    for place in 0..size {
+        text.push((place % 251) as u8).expect(rt, "memory");
+    }
+    text
+}
+
+#[test]
+fn reads_into_a_large_buffer_are_gathered(rt: HostRuntime) {
+    let text = text_of(&rt, 150_000);
+    let mut source = Gathered::new(PiecewiseReader {
+        bytes: text.as_slice(),
+        piece: 30_000,
+        reads_before: 100,
+    });
+    let mut buf = vec![in rt.alloc(); 0; 100_000].expect(&rt, "memory");
+    expect_same(&rt, source.read(buf.as_mut_slice()), Ok(100_000));
+    expect_same(&rt, buf.as_slice(), &text[..100_000]);
+    expect_same(&rt, source.read(buf.as_mut_slice()), Ok(50_000));
+    expect_same(&rt, &buf[..50_000], &text[100_000..]);
+    expect_same(&rt, source.read(buf.as_mut_slice()), Ok(0));
+}
+
+#[test]
+fn reads_into_a_small_buffer_are_not_gathered(rt: HostRuntime) {
+    let text = text_of(&rt, 150_000);
+    let mut source = Gathered::new(PiecewiseReader {
+        bytes: text.as_slice(),
+        piece: 30_000,
+        reads_before: 100,
+    });
+    let mut buf = vec![in rt.alloc(); 0; 65_537].expect(&rt, "memory");
+    expect_same(&rt, source.read(&mut buf[..65_536]), Ok(30_000));
+    expect_same(&rt, source.read(buf.as_mut_slice()), Ok(65_537));
+    expect_same(&rt, buf.as_slice(), &text[30_000..95_537]);
+}
+
+#[test]
+fn a_failure_among_gathered_reads_is_answered_behind_what_came(rt: HostRuntime) {
+    let text = text_of(&rt, 150_000);
+    let mut source = Gathered::new(PiecewiseReader {
+        bytes: text.as_slice(),
+        piece: 30_000,
+        reads_before: 2,
+    });
+    let mut buf = vec![in rt.alloc(); 0; 100_000].expect(&rt, "memory");
+    expect_same(&rt, source.read(buf.as_mut_slice()), Ok(60_000));
+    expect_same(&rt, &buf[..60_000], &text[..60_000]);
+    expect_same(&rt, source.read(buf.as_mut_slice()), Err(Failed));
+    expect_same(&rt, source.read(buf.as_mut_slice()), Ok(90_000));
+    expect_same(&rt, &buf[..90_000], &text[60_000..]);
+    expect_same(&rt, source.read(buf.as_mut_slice()), Ok(0));
+}
+
+#[test]
+fn a_failure_of_the_first_gathered_read_is_answered_at_once(rt: HostRuntime) {
+    let text = text_of(&rt, 70_000);
+    let mut source = Gathered::new(PiecewiseReader {
+        bytes: text.as_slice(),
+        piece: 65_536,
+        reads_before: 0,
+    });
+    let mut buf = vec![in rt.alloc(); 0; 70_000].expect(&rt, "memory");
+    expect_same(&rt, source.read(buf.as_mut_slice()), Err(Failed));
+    expect_same(&rt, source.read(buf.as_mut_slice()), Ok(70_000));
+    expect_same(&rt, buf.as_slice(), text.as_slice());
 }
