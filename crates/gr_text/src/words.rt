@@ -75,11 +75,13 @@ impl Word {
         requires { IsFieldByte byte }
         ensures { (bytes : List ℕ) → WordMeans self bytes → WordMeans result (bytes ++ byte ∷ []) }
     {
-        match self {
-            Word::Number(kept) if byte.is_ascii_digit() => Word::Number(extended(kept, byte)),
-            _ if byte.is_ascii_digit() => self.with_digit(byte),
-            _ => self.with_other(byte),
+        if !byte.is_ascii_digit() {
+            return self.with_other(byte);
         }
+        if let Word::Number(kept) = self {
+            return Word::Number(extended(kept, byte));
+        }
+        self.with_digit(byte)
     }
 
     #[inline]
@@ -93,7 +95,7 @@ impl Word {
             Word::Minus => Word::Negative(u64::from(digit - b'0')),
             Word::Negative(kept) => Word::Negative(extended(kept, digit)),
             Word::Comment => Word::Comment,
-            _ => Word::Other,
+            Word::LetterP | Word::LetterA | Word::LetterS | Word::Sp | Word::Other => Word::Other,
         }
     }
 
@@ -101,17 +103,24 @@ impl Word {
         requires { ¬ (IsDigit byte) }
         ensures { (bytes : List ℕ) → WordMeans self bytes → WordMeans result (bytes ++ byte ∷ []) }
     {
-        match (self, byte) {
-            (Word::Empty, b'p') => Word::LetterP,
-            (Word::Empty, b'a') => Word::LetterA,
-            (Word::Empty, b's') => Word::LetterS,
-            (Word::Empty, b'c') => Word::Comment,
-            (Word::Empty, b'-') => Word::Minus,
-            (Word::LetterS, b'p') => Word::Sp,
-            (Word::Comment, _) => Word::Comment,
-            (Word::Number(_), _) => Word::Other,
-            (Word::Negative(_), _) => Word::Other,
-            _ => Word::Other,
+        match self {
+            Word::Empty => match byte {
+                b'p' => Word::LetterP,
+                b'a' => Word::LetterA,
+                b's' => Word::LetterS,
+                b'c' => Word::Comment,
+                b'-' => Word::Minus,
+                _ => Word::Other,
+            },
+            Word::LetterS => if byte == b'p' {
+                Word::Sp
+            } else {
+                Word::Other
+            },
+            Word::Comment => Word::Comment,
+            Word::Number(_) => Word::Other,
+            Word::Negative(_) => Word::Other,
+            Word::LetterP | Word::LetterA | Word::Sp | Word::Minus | Word::Other => Word::Other,
         }
     }
 }
@@ -125,7 +134,15 @@ impl Word {
     {
         match self {
             Word::Number(kept) => Some(kept),
-            _ => None,
+            Word::Empty
+            | Word::LetterP
+            | Word::LetterA
+            | Word::LetterS
+            | Word::Sp
+            | Word::Comment
+            | Word::Minus
+            | Word::Negative(_)
+            | Word::Other => None,
         }
     }
 
@@ -138,7 +155,14 @@ impl Word {
         match self {
             Word::Number(kept) => Some(Signed::Plus(kept)),
             Word::Negative(kept) => Some(Signed::Minus(kept)),
-            _ => None,
+            Word::Empty
+            | Word::LetterP
+            | Word::LetterA
+            | Word::LetterS
+            | Word::Sp
+            | Word::Comment
+            | Word::Minus
+            | Word::Other => None,
         }
     }
 
@@ -167,7 +191,13 @@ impl LineFields {
             Word::LetterP => LineFields::Problem,
             Word::LetterA => LineFields::Arc,
             Word::Comment => LineFields::Comment,
-            _ => LineFields::Unknown,
+            Word::Empty
+            | Word::LetterS
+            | Word::Sp
+            | Word::Number(_)
+            | Word::Minus
+            | Word::Negative(_)
+            | Word::Other => LineFields::Unknown,
         }
     }
 

@@ -121,7 +121,7 @@ impl<A: Allocator + Copy> Engine<A> {
                 let reply = self.reply(ask, labels);
                 Ok(Some(ask.reply_or_fault(reply)))
             }
-            _ => self.hear(frame),
+            Frame::Hello { .. } | Frame::Shard { .. } | Frame::Answer(_) | Frame::Fault { .. } => self.hear(frame),
         }
     }
 
