@@ -1,10 +1,25 @@
 """Runs by several threads, without workers: the same bytes as by one, on one processor too, and where no thread starts."""
+import contextlib
 import functools
 import os
 import random
 import resource
+import subprocess
+import threading
 
-from cases.running import SMALL_FOREST, SMALL_NET, SMALL_REPORT, Program, case, drawn_graph, expect, ran, told_by, written
+from cases.running import (
+    SECONDS,
+    SMALL_FOREST,
+    SMALL_NET,
+    SMALL_REPORT,
+    Program,
+    case,
+    drawn_graph,
+    expect,
+    ran,
+    told_by,
+    written,
+)
 
 THREADS = [1, 2, 3, 7, 9, 33, 64]
 
@@ -58,6 +73,75 @@ def faults_anywhere_by_threads(room):
         name = written(f"{room}/faulty.gr", b"".join([*lines[:place], line, *lines[place + 1 :]]))
         for threads in [2, 4, 64]:
             expect(ran([*by(threads), name]), 1, b"", b"boruvka: line %d: %s\n" % (place + 1, kind.encode()))
+
+
+def ran_by_pieces(words, pieces):
+    """What the program does whose input is written piece by piece; it may end in front of the last one."""
+    started = subprocess.Popen([Program.path, *words], stdin=subprocess.PIPE, stdout=subprocess.PIPE, stderr=subprocess.PIPE)
+    output = []
+    reader = threading.Thread(target=lambda: output.append(started.stdout.read()))
+    reader.start()
+    with contextlib.suppress(BrokenPipeError), started.stdin:
+        for piece in pieces:
+            started.stdin.write(piece)
+            started.stdin.flush()
+    reader.join()
+    errors = started.stderr.read()
+    return started.wait(SECONDS), output[0], errors
+
+
+def cut(text, most, rng):
+    """The text in pieces of at most so many bytes."""
+    at = 0
+    while at < len(text):
+        piece = text[at : at + rng.randint(1, most)]
+        yield piece
+        at += len(piece)
+
+
+@case
+def pipes_by_threads(_room):
+    # a pipe gives what was written to it so far: threads share many such pieces, wherever they are cut
+    file, text = drawn()
+    lines = file.splitlines(keepends=True)
+    rng = random.Random(7)
+    for most in [100, 5000, 65_536, 300_000, 5_000_000]:
+        for threads in [2, 4, 64]:
+            expect(ran_by_pieces(by(threads), cut(file, most, rng)), 0, text, b"")
+            place = rng.randrange(2, len(lines))
+            faulty = b"".join([*lines[:place], b"a 1 2\n", *lines[place + 1 :]])
+            expect(ran_by_pieces(by(threads), cut(faulty, most, rng)), 1, b"", b"boruvka: line %d: BadArc\n" % (place + 1))
+
+
+@case
+def an_input_byte_by_byte_by_threads(room):
+    file = b"p sp 2 150000\n" + 150_000 * b"a 1 2 3\n"
+    for source in [file, file[:-1], file + b"c"]:
+        found, _ = told_by(room, [Program.path, *by(2)], source, {"SHORT": "1"})
+        expect(found, 0, b"p sp 2 1\na 1 2 3\n", b"")
+
+
+@case
+def reads_that_fail_behind_what_threads_share(room):
+    # 16 reads give the first MiB, one more gives the rest, and the next finds the end
+    file, _ = drawn()
+    front, behind = file[: 1 << 20].count(b"\n") + 1, file.count(b"\n") + 1
+    if not 1 << 20 < len(file) < 5 << 20:
+        raise AssertionError(f"the file has {len(file)} bytes")
+    name, faulty = written(f"{room}/good.gr", file), written(f"{room}/faulty.gr", file[:-1] + b" 0\n")
+    at_front, at_end = b"boruvka: line %d: read failed\n" % front, b"boruvka: line %d: read failed\n" % behind
+    fault = b"boruvka: line %d: BadArc\n" % (behind - 1)
+    wanted = {name: {17: (3, at_front), 18: (3, at_end), 19: (3, at_end)}, faulty: {17: (3, at_front), 18: (1, fault)}}
+    for threads in [2, 4]:
+        for it, ends in wanted.items():
+            for number, (status, errors) in ends.items():
+                environment = {"FAIL_CALL": "read", "FAIL_NUMBER": str(number)}
+                for words in [[*by(threads), it], by(threads)]:
+                    with open(it, "rb") as source:
+                        found, told = told_by(room, [Program.path, *words], source, environment)
+                    expect(found, status, b"", errors)
+                    if told != b"x":
+                        raise AssertionError(f"read {number}: told {told!r}")
 
 
 @case

@@ -112,11 +112,7 @@ impl Word {
                 b'-' => Word::Minus,
                 _ => Word::Other,
             },
-            Word::LetterS => if byte == b'p' {
-                Word::Sp
-            } else {
-                Word::Other
-            },
+            Word::LetterS => if byte == b'p' { Word::Sp } else { Word::Other },
             Word::Comment => Word::Comment,
             Word::Number(_) => Word::Other,
             Word::Negative(_) => Word::Other,

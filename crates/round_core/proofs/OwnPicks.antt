@@ -151,7 +151,7 @@ all_counted labels numbers links offers false now xs are leaving (k, x, lt, at, 
 -- and those of answers where a look at each answer finds that the links it names are
 pub all_answers_counted : (cut : List (List Link)) (labels numbers : List ℕ) (answers : List AnswerValue) (b : Bool) {X : Type 0} (now : X → AnswerValue) (xs : List X) → map now xs ≡ answers
     → MatchBool b (All (λ x. IsTrue true ↔ AreCountedIn labels numbers (named_links (links_at cut (now x).shard) (now x).offers)) xs)
-        (Any (λ x. IsTrue false ↔ AreCountedIn labels numbers (named_links (links_at cut (now x).shard) (now x).offers)) xs)
+    (Any (λ x. IsTrue false ↔ AreCountedIn labels numbers (named_links (links_at cut (now x).shard) (now x).offers)) xs)
     → IsTrue b ↔ AreCountedIn labels numbers (all_named cut answers)
 all_answers_counted cut labels numbers answers true now xs are all = (
   λ _ l l_in.

@@ -121,7 +121,8 @@ impl<A: Allocator + Copy> Engine<A> {
                 let reply = self.reply(ask, labels);
                 Ok(Some(ask.reply_or_fault(reply)))
             }
-            Frame::Hello { .. } | Frame::Shard { .. } | Frame::Answer(_) | Frame::Fault { .. } => self.hear(frame),
+            Frame::Hello { .. } | Frame::Shard { .. } | Frame::Answer(_) | Frame::Fault { .. } =>
+                self.hear(frame),
         }
     }
 

@@ -41,7 +41,8 @@ impl<A: Allocator + Copy + Send + Sync> Engine<A> {
                 let reply = self.reply_par(rt, Ask { round, shard }, labels)?;
                 Ok(Some(reply))
             }
-            Frame::Hello { .. } | Frame::Shard { .. } | Frame::Answer(_) | Frame::Fault { .. } => self.hear(frame),
+            Frame::Hello { .. } | Frame::Shard { .. } | Frame::Answer(_) | Frame::Fault { .. } =>
+                self.hear(frame),
         }
     }
 
