@@ -4,7 +4,7 @@ use Rattle.byte_streams.specs.Streams.{SinkState, Took}
 use Rattle.clap.specs.Words.{IsAmong}
 use Rattle.clap.specs.declared.error.kind.ErrorKind.{ErrorKind}
 use Rattle.plain_run.specs.declared.fault.RunFault.TheVariants as fault
-use Rattle.program_words.specs.Arguments.{refusals, given, files_named, number_of, is_set, IsMistake}
+use Rattle.program_words.specs.Arguments.{refusals, given, files_named, number_or, is_set, IsMistake}
 use Rattle.program_words.specs.declared.chosen.Options.{Options}
 use Rattle.program_words.specs.Messages.{IsWritten, fault_line, unopened_line}
 use Rattle.boruvka.specs.Joined.{EndsOnSeveral}
@@ -75,8 +75,8 @@ Obeys asked = EndsOnFiles asked.files asked
 -- what lawful words ask for: where they don't say them, 2 workers and 64 shards
 abbrev pub asked_by : List (List ℕ) → Asked
 asked_by words = record {
-  workers = number_of (given words (codes "workers")) 2;
-  shards = number_of (given words (codes "shards")) 64;
+  workers = number_or (given words (codes "workers")) 2;
+  shards = number_or (given words (codes "shards")) 64;
   plain = is_set words (codes "plain");
   report = is_set words (codes "report");
   progress = is_set words (codes "progress");

@@ -108,6 +108,6 @@ RefusesNoGraph status before after =
     (bytes : List ℕ) → HasFile bytes before.source after.source → MeansNothing bytes → (status ≡ 1) ⊎ (status ≡ 4)
 
 -- if the source has a file whose graph can be cut so, the run is done, or only want of memory or a setback of the sink hindered it
-abbrev pub IsDone : ℕ → ℕ → Standard → Standard → Type 0
-IsDone shards status before after = HasGraphToCut (Even shards) before.source after.source
+abbrev pub IsDoneOrHindered : ℕ → ℕ → Standard → Standard → Type 0
+IsDoneOrHindered shards status before after = HasGraphToCut (Even shards) before.source after.source
     → (status ≡ 0) ⊎ ((status ≡ 4) ⊎ ((status ≡ 3) × ¬ HadNoSetback before.sink after.sink))

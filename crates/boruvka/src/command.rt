@@ -16,7 +16,7 @@ ghost use Rattle.program_words.specs.Messages.{IsWritten, message_line, no_text_
 ghost use Rattle.boruvka.specs.Streams.{AreReady, OnStreams, left_input, standard};
 ghost use Rattle.boruvka.specs.Asked.{asked_by, asked_of, EndsAs, EndsOnSource, Obeys};
 ghost use Rattle.boruvka.specs.Asked.{AskFor, AreWrong, HelpEnds, RefusesWords, EndsRefused};
-ghost use Rattle.boruvka.specs.Status.{report_of, JudgesFile, KeepsStreams, EndsOver, RefusesNoGraph, IsDone, LeavesOutput, IsUntouched};
+ghost use Rattle.boruvka.specs.Status.{report_of, JudgesFile, KeepsStreams, EndsOver, RefusesNoGraph, IsDoneOrHindered, LeavesOutput, IsUntouched};
 
 use crate::ends::write_end;
 use crate::joined::run_joined;
@@ -75,7 +75,7 @@ pub fn run_over<
 
     // Over such lines the workers are never blamed, and a file whose links can be cut so has its forest.
     ensures blameless { AreServed L.Line lines.items → result ≢ 5 }
-    ensures done { AreServed L.Line lines.items → OnStreams I.Source O.Sink E.Sink (IsDone shards result) io.entry io.exit }
+    ensures done { AreServed L.Line lines.items → OnStreams I.Source O.Sink E.Sink (IsDoneOrHindered shards result) io.entry io.exit }
 {
     let StandardStreams {
         input,

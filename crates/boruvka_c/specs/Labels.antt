@@ -4,8 +4,8 @@ use Rattle.limits.specs.declared.TheConstants.{MAX_ARCS, MAX_VERTICES}
 use Rattle.link_key.specs.Components.{AreLeastVertices}
 use Rattle.caller_forests.specs.Links.{AreRight, HaveEnds, HaveNoLoop, CloseNoCycle}
 use Rattle.caller_forests.specs.declared.given.GivenLink.{GivenLink}
-use Rattle.caller_forests.specs.declared.refusals.Refusal.{Refusal}
-use Rattle.caller_forests.specs.declared.refusals.Refusal.TheVariants.{NoMemory, BadEnd, TooManyVertices, TooManyLinks, Cycle}
+use Rattle.caller_forests.specs.declared.refusals.CallRefusal.{CallRefusal}
+use Rattle.caller_forests.specs.declared.refusals.CallRefusal.TheVariants.{NoMemory, BadEnd, TooManyVertices, TooManyLinks, Cycle}
 use Rattle.caller_forests.specs.Refusals.{code_of}
 
 -- each of the vertices 1 to n is labelled by the least of those that the links join with it
@@ -14,7 +14,7 @@ pub record AreLabelsBy (n : ℕ) (given : List GivenLink) (label : List ℕ) : T
   pub least : AreLeastVertices n (Contains no_cycle.links) label
 
 -- why vertices aren't labelled: the first of these causes, or want of memory if none of the first three is and no link is a loop
-abbrev pub IsLabelsRefusal : ℕ → List GivenLink → Refusal → Type 0
+abbrev pub IsLabelsRefusal : ℕ → List GivenLink → CallRefusal → Type 0
 IsLabelsRefusal n given TooManyVertices = MAX_VERTICES < n
 IsLabelsRefusal n given TooManyLinks = (n ≤ MAX_VERTICES) × (MAX_ARCS < length given)
 IsLabelsRefusal n given BadEnd = (n ≤ MAX_VERTICES) × (length given ≤ MAX_ARCS) × ¬ (HaveEnds n given)
@@ -24,4 +24,4 @@ IsLabelsRefusal n given other = ⊥
 
 -- the answer is the code of why they aren't
 abbrev pub RefusesLabels : ℕ → List GivenLink → ℤ → Type 0
-RefusesLabels n given answer = (why : Refusal) × (answer ≡ code_of why) × IsLabelsRefusal n given why
+RefusesLabels n given answer = (why : CallRefusal) × (answer ≡ code_of why) × IsLabelsRefusal n given why

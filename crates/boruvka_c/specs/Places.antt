@@ -8,8 +8,8 @@ use Rattle.links.specs.Least.{sum_of_weights, IsLightest}
 use Rattle.links.specs.declared.links.Link.{Link}
 use Rattle.gr_text.specs.Graph.{HasEnds}
 use Rattle.boruvka_c.specs.Arcs.{AreColumns, AreRightArcs, arcs_in}
-use Rattle.caller_forests.specs.declared.refusals.Refusal.{Refusal}
-use Rattle.caller_forests.specs.declared.refusals.Refusal.TheVariants.{NoMemory, BadEnd, TooManyVertices, TooManyLinks, LengthsDiffer, TooFewPlaces}
+use Rattle.caller_forests.specs.declared.refusals.CallRefusal.{CallRefusal}
+use Rattle.caller_forests.specs.declared.refusals.CallRefusal.TheVariants.{NoMemory, BadEnd, TooManyVertices, TooManyLinks, LengthsDiffer, TooFewPlaces}
 use Rattle.caller_forests.specs.Refusals.{code_of}
 
 -- the arc at this place is the link: it has its key
@@ -51,7 +51,7 @@ HaveLongerForest arcs room = (links forest : List Link) × AreLinksOf arcs links
 
 -- why arcs have no places: the first of these causes, or want of memory, or a room that is too small, if there is none of
 -- them
-abbrev pub IsArcsRefusal : ℕ → List Arc → ℕ → Refusal → Type 0
+abbrev pub IsArcsRefusal : ℕ → List Arc → ℕ → CallRefusal → Type 0
 IsArcsRefusal n arcs room TooManyVertices = MAX_VERTICES < n
 IsArcsRefusal n arcs room TooManyLinks = (n ≤ MAX_VERTICES) × (MAX_ARCS < length arcs)
 IsArcsRefusal n arcs room BadEnd = (n ≤ MAX_VERTICES) × (length arcs ≤ MAX_ARCS) × ¬ (All (HasEnds n) arcs)
@@ -68,4 +68,4 @@ abbrev pub RefusesPlaces : ℕ → ℕ → List ℕ → List ℕ → List ℤ �
 RefusesPlaces n base tails heads weights room answer =
     (¬ (AreColumns tails heads weights) × (answer ≡ code_of LengthsDiffer))
     ⊎ (AreColumns tails heads weights
-    × ((why : Refusal) × (answer ≡ code_of why) × IsArcsRefusal n (arcs_in base tails heads weights) room why))
+    × ((why : CallRefusal) × (answer ≡ code_of why) × IsArcsRefusal n (arcs_in base tails heads weights) room why))

@@ -8,5 +8,5 @@ abbrev pub sum_of_given : List GivenLink → ℤ
 sum_of_given given = fold (λ sum l. sum +ℤ l.weight) (pos 0) given
 
 -- the number whose two words these are
-abbrev pub number_of : Sum → ℤ
-number_of sum = sum.high *ℤ pos (2 ^ 64) +ℤ pos sum.low
+abbrev pub number_in : Sum → ℤ
+number_in sum = sum.high *ℤ pos (2 ^ 64) +ℤ pos sum.low

@@ -5,7 +5,7 @@ use caller_forests::{GivenLink, put_forest};
 use std::alloc::Global;
 
 /// Writes the minimum spanning forest of a graph with the vertices 1 to `n` over the first of its links, in the order of
-/// their keys, and answers how many links it has; or answers the code of a [`caller_forests::Refusal`], which is negative.
+/// their keys, and answers how many links it has; or answers the code of a [`caller_forests::CallRefusal`], which is negative.
 /// The links that stood there are lost, those behind stay.
 ///
 /// The links may come in any order, with their ends in either order, as loops and more than once. It costs what

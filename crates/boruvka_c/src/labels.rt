@@ -4,46 +4,46 @@ ghost use Rattle.std.specs.Int.Signed.{◌<ℤ◌};
 ghost use Rattle.boruvka_c.specs.Labels.{AreLabelsBy, IsLabelsRefusal, RefusesLabels};
 ghost use Rattle.caller_forests.specs.Links.{AreRight};
 
-use caller_forests::{GivenLink, Refusal, have_ends, have_no_loop, links_of};
+use caller_forests::{CallRefusal, GivenLink, have_ends, have_no_loop, links_of};
 use limits::{MAX_ARCS, MAX_VERTICES};
 use link_key::components_of;
 use std::alloc::Global;
 
 // Writes the labels of the vertices 1, 2, ..
-fn find_labels(alloc: Global, links: &[GivenLink], label: &mut [u32]) -> Result<(), Refusal>
+fn find_labels(alloc: Global, links: &[GivenLink], label: &mut [u32]) -> Result<(), CallRefusal>
     ensures right { OnOk result (AreRight (length label.old) links.now) }
     ensures labelled { OnOk result (AreLabelsBy (length label.old) links.now label.new) }
     ensures refused { IfErr result (λ why. IsLabelsRefusal (length label.old) links.now why) }
     ensures untouched { OnErr result (label.new ≡ label.old) }
 {
     if label.len() > MAX_VERTICES as usize {
-        return Err(Refusal::TooManyVertices);
+        return Err(CallRefusal::TooManyVertices);
     }
     let n = label.len() as u32;
     if links.len() > MAX_ARCS as usize {
-        return Err(Refusal::TooManyLinks);
+        return Err(CallRefusal::TooManyLinks);
     }
     if !have_ends(n, links) {
-        return Err(Refusal::BadEnd);
+        return Err(CallRefusal::BadEnd);
     }
     if !have_no_loop(links) {
-        return Err(Refusal::Cycle);
+        return Err(CallRefusal::Cycle);
     }
     let Ok(list) = links_of(alloc, n, links) else {
-        return Err(Refusal::NoMemory);
+        return Err(CallRefusal::NoMemory);
     };
     let Ok(found) = components_of(alloc, n, list) else {
-        return Err(Refusal::NoMemory);
+        return Err(CallRefusal::NoMemory);
     };
     let Some(labels) = found else {
-        return Err(Refusal::Cycle);
+        return Err(CallRefusal::Cycle);
     };
     label.copy_from_slice(labels.as_slice());
     Ok(())
 }
 
 /// Writes the least vertex of each vertex's component under these links over `label`, that of vertex v at v - 1, and
-/// answers how many vertices these are, the length of `label`; or answers the code of a [`Refusal`], which is negative.
+/// answers how many vertices these are, the length of `label`; or answers the code of a [`CallRefusal`], which is negative.
 /// The links may come in any order, with their ends in either order, but close no cycle, as a loop or a link that stands
 /// twice would.
 ///

@@ -10,7 +10,7 @@ ghost use Rattle.boruvka_c.specs.Places.{IsAmong, IsFirstFrom, HoldsPlaces, IsAr
 
 use crate::arcs::Arcs;
 use crate::candidates::{Candidate, Sieve, put_candidates, put_least, sort};
-use caller_forests::Refusal;
+use caller_forests::CallRefusal;
 use limits::{MAX_ARCS, MAX_VERTICES};
 use link_key::forest_of;
 use std::alloc::Global;
@@ -47,7 +47,12 @@ fn put_first_places(
 }
 
 // Writes the places of the forest's links over the first of the caller's, and says how many they are.
-fn find_places(alloc: Global, n: u32, arcs: &Arcs<'_>, places: &mut [u32]) -> Result<usize, Refusal>
+fn find_places(
+    alloc: Global,
+    n: u32,
+    arcs: &Arcs<'_>,
+    places: &mut [u32],
+) -> Result<usize, CallRefusal>
     ensures right { OnOk result (AreRightArcs n arcs.now) }
     ensures found { IfOk result (λ count. HoldsPlaces arcs.now places.old places.new count) }
     ensures few { IfOk result (λ count. count ≤ MAX_ARCS) }
@@ -55,23 +60,23 @@ fn find_places(alloc: Global, n: u32, arcs: &Arcs<'_>, places: &mut [u32]) -> Re
     ensures untouched { OnErr result (places.new ≡ places.old) }
 {
     if n > MAX_VERTICES {
-        return Err(Refusal::TooManyVertices);
+        return Err(CallRefusal::TooManyVertices);
     }
     if arcs.len() > MAX_ARCS as usize {
-        return Err(Refusal::TooManyLinks);
+        return Err(CallRefusal::TooManyLinks);
     }
     if !arcs.have_ends(n) {
-        return Err(Refusal::BadEnd);
+        return Err(CallRefusal::BadEnd);
     }
     let Ok(list) = arcs.links(alloc, n) else {
-        return Err(Refusal::NoMemory);
+        return Err(CallRefusal::NoMemory);
     };
     let Ok(forest) = forest_of(alloc, n, list) else {
-        return Err(Refusal::NoMemory);
+        return Err(CallRefusal::NoMemory);
     };
     let links = forest.links();
     if links.len() > places.len() {
-        return Err(Refusal::TooFewPlaces);
+        return Err(CallRefusal::TooFewPlaces);
     }
     let Some(first) = links.first() else {
         return Ok(0);
@@ -81,10 +86,10 @@ fn find_places(alloc: Global, n: u32, arcs: &Arcs<'_>, places: &mut [u32]) -> Re
         place: 0,
     };
     let Ok(mut found) = vec![in alloc; none; links.len()] else {
-        return Err(Refusal::NoMemory);
+        return Err(CallRefusal::NoMemory);
     };
     let Ok(sieve) = Sieve::of_links(alloc, n, links) else {
-        return Err(Refusal::NoMemory);
+        return Err(CallRefusal::NoMemory);
     };
     put_first_places(
         n,
@@ -97,7 +102,7 @@ fn find_places(alloc: Global, n: u32, arcs: &Arcs<'_>, places: &mut [u32]) -> Re
 }
 
 /// Writes the places, from 0 on, of the forest's links among the arcs over the first of `places`, in the order of the
-/// links' keys, and answers how many they are; or answers the code of a [`Refusal`], which is negative. If several arcs
+/// links' keys, and answers how many they are; or answers the code of a [`CallRefusal`], which is negative. If several arcs
 /// are one link, it is the first one's place.
 ///
 /// The arc at a place leads from `u` to `v` there, and has the weight `w` there; the vertices are `base` up to
@@ -126,7 +131,7 @@ pub extern "C" fn boruvka_places_in(
     ensures untouched { result <ℤ pos 0 → places.new ≡ places.old }
 {
     let Some(arcs) = Arcs::of_columns(base, u, v, w) else {
-        return Refusal::LengthsDiffer.code();
+        return CallRefusal::LengthsDiffer.code();
     };
     match find_places(alloc, n, &arcs, places) {
         Ok(count) => count as i64,

@@ -1,6 +1,6 @@
 //! What links weigh.
 ghost use Rattle.std.specs.Prelude.{◌≡◌};
-ghost use Rattle.boruvka_c.specs.Totals.{sum_of_given, number_of};
+ghost use Rattle.boruvka_c.specs.Totals.{sum_of_given, number_in};
 
 use caller_forests::GivenLink;
 
@@ -15,7 +15,7 @@ pub struct Sum {
 impl Sum {
     // The two words of a number.
     fn of_number(number: i128) -> Sum
-        ensures { number_of result ≡ number }
+        ensures { number_in result ≡ number }
     {
         Sum {
             high: number.div_euclid(1 << 64) as i64,
@@ -39,7 +39,7 @@ fn sum_of(links: &[GivenLink]) -> i128
 /// many links as memory can hold, takes one pass and no memory.
 #[unsafe(no_mangle)]
 pub extern "C" fn boruvka_total(links: &[GivenLink], total: &mut Sum)
-    ensures { number_of total.new ≡ sum_of_given links.now }
+    ensures { number_in total.new ≡ sum_of_given links.now }
 {
     *total = Sum::of_number(sum_of(links));
 }

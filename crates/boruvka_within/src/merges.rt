@@ -6,7 +6,7 @@ use link_merges::Merge;
 use region_heap::{Region, heap_within};
 
 /// Writes the merges of the clusters of `n` points by these links over `merges`, a merge for each link, and answers how many
-/// these are; or answers the code of a [`caller_forests::Refusal`], which is negative. The points are the clusters 0 to
+/// these are; or answers the code of a [`caller_forests::CallRefusal`], which is negative. The points are the clusters 0 to
 /// n - 1, of which cluster v - 1 is the vertex v; the link at place i joins two clusters into the cluster n + i. So with
 /// weights for heights n - 1 merges are a linkage matrix, and those of a forest are single linkage.
 ///

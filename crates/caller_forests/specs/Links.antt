@@ -10,8 +10,8 @@ use Rattle.links.specs.declared.links.Link.{Link}
 use Rattle.link_key.specs.Components.{IsAcyclic}
 use Rattle.gr_text.specs.Graph.{HasEnds}
 use Rattle.caller_forests.specs.declared.given.GivenLink.{GivenLink}
-use Rattle.caller_forests.specs.declared.refusals.Refusal.{Refusal}
-use Rattle.caller_forests.specs.declared.refusals.Refusal.TheVariants.{NoMemory, BadEnd, TooManyVertices, TooManyLinks}
+use Rattle.caller_forests.specs.declared.refusals.CallRefusal.{CallRefusal}
+use Rattle.caller_forests.specs.declared.refusals.CallRefusal.TheVariants.{NoMemory, BadEnd, TooManyVertices, TooManyLinks}
 use Rattle.caller_forests.specs.Refusals.{code_of}
 
 -- what a given link says: an arc, whose direction is forgotten
@@ -56,7 +56,7 @@ abbrev pub AreRight : ℕ → List GivenLink → Type 0
 AreRight n given = (n ≤ MAX_VERTICES) × (length given ≤ MAX_ARCS) × HaveEnds n given
 
 -- why links have no forest: the first of these causes, or want of memory where there is none of them
-abbrev pub IsLinksRefusal : ℕ → List GivenLink → Refusal → Type 0
+abbrev pub IsLinksRefusal : ℕ → List GivenLink → CallRefusal → Type 0
 IsLinksRefusal n given TooManyVertices = MAX_VERTICES < n
 IsLinksRefusal n given TooManyLinks = (n ≤ MAX_VERTICES) × (MAX_ARCS < length given)
 IsLinksRefusal n given BadEnd = (n ≤ MAX_VERTICES) × (length given ≤ MAX_ARCS) × ¬ (HaveEnds n given)
@@ -69,7 +69,7 @@ FindsForest n before after answer = AreRight n before × ((count : ℕ) × (answ
 
 -- the answer is the code of why there is none
 abbrev pub RefusesLinks : ℕ → List GivenLink → ℤ → Type 0
-RefusesLinks n given answer = (why : Refusal) × (answer ≡ code_of why) × IsLinksRefusal n given why
+RefusesLinks n given answer = (why : CallRefusal) × (answer ≡ code_of why) × IsLinksRefusal n given why
 
 -- the forest stands first, or the answer is the code of why there is none, and the links are as they were
 pub record AnswersForest (n : ℕ) (before after : List GivenLink) (answer : ℤ) : Type 0 where

@@ -6,8 +6,8 @@ use Rattle.link_merges.specs.Merges.{AreMerges}
 use Rattle.link_merges.specs.declared.merges.Merge.{Merge}
 use Rattle.caller_forests.specs.Links.{AreRight, HaveEnds, HaveNoLoop, CloseNoCycle}
 use Rattle.caller_forests.specs.declared.given.GivenLink.{GivenLink}
-use Rattle.caller_forests.specs.declared.refusals.Refusal.{Refusal}
-use Rattle.caller_forests.specs.declared.refusals.Refusal.TheVariants.{NoMemory, BadEnd, TooManyVertices, TooManyLinks, LengthsDiffer, Cycle, Descending}
+use Rattle.caller_forests.specs.declared.refusals.CallRefusal.{CallRefusal}
+use Rattle.caller_forests.specs.declared.refusals.CallRefusal.TheVariants.{NoMemory, BadEnd, TooManyVertices, TooManyLinks, LengthsDiffer, Cycle, Descending}
 use Rattle.caller_forests.specs.Refusals.{code_of}
 
 -- no link weighs less than one before it
@@ -26,7 +26,7 @@ pub record HaveMerges (n : ℕ) (given : List GivenLink) (room : ℕ) : Type 0 w
   pub right : AreRight n given
 
 -- why there are no merges: the first of these causes, or want of memory if none of the first four is and no link is a loop
-abbrev pub IsMergesRefusal : ℕ → List GivenLink → ℕ → Refusal → Type 0
+abbrev pub IsMergesRefusal : ℕ → List GivenLink → ℕ → CallRefusal → Type 0
 IsMergesRefusal n given room LengthsDiffer = room ≢ length given
 IsMergesRefusal n given room TooManyVertices = (room ≡ length given) × (MAX_VERTICES < n)
 IsMergesRefusal n given room TooManyLinks = (room ≡ length given) × (n ≤ MAX_VERTICES) × (MAX_ARCS < length given)
@@ -38,7 +38,7 @@ IsMergesRefusal n given room other = ⊥
 
 -- the answer is the code of why there are none
 abbrev pub RefusesMerges : ℕ → List GivenLink → ℕ → ℤ → Type 0
-RefusesMerges n given room answer = (why : Refusal) × (answer ≡ code_of why) × IsMergesRefusal n given room why
+RefusesMerges n given room answer = (why : CallRefusal) × (answer ≡ code_of why) × IsMergesRefusal n given room why
 
 -- the merges stand there, as many as links, or the answer is the code of why there are none, and what stood there is as it was
 pub record AnswersMerges (n : ℕ) (given : List GivenLink) (before after : List Merge) (answer : ℤ) : Type 0 where

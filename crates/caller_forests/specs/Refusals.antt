@@ -2,12 +2,12 @@
 use Rattle.std.specs.Prelude.{ℕ, ℤ, negsuc, List, codes}
 use Rattle.gr_text.specs.FaultText.{kind_text}
 use Rattle.gr_text.specs.declared.faults.GrKind.TheVariants.{UnknownLine, NoProblemYet, SecondProblem, BadProblem, TooLarge, BadArc, EndOutOfRange, WeightOutOfRange, TooManyArcs, MissingProblem, MissingArcs}
-use Rattle.caller_forests.specs.declared.refusals.Refusal.{Refusal}
-use Rattle.caller_forests.specs.declared.refusals.Refusal.TheVariants.{NoMemory, BadEnd, TooManyVertices, TooManyLinks, TooLong, Line, LengthsDiffer, TooFewPlaces, Cycle, Descending}
+use Rattle.caller_forests.specs.declared.refusals.CallRefusal.{CallRefusal}
+use Rattle.caller_forests.specs.declared.refusals.CallRefusal.TheVariants.{NoMemory, BadEnd, TooManyVertices, TooManyLinks, TooLong, Line, LengthsDiffer, TooFewPlaces, Cycle, Descending}
 
 -- the table of them, as the header has it: the codes -1 to -20 (`negsuc k` is -(k + 1)) and the texts; of a faulty line the
 -- name that the program gives it
-abbrev pub row_of : Refusal → ℤ × List ℕ
+abbrev pub row_of : CallRefusal → ℤ × List ℕ
 row_of NoMemory = (negsuc 0, codes "no memory")
 row_of BadEnd = (negsuc 1, codes "an end is no vertex")
 row_of TooManyVertices = (negsuc 2, codes "too many vertices")
@@ -29,8 +29,8 @@ row_of TooFewPlaces = (negsuc 17, codes "too few places")
 row_of Cycle = (negsuc 18, codes "a cycle")
 row_of Descending = (negsuc 19, codes "links descend")
 
-abbrev pub code_of : Refusal → ℤ
+abbrev pub code_of : CallRefusal → ℤ
 code_of why = (row_of why).0
 
-abbrev pub text_of : Refusal → List ℕ
-text_of why = (row_of why).1
+abbrev pub refusal_text : CallRefusal → List ℕ
+refusal_text why = (row_of why).1

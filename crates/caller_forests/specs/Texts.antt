@@ -9,9 +9,9 @@ use Rattle.plain_run.specs.Files.{MeansGraph, MeansNothing, IsForestTextOf, IsFa
 use Rattle.plain_run.specs.declared.fault.RunFault.{RunFault}
 use Rattle.plain_run.specs.declared.fault.RunFault.TheVariants as run
 use Rattle.caller_forests.specs.declared.faults.Fault.{Fault}
-use Rattle.caller_forests.specs.declared.refusals.Refusal.{Refusal}
-use Rattle.caller_forests.specs.declared.refusals.Refusal.TheVariants.{NoMemory, TooLong, Line}
-use Rattle.caller_forests.specs.Refusals.{code_of, text_of}
+use Rattle.caller_forests.specs.declared.refusals.CallRefusal.{CallRefusal}
+use Rattle.caller_forests.specs.declared.refusals.CallRefusal.TheVariants.{NoMemory, TooLong, Line}
+use Rattle.caller_forests.specs.Refusals.{code_of, refusal_text}
 
 -- a room once these bytes were put into it, as many as it has room for
 abbrev pub filled : List ℕ → List ℕ → List ℕ
@@ -24,7 +24,7 @@ filled_with_text text room = filled (take (length room - 1) text ++ 0 ∷ []) ro
 -- ---- what C gets of a refusal
 
 -- a refusal with its line, or with 0
-abbrev pub fault_at : Refusal → ℕ → Fault
+abbrev pub fault_at : CallRefusal → ℕ → Fault
 fault_at why line = record { kind = code_of why; line = line }
 
 abbrev pub no_fault : Fault
@@ -38,8 +38,8 @@ fault_of other = fault_at NoMemory 0
 
 -- this is the text of a refusal's code, or of a number that is none
 abbrev pub IsTextOfCode : ℤ → List ℕ → Type 0
-IsTextOfCode code text = ((why : Refusal) × (code ≡ code_of why) × (text ≡ text_of why))
-    ⊎ (((why : Refusal) → code ≢ code_of why) × (text ≡ codes "no refusal"))
+IsTextOfCode code text = ((why : CallRefusal) × (code ≡ code_of why) × (text ≡ refusal_text why))
+    ⊎ (((why : CallRefusal) → code ≢ code_of why) × (text ≡ codes "no refusal"))
 
 -- the code's text was put into the room with a 0 behind it, and the answer is how long the whole text is
 pub record GivesTextOf (code : ℤ) (before after : List ℕ) (answer : ℕ) : Type 0 where

@@ -2,7 +2,7 @@
 ghost use Rattle.std.specs.Prelude.{◌≡◌};
 ghost use Rattle.caller_forests.specs.Texts.{fault_of, IsTextOfCode, GivesTextOf};
 
-use crate::refusals::Refusal;
+use crate::refusals::CallRefusal;
 use crate::room::fill_with_text;
 use gr_text::ReadFault;
 use plain_run::RunFault;
@@ -25,14 +25,14 @@ impl Fault {
         ensures { result ≡ fault_of why }
     {
         let (why, line) = match why {
-            RunFault::Read(ReadFault::Gr(fault)) => (Refusal::Line(fault.kind), fault.line),
-            RunFault::Read(ReadFault::TooLong) => (Refusal::TooLong, 0),
+            RunFault::Read(ReadFault::Gr(fault)) => (CallRefusal::Line(fault.kind), fault.line),
+            RunFault::Read(ReadFault::TooLong) => (CallRefusal::TooLong, 0),
             RunFault::Read(ReadFault::Source { .. } | ReadFault::Memory)
             | RunFault::Cut(_)
             | RunFault::Rounds { .. }
             | RunFault::Missed { .. }
             | RunFault::Memory
-            | RunFault::Write { .. } => (Refusal::NoMemory, 0),
+            | RunFault::Write { .. } => (CallRefusal::NoMemory, 0),
         };
         Fault {
             kind: why.code(),
@@ -45,7 +45,7 @@ impl Fault {
 fn text_of_number(code: i64) -> &'static [u8]
     ensures { IsTextOfCode code result.now }
 {
-    match Refusal::of_code(code) {
+    match CallRefusal::of_code(code) {
         Some(why) => why.text(),
         None => b"no refusal",
     }

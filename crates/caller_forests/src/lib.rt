@@ -29,5 +29,5 @@ pub use faults::{Fault, put_fault_text};
 pub use forests::put_forest;
 pub use given::{GivenLink, have_ends, have_no_loop, links_of};
 pub use merges::put_merges;
-pub use refusals::Refusal;
+pub use refusals::CallRefusal;
 pub use texts::put_forest_text;

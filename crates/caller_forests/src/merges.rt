@@ -3,7 +3,7 @@ ghost use Rattle.std.specs.Prelude.{◌≡◌, ◌↔◌, length, IsTrue, IfErr,
 ghost use Rattle.caller_forests.specs.Merges.{NoneDescends, HaveMerges, AreMergesBy, IsMergesRefusal, AnswersMerges};
 
 use crate::given::{GivenLink, have_ends, have_no_loop, links_of};
-use crate::refusals::Refusal;
+use crate::refusals::CallRefusal;
 use limits::{MAX_ARCS, MAX_VERTICES};
 use link_merges::{Merge, merges_of};
 use std::alloc::Allocator;
@@ -21,45 +21,45 @@ fn find_merges<A: Allocator + Copy>(
     n: u32,
     links: &[GivenLink],
     merges: &mut [Merge],
-) -> Result<(), Refusal>
+) -> Result<(), CallRefusal>
     ensures right { OnOk result (HaveMerges n links.now (length merges.old)) }
     ensures found { OnOk result (AreMergesBy n links.now merges.new) }
     ensures refused { IfErr result (λ why. IsMergesRefusal n links.now (length merges.old) why) }
     ensures untouched { OnErr result (merges.new ≡ merges.old) }
 {
     if merges.len() != links.len() {
-        return Err(Refusal::LengthsDiffer);
+        return Err(CallRefusal::LengthsDiffer);
     }
     if n > MAX_VERTICES {
-        return Err(Refusal::TooManyVertices);
+        return Err(CallRefusal::TooManyVertices);
     }
     if links.len() > MAX_ARCS as usize {
-        return Err(Refusal::TooManyLinks);
+        return Err(CallRefusal::TooManyLinks);
     }
     if !have_ends(n, links) {
-        return Err(Refusal::BadEnd);
+        return Err(CallRefusal::BadEnd);
     }
     if !have_no_loop(links) {
-        return Err(Refusal::Cycle);
+        return Err(CallRefusal::Cycle);
     }
     let Ok(list) = links_of(alloc, n, links) else {
-        return Err(Refusal::NoMemory);
+        return Err(CallRefusal::NoMemory);
     };
     let Ok(found) = merges_of(alloc, n, list.as_slice()) else {
-        return Err(Refusal::NoMemory);
+        return Err(CallRefusal::NoMemory);
     };
     let Some(rows) = found else {
-        return Err(Refusal::Cycle);
+        return Err(CallRefusal::Cycle);
     };
     if !none_descends(links) {
-        return Err(Refusal::Descending);
+        return Err(CallRefusal::Descending);
     }
     merges.copy_from_slice(rows.as_slice());
     Ok(())
 }
 
 /// Writes the merges of the clusters of `n` points by these links over `merges`, a merge for each link, and answers how many
-/// these are; or answers the code of a [`Refusal`], which is negative. The points are the clusters 0 to n - 1, of which
+/// these are; or answers the code of a [`CallRefusal`], which is negative. The points are the clusters 0 to n - 1, of which
 /// cluster v - 1 is the vertex v; the link at place i joins two clusters into the cluster n + i. So with weights for heights
 /// n - 1 merges are a linkage matrix, and those of a forest are single linkage.
 ///

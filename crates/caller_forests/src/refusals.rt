@@ -1,13 +1,13 @@
 //! Why a call gives no forest, each reason with a code and a text.
 ghost use Rattle.std.specs.Prelude.{◌≡◌, ◌≢◌, MatchOption};
-ghost use Rattle.caller_forests.specs.declared.refusals.Refusal.{Refusal};
-ghost use Rattle.caller_forests.specs.Refusals.{code_of, text_of};
+ghost use Rattle.caller_forests.specs.declared.refusals.CallRefusal.{CallRefusal};
+ghost use Rattle.caller_forests.specs.Refusals.{code_of, refusal_text};
 
 use gr_text::GrKind;
 
 /// Why a call gives no forest.
 #[derive(Clone, Copy)]
-pub enum Refusal {
+pub enum CallRefusal {
     /// Memory was refused.
     NoMemory,
     /// An end of a link isn't a vertex: 1 up to their number.
@@ -30,33 +30,33 @@ pub enum Refusal {
     Descending,
 }
 
-impl Refusal {
+impl CallRefusal {
     // The table of them: its code and its text, which for a faulty line is the name that the program gives it.
     fn row(self) -> (i64, &'static [u8])
         ensures code { result.0 ≡ code_of self }
-        ensures text { result.1.now ≡ text_of self }
+        ensures text { result.1.now ≡ refusal_text self }
     {
         match self {
-            Refusal::NoMemory => (-1, b"no memory"),
-            Refusal::BadEnd => (-2, b"an end is no vertex"),
-            Refusal::TooManyVertices => (-3, b"too many vertices"),
-            Refusal::TooManyLinks => (-4, b"too many links"),
-            Refusal::TooLong => (-5, b"file is too long"),
-            Refusal::Line(GrKind::UnknownLine) => (-6, b"UnknownLine"),
-            Refusal::Line(GrKind::NoProblemYet) => (-7, b"NoProblemYet"),
-            Refusal::Line(GrKind::SecondProblem) => (-8, b"SecondProblem"),
-            Refusal::Line(GrKind::BadProblem) => (-9, b"BadProblem"),
-            Refusal::Line(GrKind::TooLarge) => (-10, b"TooLarge"),
-            Refusal::Line(GrKind::BadArc) => (-11, b"BadArc"),
-            Refusal::Line(GrKind::EndOutOfRange) => (-12, b"EndOutOfRange"),
-            Refusal::Line(GrKind::WeightOutOfRange) => (-13, b"WeightOutOfRange"),
-            Refusal::Line(GrKind::TooManyArcs) => (-14, b"TooManyArcs"),
-            Refusal::Line(GrKind::MissingProblem) => (-15, b"MissingProblem"),
-            Refusal::Line(GrKind::MissingArcs) => (-16, b"MissingArcs"),
-            Refusal::LengthsDiffer => (-17, b"lengths differ"),
-            Refusal::TooFewPlaces => (-18, b"too few places"),
-            Refusal::Cycle => (-19, b"a cycle"),
-            Refusal::Descending => (-20, b"links descend"),
+            CallRefusal::NoMemory => (-1, b"no memory"),
+            CallRefusal::BadEnd => (-2, b"an end is no vertex"),
+            CallRefusal::TooManyVertices => (-3, b"too many vertices"),
+            CallRefusal::TooManyLinks => (-4, b"too many links"),
+            CallRefusal::TooLong => (-5, b"file is too long"),
+            CallRefusal::Line(GrKind::UnknownLine) => (-6, b"UnknownLine"),
+            CallRefusal::Line(GrKind::NoProblemYet) => (-7, b"NoProblemYet"),
+            CallRefusal::Line(GrKind::SecondProblem) => (-8, b"SecondProblem"),
+            CallRefusal::Line(GrKind::BadProblem) => (-9, b"BadProblem"),
+            CallRefusal::Line(GrKind::TooLarge) => (-10, b"TooLarge"),
+            CallRefusal::Line(GrKind::BadArc) => (-11, b"BadArc"),
+            CallRefusal::Line(GrKind::EndOutOfRange) => (-12, b"EndOutOfRange"),
+            CallRefusal::Line(GrKind::WeightOutOfRange) => (-13, b"WeightOutOfRange"),
+            CallRefusal::Line(GrKind::TooManyArcs) => (-14, b"TooManyArcs"),
+            CallRefusal::Line(GrKind::MissingProblem) => (-15, b"MissingProblem"),
+            CallRefusal::Line(GrKind::MissingArcs) => (-16, b"MissingArcs"),
+            CallRefusal::LengthsDiffer => (-17, b"lengths differ"),
+            CallRefusal::TooFewPlaces => (-18, b"too few places"),
+            CallRefusal::Cycle => (-19, b"a cycle"),
+            CallRefusal::Descending => (-20, b"links descend"),
         }
     }
 
@@ -69,36 +69,36 @@ impl Refusal {
 
     // Its text.
     pub(crate) fn text(self) -> &'static [u8]
-        ensures { result.now ≡ text_of self }
+        ensures { result.now ≡ refusal_text self }
     {
         self.row().1
     }
 
     // The refusal that has this code.
-    pub(crate) fn of_code(code: i64) -> Option<Refusal>
-        ensures { MatchOption result ((why : Refusal) → code ≢ code_of why) (λ why. code ≡ code_of why) }
+    pub(crate) fn of_code(code: i64) -> Option<CallRefusal>
+        ensures { MatchOption result ((why : CallRefusal) → code ≢ code_of why) (λ why. code ≡ code_of why) }
     {
         Some(match code {
-            -1 => Refusal::NoMemory,
-            -2 => Refusal::BadEnd,
-            -3 => Refusal::TooManyVertices,
-            -4 => Refusal::TooManyLinks,
-            -5 => Refusal::TooLong,
-            -6 => Refusal::Line(GrKind::UnknownLine),
-            -7 => Refusal::Line(GrKind::NoProblemYet),
-            -8 => Refusal::Line(GrKind::SecondProblem),
-            -9 => Refusal::Line(GrKind::BadProblem),
-            -10 => Refusal::Line(GrKind::TooLarge),
-            -11 => Refusal::Line(GrKind::BadArc),
-            -12 => Refusal::Line(GrKind::EndOutOfRange),
-            -13 => Refusal::Line(GrKind::WeightOutOfRange),
-            -14 => Refusal::Line(GrKind::TooManyArcs),
-            -15 => Refusal::Line(GrKind::MissingProblem),
-            -16 => Refusal::Line(GrKind::MissingArcs),
-            -17 => Refusal::LengthsDiffer,
-            -18 => Refusal::TooFewPlaces,
-            -19 => Refusal::Cycle,
-            -20 => Refusal::Descending,
+            -1 => CallRefusal::NoMemory,
+            -2 => CallRefusal::BadEnd,
+            -3 => CallRefusal::TooManyVertices,
+            -4 => CallRefusal::TooManyLinks,
+            -5 => CallRefusal::TooLong,
+            -6 => CallRefusal::Line(GrKind::UnknownLine),
+            -7 => CallRefusal::Line(GrKind::NoProblemYet),
+            -8 => CallRefusal::Line(GrKind::SecondProblem),
+            -9 => CallRefusal::Line(GrKind::BadProblem),
+            -10 => CallRefusal::Line(GrKind::TooLarge),
+            -11 => CallRefusal::Line(GrKind::BadArc),
+            -12 => CallRefusal::Line(GrKind::EndOutOfRange),
+            -13 => CallRefusal::Line(GrKind::WeightOutOfRange),
+            -14 => CallRefusal::Line(GrKind::TooManyArcs),
+            -15 => CallRefusal::Line(GrKind::MissingProblem),
+            -16 => CallRefusal::Line(GrKind::MissingArcs),
+            -17 => CallRefusal::LengthsDiffer,
+            -18 => CallRefusal::TooFewPlaces,
+            -19 => CallRefusal::Cycle,
+            -20 => CallRefusal::Descending,
             _ => return None,
         })
     }

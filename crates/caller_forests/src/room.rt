@@ -3,7 +3,7 @@ ghost use Rattle.std.specs.Prelude.{◌≡◌};
 ghost use Rattle.caller_forests.specs.Texts.{filled, filled_with_text};
 
 // Puts as many of the bytes into the room as it has room for.
-pub(crate) fn fill(room: &mut [u8], bytes: &[u8])
+pub(crate) fn fill_room(room: &mut [u8], bytes: &[u8])
     ensures { room.new ≡ filled bytes.now room.old }
 {
     let count = room.len().min(bytes.len());
@@ -18,6 +18,6 @@ pub(crate) fn fill_with_text(room: &mut [u8], text: &[u8])
         return;
     };
     let count = text.len().min(most);
-    fill(room, &text[..count]);
+    fill_room(room, &text[..count]);
     room[count] = 0;
 }

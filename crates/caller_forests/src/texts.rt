@@ -2,7 +2,7 @@
 ghost use Rattle.caller_forests.specs.Texts.{AnswersText};
 
 use crate::faults::Fault;
-use crate::room::fill;
+use crate::room::fill_room;
 use plain_run::plain_text;
 use std::alloc::Allocator;
 
@@ -20,7 +20,7 @@ pub fn put_forest_text<A: Allocator + Copy>(
 {
     match plain_text(alloc, text) {
         Ok(forest) => {
-            fill(into, forest.as_slice());
+            fill_room(into, forest.as_slice());
             *fault = Fault::NONE;
             forest.len() as i64
         }

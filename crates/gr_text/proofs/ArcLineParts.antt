@@ -14,7 +14,7 @@ use Rattle.gr_text.specs.Graph.{IsArcOf}
 use Rattle.gr_text.specs.ArcLines.{AreArcLines, AppendsOrNot, FillsRoom, BeginsWithArc}
 use Rattle.gr_text.specs.LinesSoFar.{AreKept, IsWithinSize}
 use Rattle.gr_text.specs.declared.arc_lines.ArcLines.{ArcLines}
-use Rattle.gr_text.specs.declared.sizes.Size.{Size}
+use Rattle.gr_text.specs.declared.sizes.ProblemSize.{ProblemSize}
 use Rattle.gr_text.proofs.Alls.{All-both}
 use Rattle.gr_text.proofs.Cuts.{EndsLines-none, EndsLines-more, EndsLines-line}
 use Rattle.gr_text.proofs.Steps.{AreLinksOf-append}
@@ -76,7 +76,7 @@ links_within n arcs links each are k d lt =
     (subst (All High) (sym are) keys k (key_of d) (omega (arith, lt, length-map links key_of)))
 
 -- behind lines of which this is kept, arc lines that the problem has room for
-pub kept_more : (size : Size) (count k : ℕ) (old links : List Link) (before : List (List ℕ)) (bytes : List ℕ) → AreKept (Some size) count old before
+pub kept_more : (size : ProblemSize) (count k : ℕ) (old links : List Link) (before : List (List ℕ)) (bytes : List ℕ) → AreKept (Some size) count old before
     → (are : AreArcLines size.vertices k bytes links) → k ≤ size.arcs - count → AreKept (Some size) (count + k) (old ++ links) (before ++ are.lines)
 kept_more size count k old links before bytes (arcs, lawful, counted, of_arcs) are room = (
   arcs ++ are.arcs,
@@ -92,7 +92,7 @@ kept_more size count k old links before bytes (arcs, lawful, counted, of_arcs) a
   AreLinksOf-append arcs are.arcs old links of_arcs are.of_arcs,
 )
 
-pub within_more : (size : Size) (count k : ℕ) (old links : List Link) (bytes : List ℕ) → IsWithinSize (Some size) count old → AreArcLines size.vertices k bytes links
+pub within_more : (size : ProblemSize) (count k : ℕ) (old links : List Link) (bytes : List ℕ) → IsWithinSize (Some size) count old → AreArcLines size.vertices k bytes links
     → k ≤ size.arcs - count → IsWithinSize (Some size) (count + k) (old ++ links)
 within_more size count k old links bytes within are room = (
   omega (arith, within.0, room),

@@ -11,7 +11,7 @@ use Rattle.links.specs.Arc.{Arc}
 use Rattle.links.specs.Link.{AreLinksOf, key_of, arc_key, is_no_loop}
 use Rattle.links.specs.declared.links.Link.{Link}
 use Rattle.gr_text.specs.Lines.{IsLine, ended}
-use Rattle.gr_text.specs.Fields.{IsFieldByte, BeginsBlank, AreFields, IsDigit, number_of, Writes, WritesSigned}
+use Rattle.gr_text.specs.Fields.{IsFieldByte, BeginsBlank, AreFields, IsDigit, number_written, Writes, WritesSigned}
 use Rattle.gr_text.specs.Statement.{Problem, ArcLine, Says, Say}
 use Rattle.gr_text.specs.Graph.{IsArcOf}
 use Rattle.gr_text.specs.ForestText.{header_of, link_line, forest_text}
@@ -40,7 +40,7 @@ writes_decimal = decimal_by_steps (λ n ds. Writes ds n) one more
       not_empty ds (48 + n % 10),
       All-push IsDigit ds (48 + n % 10) digits (omega arith, omega arith),
       let whole = fold-append (λ m b. 10 * m + (b - 48)) 0 ds ((48 + n % 10) ∷ []) in
-          whole ∙ (let here : 10 * number_of ds + (48 + n % 10 - 48) ≡ n = omega (arith, is) in here),
+          whole ∙ (let here : 10 * number_written ds + (48 + n % 10 - 48) ≡ n = omega (arith, is) in here),
     )
 
 -- and so is a signed one

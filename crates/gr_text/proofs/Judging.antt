@@ -6,26 +6,26 @@ use Rattle.gr_text.specs.Statement.{Problem, ArcLine, AreSilent, FieldsSay}
 use Rattle.gr_text.specs.Sort.{LineSort, NoProblem, NoArc, AreOfSort, IsOfSort}
 use Rattle.gr_text.specs.Graph.{HasEnds, AreLawfulLines}
 use Rattle.gr_text.specs.Fault.{SaidSoFar, Unsaid, Stated, HaveSaid, IsWrong, IsFaultAfter}
-use Rattle.gr_text.specs.LinesSoFar.{Counts}
+use Rattle.gr_text.specs.LinesSoFar.{AreTallied}
 use Rattle.gr_text.specs.Word.{IsCapped, LineMeans}
 use Rattle.gr_text.specs.declared.faults.GrKind.{GrKind}
-use Rattle.gr_text.specs.declared.sizes.Size.{Size}
+use Rattle.gr_text.specs.declared.sizes.ProblemSize.{ProblemSize}
 use Rattle.gr_text.specs.declared.words.LineFields.{LineFields}
 use Rattle.gr_text.specs.declared.words.LineFields.TheVariants as line
 
 -- what lines say, by what is kept of them
-pub said_of : (size : Option Size) (count : ℕ) (lines : List (List ℕ)) → Counts size count lines → (so_far : SaidSoFar) × HaveSaid lines so_far
+pub said_of : (size : Option ProblemSize) (count : ℕ) (lines : List (List ℕ)) → AreTallied size count lines → (so_far : SaidSoFar) × HaveSaid lines so_far
 said_of None count lines (say, zero_count) = (Unsaid, say)
 said_of (Some size) count lines (arcs, lawful, counted) = (Stated size.vertices size.arcs arcs, lawful)
 
 -- a line of this sort has this fault behind lines without a problem, and behind lines with one
-pub fault_alone : (sort : LineSort) (kind : GrKind) (size : Option Size) (count : ℕ) (lines : List (List ℕ)) (bytes : List ℕ) → size ≡ None
-    → Counts size count lines → IsOfSort bytes sort → IsWrong sort Unsaid kind → IsFaultAfter lines bytes kind
+pub fault_alone : (sort : LineSort) (kind : GrKind) (size : Option ProblemSize) (count : ℕ) (lines : List (List ℕ)) (bytes : List ℕ) → size ≡ None
+    → AreTallied size count lines → IsOfSort bytes sort → IsWrong sort Unsaid kind → IsFaultAfter lines bytes kind
 fault_alone sort kind size count lines bytes none counts of_sort wrong =
     record { so_far = Unsaid; sort = sort; said = (rw none at counts).0; of_sort = of_sort; wrong = wrong }
 
-pub fault_behind : (sort : LineSort) (kind : GrKind) (size : Option Size) (old : Size) (count : ℕ) (lines : List (List ℕ)) (bytes : List ℕ) → size ≡ Some old
-    → Counts size count lines → IsOfSort bytes sort
+pub fault_behind : (sort : LineSort) (kind : GrKind) (size : Option ProblemSize) (old : ProblemSize) (count : ℕ) (lines : List (List ℕ)) (bytes : List ℕ) → size ≡ Some old
+    → AreTallied size count lines → IsOfSort bytes sort
     → ((arcs : List Arc) → AreLawfulLines lines old.vertices old.arcs arcs → length arcs ≡ count → IsWrong sort (Stated old.vertices old.arcs arcs) kind)
     → IsFaultAfter lines bytes kind
 fault_behind sort kind size old count lines bytes some counts of_sort wrong =

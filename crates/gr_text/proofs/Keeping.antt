@@ -11,7 +11,7 @@ use Rattle.gr_text.specs.Reader.{ReaderValue}
 use Rattle.gr_text.specs.Sourced.{IsReadOf}
 use Rattle.gr_text.specs.Kept.{AreKeptOf, BeginsSo, IsKeptReadOf, KeepsOn, HasKept}
 use Rattle.gr_text.specs.declared.faults.ReadFault.{ReadFault}
-use Rattle.gr_text.specs.declared.sizes.Size.{Size}
+use Rattle.gr_text.specs.declared.sizes.ProblemSize.{ProblemSize}
 use Rattle.gr_text.proofs.ArcLineParts.{links_few}
 use Rattle.gr_text.proofs.Feeding.{read_on}
 use Rattle.gr_text.proofs.Pieces.{has_read_on}
@@ -62,7 +62,7 @@ kept_again all old new cover counted whole are = record {
   whole = λ none. whole none ∙ are.whole none;
 }
 
-few_of : {drops : Type 0} {dropped : ℕ} (size : Option Size) (count : ℕ) (all links : List Link) (lines : List (List ℕ)) → AreKeptOf drops dropped all links → AreKept size count all lines
+few_of : {drops : Type 0} {dropped : ℕ} (size : Option ProblemSize) (count : ℕ) (all links : List Link) (lines : List (List ℕ)) → AreKeptOf drops dropped all links → AreKept size count all lines
     → dropped + length links ≤ count
 few_of None count all links lines are (say, zero_count, none) = omega (arith, are.counted, ap length none, zero_count)
 few_of (Some size) count all links lines are (arcs, lawful, counted, of_arcs) = omega (arith, are.counted, counted, links_few arcs all of_arcs)
@@ -89,7 +89,7 @@ pub kept_on : {drops : Type 0} {knew knows : List Link → Type 0} {dropped now 
 kept_on old so_far text none keeps kept =
     let (short, counted, stands) = read_on old text none kept.read in
     let (all, by, gives) = stands.give in
-    let same = subst (λ (s : Option Size). AreKept s old.so_far.count all stands.lines) (sym keeps.size) gives in
+    let same = subst (λ (s : Option ProblemSize). AreKept s old.so_far.count all stands.lines) (sym keeps.size) gives in
     record {
       swap = record { gone = all; put = so_far.links };
       are = keeps.kept all (kept_by all old.so_far.links kept.are by);

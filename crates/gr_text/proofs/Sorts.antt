@@ -3,7 +3,7 @@ use Rattle.std.proofs.Common.{◌≡◌, ◌≢◌, ℕ, ℤ, pos, neg_ℤ, ◌�
 use Rattle.std.specs.List.{AllByRecursion}
 use Rattle.std.proofs.lemmas.Bool.{cases_eq}
 use Rattle.links.specs.Arc.{Arc}
-use Rattle.gr_text.specs.Fields.{IsDigit, number_of, Writes, WritesSigned}
+use Rattle.gr_text.specs.Fields.{IsDigit, number_written, Writes, WritesSigned}
 use Rattle.gr_text.specs.Statement.{Problem, ArcLine, AreSilent, FieldsSay}
 use Rattle.gr_text.specs.Sort.{LineSort, Nothing, Makes, NoProblem, NoArc, Unknown, AreOfSort, IsOfSort}
 use Rattle.gr_text.specs.PartialLine.{with_field, AreParts}
@@ -40,7 +40,7 @@ digits_or_not (b ∷ field) = both_or_not (within_or_not 48 57 b) (digits_or_not
 number_or_not : (field : List ℕ) → ((n : ℕ) × Writes field n) ⊎ ¬ ((n : ℕ) × Writes field n)
 number_or_not [] = inr (λ (n, writes). writes.0 refl)
 number_or_not (b ∷ field) = elim (digits_or_not (b ∷ field)) [
-  | inl all ↦ inl (number_of (b ∷ field), ((λ (e : b ∷ field ≡ []). cc), all, refl))
+  | inl all ↦ inl (number_written (b ∷ field), ((λ (e : b ∷ field ≡ []). cc), all, refl))
   | inr other ↦ inr (λ (n, writes). other writes.1)
 ]
 

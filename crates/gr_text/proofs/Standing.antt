@@ -5,20 +5,20 @@ use Rattle.links.specs.declared.links.Link.{Link}
 use Rattle.gr_text.specs.Lines.{IsLine, ended, EndsLines}
 use Rattle.gr_text.specs.Graph.{AreLawfulSoFar}
 use Rattle.gr_text.specs.Fault.{IsFirstFaulty}
-use Rattle.gr_text.specs.LinesSoFar.{LinesSoFarValue, Swap, AreKept, Gives, IsLineFault}
+use Rattle.gr_text.specs.LinesSoFar.{LinesSoFarValue, Swap, AreKept, KeepsLinesBut, IsLineFault}
 use Rattle.gr_text.specs.PartialLine.{IsKeptAs}
 use Rattle.gr_text.specs.Reader.{ReaderValue, Stands, StopsAt}
 use Rattle.gr_text.specs.declared.faults.ReadFault.{ReadFault}
 use Rattle.gr_text.specs.declared.faults.ReadFault.TheVariants as fault
 use Rattle.gr_text.specs.declared.partial_line.PartialLine.{PartialLine}
-use Rattle.gr_text.specs.declared.sizes.Size.{Size}
+use Rattle.gr_text.specs.declared.sizes.ProblemSize.{ProblemSize}
 use Rattle.gr_text.proofs.Cuts.{EndsLines-bytes, EndsLines-line, EndsLines-more, cut_of}
 use Rattle.gr_text.proofs.Faulty.{first_faulty_at}
 
-pub lawful_of : {swap : Swap} (kept : LinesSoFarValue) (lines : List (List ℕ)) → Gives swap kept lines → AreLawfulSoFar lines
+pub lawful_of : {swap : Swap} (kept : LinesSoFarValue) (lines : List (List ℕ)) → KeepsLinesBut swap kept lines → AreLawfulSoFar lines
 lawful_of kept lines (all, by, gives) = lawful_at kept.size kept.count all lines gives
   where
-    lawful_at : (size : Option Size) (count : ℕ) (links : List Link) (lines : List (List ℕ)) → AreKept size count links lines → AreLawfulSoFar lines
+    lawful_at : (size : Option ProblemSize) (count : ℕ) (links : List Link) (lines : List (List ℕ)) → AreKept size count links lines → AreLawfulSoFar lines
     lawful_at None count links lines (say, zero_count, none) = inl say
     lawful_at (Some size) count links lines (arcs, lawful, counted, are) = inr (size.vertices, size.arcs, arcs, lawful)
 
@@ -60,7 +60,7 @@ Stands-part r partial text more stands is_line kept = record {
 
 -- the rest of a line with its line feed, where the line is taken
 pub Stands-line : {swap : Swap} (r : ReaderValue) (fresh : PartialLine) (so_far : LinesSoFarValue) (text line : List ℕ) → (stands : Stands swap r text) → IsLine line → IsKeptAs fresh []
-    → Gives swap so_far (stands.lines ++ (stands.part ++ line) ∷ []) → Stands swap (record r { number = r.number + 1; partial = fresh; so_far = so_far }) (text ++ ended line)
+    → KeepsLinesBut swap so_far (stands.lines ++ (stands.part ++ line) ∷ []) → Stands swap (record r { number = r.number + 1; partial = fresh; so_far = so_far }) (text ++ ended line)
 Stands-line r fresh so_far text line stands is_line none gives = record {
   lines = stands.lines ++ (stands.part ++ line) ∷ [];
   part = [];

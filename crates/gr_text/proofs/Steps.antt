@@ -10,10 +10,10 @@ use Rattle.links.specs.Link.{Key, key_of, arc_key, is_no_loop, AreLinksOf}
 use Rattle.links.specs.declared.links.Link.{Link}
 use Rattle.gr_text.specs.Statement.{Statement, Problem, ArcLine, IsSilent, Says, Say}
 use Rattle.gr_text.specs.Graph.{IsArcOf, AreLawfulLines}
-use Rattle.gr_text.specs.LinesSoFar.{LinesSoFarValue, Counts, Swap, AreKept, Gives, Judges, AddsLink, IsLineFault}
+use Rattle.gr_text.specs.LinesSoFar.{LinesSoFarValue, AreTallied, Swap, AreKept, KeepsLinesBut, Judges, AddsLink, IsLineFault}
 use Rattle.gr_text.proofs.Alls.{All-push}
 use Rattle.gr_text.proofs.Swaps.{differ_more}
-use Rattle.gr_text.specs.declared.sizes.Size.{Size}
+use Rattle.gr_text.specs.declared.sizes.ProblemSize.{ProblemSize}
 use Rattle.gr_text.specs.declared.faults.ReadFault.{ReadFault}
 use Rattle.gr_text.specs.declared.faults.ReadFault.TheVariants as fault
 use Rattle.gr_text.specs.declared.verdicts.Verdict.TheVariants as verdict
@@ -82,27 +82,27 @@ AreLinksOf-append arcs more links others are also =
     ∙ sym (map-append arc_key (filter is_no_loop arcs) (filter is_no_loop more))
     ∙ ap (map arc_key) (sym (filter-append is_no_loop arcs more))
 
-pub counts_of : (size : Option Size) (count : ℕ) (links : List Link) (lines : List (List ℕ)) → AreKept size count links lines → Counts size count lines
+pub counts_of : (size : Option ProblemSize) (count : ℕ) (links : List Link) (lines : List (List ℕ)) → AreKept size count links lines → AreTallied size count lines
 counts_of None count links lines (say, zero_count, none) = (say, zero_count)
 counts_of (Some size) count links lines (arcs, lawful, counted, are) = (arcs, lawful, counted)
 
-pub Gives-silent : (size : Option Size) (count : ℕ) (links : List Link) (lines : List (List ℕ)) (line : List ℕ) → AreKept size count links lines → IsSilent line → AreKept size count links (lines ++ line ∷ [])
-Gives-silent None count links lines line (say, zero_count, none) silent = (Say-silent lines line [] say silent, zero_count, none)
-Gives-silent (Some size) count links lines line (arcs, lawful, counted, are) silent =
+pub KeepsLinesBut-silent : (size : Option ProblemSize) (count : ℕ) (links : List Link) (lines : List (List ℕ)) (line : List ℕ) → AreKept size count links lines → IsSilent line → AreKept size count links (lines ++ line ∷ [])
+KeepsLinesBut-silent None count links lines line (say, zero_count, none) silent = (Say-silent lines line [] say silent, zero_count, none)
+KeepsLinesBut-silent (Some size) count links lines line (arcs, lawful, counted, are) silent =
     (arcs, AreLawfulLines-silent lines line size.vertices size.arcs arcs lawful silent, counted, are)
 
-pub Gives-problem : (size : Option Size) (new : Size) (count : ℕ) (links : List Link) (lines : List (List ℕ)) (line : List ℕ) → AreKept size count links lines → Judges (verdict.Begins new) size count lines line
+pub KeepsLinesBut-problem : (size : Option ProblemSize) (new : ProblemSize) (count : ℕ) (links : List Link) (lines : List (List ℕ)) (line : List ℕ) → AreKept size count links lines → Judges (verdict.Begins new) size count lines line
     → AreKept (Some new) count links (lines ++ line ∷ [])
-Gives-problem None new count links lines line (say, zero_count, none) (is, says, vertices, arcs) =
+KeepsLinesBut-problem None new count links lines line (say, zero_count, none) (is, says, vertices, arcs) =
     ([], AreLawfulLines-problem lines line new.vertices new.arcs say says vertices arcs, sym zero_count, ap (map key_of) none)
-Gives-problem (Some size) new count links lines line gives (is, says, vertices, arcs) = absurd (cc)
+KeepsLinesBut-problem (Some size) new count links lines line gives (is, says, vertices, arcs) = absurd (cc)
 
-Gives-arc : (size size' : Option Size) (count count' : ℕ) (old new : List Link) (lines : List (List ℕ)) (line : List ℕ) (link : Option Link)
+KeepsLinesBut-arc : (size size' : Option ProblemSize) (count count' : ℕ) (old new : List Link) (lines : List (List ℕ)) (line : List ℕ) (link : Option Link)
     → AreKept size count old lines → Judges (verdict.Adds link) size count lines line → size' ≡ size → count' ≡ count + 1
     → new ≡ old ++ option_to_list link → AreKept size' count' new (lines ++ line ∷ [])
-Gives-arc None size' count count' old new lines line link gives judged same more adds = absurd judged
-Gives-arc (Some size) size' count count' old new lines line link (arcs, lawful, counted, are) (arc, says, is_arc, room, of_arc) same more adds =
-    subst (λ (s : Option Size). AreKept s count' new (lines ++ line ∷ [])) (sym same) (
+KeepsLinesBut-arc None size' count count' old new lines line link gives judged same more adds = absurd judged
+KeepsLinesBut-arc (Some size) size' count count' old new lines line link (arcs, lawful, counted, are) (arc, says, is_arc, room, of_arc) same more adds =
+    subst (λ (s : Option ProblemSize). AreKept s count' new (lines ++ line ∷ [])) (sym same) (
       arcs ++ arc ∷ [],
       AreLawfulLines-arc lines line size.vertices size.arcs arcs arc lawful says is_arc (omega arith),
       omega (arith, length_push arcs arc),
@@ -111,9 +111,9 @@ Gives-arc (Some size) size' count count' old new lines line link (arcs, lawful, 
 
 pub arc_taken : {X : Type 0} {swap : Swap} (r : Result X ReadFault) (old new : LinesSoFarValue) (lines : List (List ℕ)) (line : List ℕ) (link : Option Link) (number : ℕ)
     → MatchResult r (λ _. AddsLink old new link) (λ e. e ≡ fault.Memory)
-    → Gives swap old lines → Judges (verdict.Adds link) old.size old.count lines line
-    → MatchResult r (λ _. Gives swap new (lines ++ line ∷ [])) (λ e. IsLineFault e number lines line)
+    → KeepsLinesBut swap old lines → Judges (verdict.Adds link) old.size old.count lines line
+    → MatchResult r (λ _. KeepsLinesBut swap new (lines ++ line ∷ [])) (λ e. IsLineFault e number lines line)
 arc_taken (Ok x) old new lines line link number (same, more, adds) (all, by, gives) judged =
     let now = all ++ option_to_list link in
-    (now, differ_more (option_to_list link) new.links by adds, Gives-arc old.size new.size old.count new.count all now lines line link gives judged same more refl)
+    (now, differ_more (option_to_list link) new.links by adds, KeepsLinesBut-arc old.size new.size old.count new.count all now lines line link gives judged same more refl)
 arc_taken (Err e) old new lines line link number is gives judged = rw is tt

@@ -5,7 +5,7 @@ use Rattle.std.proofs.lemmas.List.{length-take-le, take_more, take-append-drop, 
 use Rattle.std.proofs.Math.Nat.{pow-le-pow_right}
 use Rattle.std.proofs.Math.Seq.{take-append-add}
 use Rattle.gr_text.specs.Lines.{line_feed, IsLine, ended}
-use Rattle.gr_text.specs.Fields.{IsFieldByte, BeginsBlank, AreFields, IsDigit, number_of}
+use Rattle.gr_text.specs.Fields.{IsFieldByte, BeginsBlank, AreFields, IsDigit, number_written}
 use Rattle.gr_text.specs.PartialLine.{IsWhole}
 use Rattle.gr_text.specs.UsualArc.{IsShort, IsShortSigned, IsLineEnd, IsUsualArc, BeginsWithShort, BeginsWithShortSigned, HasShortBefore, HasNoShort, HasNoLast, HasNoShortSigned}
 use Rattle.gr_text.specs.declared.words.LineFields.TheVariants.{ArcWhole}
@@ -172,7 +172,7 @@ at_place xs i within =
 
 -- The bytes before `stop` are digits, one to nineteen, and what is kept of them is their number.
 pub short_before : (kept stop place : ℕ) (xs : List ℕ) → place < length xs → length xs ≤ 20 → 1 ≤ place → get_or xs place 0 ≡ stop
-    → AllByRecursion IsDigit (take place xs) → kept ≡ number_of (take place xs) % 2 ^ 64 → number_of (take place xs) < 10 ^ place
+    → AllByRecursion IsDigit (take place xs) → kept ≡ number_written (take place xs) % 2 ^ 64 → number_written (take place xs) < 10 ^ place
     → HasShortBefore kept place stop xs
 short_before kept stop place xs within few some here digits is below =
     let count : length (take place xs) ≡ place = length-take-le place xs (omega arith) in
@@ -182,7 +182,7 @@ short_before kept stop place xs within few some here digits is below =
       (
         take place xs,
         record { some = not_empty; digits = digits; few = omega arith },
-        (number_of (take place xs), (not_empty, digits, refl), omega arith),
+        (number_written (take place xs), (not_empty, digits, refl), omega arith),
         at_place xs place within ∙ ap (λ (b : ℕ). take place xs ++ b ∷ drop (place + 1) xs) here,
       ),
     )

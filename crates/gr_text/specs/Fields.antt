@@ -27,12 +27,12 @@ abbrev pub IsDigit : ℕ → Type 0
 IsDigit b = (48 ≤ b) × (b ≤ 57)
 
 -- the number that decimal digits write
-abbrev pub number_of : List ℕ → ℕ
-number_of digits = fold (λ n b. 10 * n + (b - 48)) 0 digits
+abbrev pub number_written : List ℕ → ℕ
+number_written digits = fold (λ n b. 10 * n + (b - 48)) 0 digits
 
 -- the field is digits, at least one, that write n; zeros may stand before them
 abbrev pub Writes : List ℕ → ℕ → Type 0
-Writes field n = (field ≢ []) × AllByRecursion IsDigit field × (number_of field ≡ n)
+Writes field n = (field ≢ []) × AllByRecursion IsDigit field × (number_written field ≡ n)
 
 -- the same with at most one minus before the digits
 abbrev pub WritesSigned : List ℕ → ℤ → Type 0

@@ -10,29 +10,29 @@ use Rattle.gr_text.specs.Graph.{GraphValue, with_links, IsArcOf, AreLawfulLines}
 use Rattle.gr_text.specs.Fault.{IsFaultAfter, Lacks}
 use Rattle.gr_text.specs.declared.faults.ReadFault.{ReadFault}
 use Rattle.gr_text.specs.declared.faults.ReadFault.TheVariants as fault
-use Rattle.gr_text.specs.declared.sizes.Size.{Size}
+use Rattle.gr_text.specs.declared.sizes.ProblemSize.{ProblemSize}
 use Rattle.gr_text.specs.declared.verdicts.Verdict.{Verdict}
 use Rattle.gr_text.specs.declared.verdicts.Verdict.TheVariants as verdict
 
 -- the lines state this problem, if one, and as many arcs
-abbrev pub Counts : Option Size → ℕ → List (List ℕ) → Type 0
-Counts None count lines = Say lines [] × (count ≡ 0)
-Counts (Some size) count lines = (arcs : List Arc) × AreLawfulLines lines size.vertices size.arcs arcs × (length arcs ≡ count)
+abbrev pub AreTallied : Option ProblemSize → ℕ → List (List ℕ) → Type 0
+AreTallied None count lines = Say lines [] × (count ≡ 0)
+AreTallied (Some size) count lines = (arcs : List Arc) × AreLawfulLines lines size.vertices size.arcs arcs × (length arcs ≡ count)
 
 -- what a verdict promises of any lines: a problem comes first, and a link has ends in range and finds room
-abbrev pub FitsAfter : Verdict → Option Size → ℕ → Type 0
+abbrev pub FitsAfter : Verdict → Option ProblemSize → ℕ → Type 0
 FitsAfter verdict.Silent size count = Unit {0}
 FitsAfter (verdict.Begins new) size count = size ≡ None
-FitsAfter (verdict.Adds link) size count = (old : Size) × (size ≡ Some old) × IfSome link (λ l. l.high ≤ old.vertices) × (count < old.arcs)
+FitsAfter (verdict.Adds link) size count = (old : ProblemSize) × (size ≡ Some old) × IfSome link (λ l. l.high ≤ old.vertices) × (count < old.arcs)
 FitsAfter (verdict.Faulty kind) size count = Unit {0}
 
 -- what is kept of any lines: no more arcs than the problem states, and links of its vertices, no more than arcs
-abbrev pub IsWithinSize : Option Size → ℕ → List Link → Type 0
+abbrev pub IsWithinSize : Option ProblemSize → ℕ → List Link → Type 0
 IsWithinSize None count links = (count ≡ 0) × (links ≡ [])
 IsWithinSize (Some size) count links = (count ≤ size.arcs) × EndsUpTo size.vertices links × (length links ≤ count)
 
 -- what a further line does after these
-abbrev pub Judges : Verdict → Option Size → ℕ → List (List ℕ) → List ℕ → Type 0
+abbrev pub Judges : Verdict → Option ProblemSize → ℕ → List (List ℕ) → List ℕ → Type 0
 Judges verdict.Silent size count lines line = IsSilent line
 Judges (verdict.Begins new) size count lines line = (size ≡ None) × Says line (Problem new.vertices new.arcs)
     × (new.vertices ≤ MAX_VERTICES) × (new.arcs ≤ MAX_ARCS)
@@ -42,19 +42,19 @@ Judges (verdict.Adds link) (Some size) count lines line =
 Judges (verdict.Faulty kind) size count lines line = IsFaultAfter lines line kind
 
 -- the same of each such line, after any lines that state this problem, if one, and as many arcs
-abbrev pub JudgesEach : Verdict → Option Size → ℕ → (List ℕ → Type 0) → Type 0
+abbrev pub JudgesEach : Verdict → Option ProblemSize → ℕ → (List ℕ → Type 0) → Type 0
 JudgesEach verdict size count IsSuch =
-    (lines : List (List ℕ)) (line : List ℕ) → Counts size count lines → IsSuch line → Judges verdict size count lines line
+    (lines : List (List ℕ)) (line : List ℕ) → AreTallied size count lines → IsSuch line → Judges verdict size count lines line
 
 -- what is kept of whole lines: what their problem line states, once it has come; how many arc lines they have; and the
 -- links of these
 pub record LinesSoFarValue : Type 0 where
-  pub size : Option Size
+  pub size : Option ProblemSize
   pub count : ℕ
   pub links : List Link
 
 -- the lines state this problem, if one, and arcs that give these links
-abbrev pub AreKept : Option Size → ℕ → List Link → List (List ℕ) → Type 0
+abbrev pub AreKept : Option ProblemSize → ℕ → List Link → List (List ℕ) → Type 0
 AreKept None count links lines = Say lines [] × (count ≡ 0) × (links ≡ [])
 AreKept (Some size) count links lines =
     (arcs : List Arc) × AreLawfulLines lines size.vertices size.arcs arcs × (length arcs ≡ count) × AreLinksOf arcs links
@@ -74,8 +74,8 @@ pub record DifferBy (swap : Swap) (all links : List Link) : Type 0 where
   pub links_are : links ≡ swap.put ++ more
 
 -- this is what is kept of the lines, but for a swap of links
-abbrev pub Gives : Swap → LinesSoFarValue → List (List ℕ) → Type 0
-Gives swap kept lines = (all : List Link) × DifferBy swap all kept.links × AreKept kept.size kept.count all lines
+abbrev pub KeepsLinesBut : Swap → LinesSoFarValue → List (List ℕ) → Type 0
+KeepsLinesBut swap kept lines = (all : List Link) × DifferBy swap all kept.links × AreKept kept.size kept.count all lines
 
 -- why a line wasn't taken: its fault, or memory
 abbrev pub IsLineFault : ReadFault → ℕ → List (List ℕ) → List ℕ → Type 0
@@ -86,7 +86,7 @@ IsLineFault fault.Memory number lines line = Unit {0}
 
 -- a line of this number behind these lines was taken, so that this is kept of all, or has this fault
 abbrev pub IsTaken : {X : Type 0} → Result X ReadFault → Swap → LinesSoFarValue → ℕ → List (List ℕ) → List ℕ → Type 0
-IsTaken result swap kept number lines line = MatchResult result (λ _. Gives swap kept (lines ++ line ∷ [])) (λ e. IsLineFault e number lines line)
+IsTaken result swap kept number lines line = MatchResult result (λ _. KeepsLinesBut swap kept (lines ++ line ∷ [])) (λ e. IsLineFault e number lines line)
 
 -- one more arc is kept, of this link, or a loop
 abbrev pub AddsLink : LinesSoFarValue → LinesSoFarValue → Option Link → Type 0
@@ -98,7 +98,7 @@ pub record AddsLines (count : ℕ) (bytes : List ℕ) (old new : LinesSoFarValue
   pub cut : EndsLines bytes lines []
   pub each_line : length lines ≡ count
   pub few : count ≤ length bytes
-  pub gives : (swap : Swap) (before : List (List ℕ)) → Gives swap old before → Gives swap new (before ++ lines)
+  pub gives : (swap : Swap) (before : List (List ℕ)) → KeepsLinesBut swap old before → KeepsLinesBut swap new (before ++ lines)
 
 -- the graph of whole lines
 abbrev pub IsGraphOfLines : List (List ℕ) → GraphValue → Type 0

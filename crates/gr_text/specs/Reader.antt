@@ -4,7 +4,7 @@ use Rattle.links.specs.declared.links.Link.{Link}
 use Rattle.gr_text.specs.Lines.{EndsLines}
 use Rattle.gr_text.specs.Graph.{GraphValue, with_links, IsGraphOf}
 use Rattle.gr_text.specs.Fault.{IsFirstFault, IsEndedFault, HasLawfulLines}
-use Rattle.gr_text.specs.LinesSoFar.{LinesSoFarValue, Swap, no_swap, DifferBy, Gives}
+use Rattle.gr_text.specs.LinesSoFar.{LinesSoFarValue, Swap, no_swap, DifferBy, KeepsLinesBut}
 use Rattle.gr_text.specs.PartialLine.{IsKeptAs}
 use Rattle.gr_text.specs.declared.faults.ReadFault.{ReadFault}
 use Rattle.gr_text.specs.declared.faults.ReadFault.TheVariants as fault
@@ -25,7 +25,7 @@ pub record Stands (swap : Swap) (reader : ReaderValue) (text : List ℕ) : Type 
   pub lines : List (List ℕ)
   pub part : List ℕ
   pub cut : EndsLines text lines part
-  pub give : Gives swap reader.so_far lines
+  pub give : KeepsLinesBut swap reader.so_far lines
   pub kept : IsKeptAs reader.partial part
   pub numbered : reader.number ≡ length lines + 1
 

@@ -2,7 +2,7 @@
 ghost use Rattle.std.specs.Prelude.{◌≡◌, ◌≤◌, ◌++◌, length, take, option_to_list, IfSome};
 ghost use Rattle.gr_text.specs.ArcLines.{BeginsWithArc, FillsOrNot};
 
-use crate::sizes::Size;
+use crate::sizes::ProblemSize;
 use crate::usual_line::usual_arc;
 use crate::verdicts::link_of;
 use crate::words::LineFields;
@@ -18,7 +18,7 @@ pub(crate) struct ArcLines {
 /// Reads bytes that are whole arc lines of a graph of this size, each in its usual form and lawful, and writes their links
 /// to the front of `room`. `None` says that the bytes aren't such, or have more links than `room`. The time is linear in
 /// the bytes.
-pub(crate) fn read_arc_lines(size: Size, bytes: &[u8], room: &mut [Link]) -> Option<ArcLines>
+pub(crate) fn read_arc_lines(size: ProblemSize, bytes: &[u8], room: &mut [Link]) -> Option<ArcLines>
     ensures { FillsOrNot size.vertices bytes.now result room.old room.new }
 {
     let mut rest = bytes;
@@ -36,7 +36,7 @@ pub(crate) fn read_arc_lines(size: Size, bytes: &[u8], room: &mut [Link]) -> Opt
 
 // The link of the arc line that the bytes begin with, or that it is a loop; and the bytes behind the line.
 #[inline(always)]
-fn first_arc(size: Size, bytes: &[u8]) -> Option<(Option<Link>, &[u8])>
+fn first_arc(size: ProblemSize, bytes: &[u8]) -> Option<(Option<Link>, &[u8])>
     ensures { IfSome result (λ first. BeginsWithArc size.vertices bytes.now first.0 first.1.now) }
 {
     let (line, rest) = usual_arc(bytes)?;

@@ -21,9 +21,9 @@ pub(crate) trait Feed<A: Allocator> {
 
 /// One thread feeds.
 #[derive(Clone, Copy)]
-pub(crate) struct OneThread;
+pub(crate) struct WholePieces;
 
-impl<A: Allocator> Feed<A> for OneThread {
+impl<A: Allocator> Feed<A> for WholePieces {
     fn feed(&mut self, reader: &mut GrReader<A>, piece: &[u8]) -> Result<(), ReadFault> {
         reader.feed(piece)
     }
@@ -31,13 +31,13 @@ impl<A: Allocator> Feed<A> for OneThread {
 
 /// At most so many threads feed, with room for the links of a piece.
 #[derive(Drop)]
-pub(crate) struct ManyThreads<'a, R, A: Allocator> {
+pub(crate) struct SharedPieces<'a, R, A: Allocator> {
     pub rt: &'a R,
     pub threads: usize,
     pub room: Vec<Link, A>,
 }
 
-impl<'a, R: Threads + Sync, A: Allocator> Feed<A> for ManyThreads<'a, R, A> {
+impl<'a, R: Threads + Sync, A: Allocator> Feed<A> for SharedPieces<'a, R, A> {
     ghost ready = { IsSync R.row };
 
     fn feed(&mut self, reader: &mut GrReader<A>, piece: &[u8]) -> Result<(), ReadFault> {

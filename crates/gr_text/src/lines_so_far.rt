@@ -1,13 +1,13 @@
 ghost use Rattle.std.specs.Prelude.{◌≡◌, ◌≤◌, ◌+◌, ℕ, List, [], length, OnOk, MatchOption, MatchResult};
 ghost use Rattle.gr_text.specs.Kept.{BeginsSo, KeepsOn};
 ghost use Rattle.gr_text.specs.PartialLine.{IsWhole};
-ghost use Rattle.gr_text.specs.LinesSoFar.{AddsLines, AddsLink, FitsAfter, Gives, IsGraphOfLinesBut, IsLack, IsTaken, Swap, no_swap};
+ghost use Rattle.gr_text.specs.LinesSoFar.{AddsLines, AddsLink, FitsAfter, KeepsLinesBut, IsGraphOfLinesBut, IsLack, IsTaken, Swap, no_swap};
 
 use crate::faults::{GrFault, GrKind, ReadFault};
 use crate::graphs::Graph;
 use crate::keep::Keep;
 use crate::parallel::append_arc_lines;
-use crate::sizes::Size;
+use crate::sizes::ProblemSize;
 use crate::verdicts::{Verdict, judge};
 use crate::words::LineFields;
 use links::Link;
@@ -19,7 +19,7 @@ use std::thread::Threads;
 #[derive(Drop)]
 pub(crate) struct LinesSoFar<A: Allocator> {
     /// What their problem line states, once it has come.
-    size: Option<Size>,
+    size: Option<ProblemSize>,
     /// How many arc lines have come.
     count: u32,
     /// The links of these, in order; loops have none.
@@ -39,7 +39,7 @@ impl<A: Allocator> Model for LinesSoFar<A> {
 impl<A: Allocator> LinesSoFar<A> {
     /// What no lines say.
     pub(crate) fn new(alloc: A) -> LinesSoFar<A>
-        ensures { Gives no_swap result [] }
+        ensures { KeepsLinesBut no_swap result [] }
     {
         LinesSoFar {
             size: None,
@@ -52,7 +52,7 @@ impl<A: Allocator> LinesSoFar<A> {
     /// link finds none; nothing is read behind it.
     #[inline(always)]
     pub(crate) fn take_line(&mut self, number: u64, line: LineFields) -> Result<(), ReadFault>
-        ensures { (swap : Swap) (lines : List (List ℕ)) (bytes : List ℕ) → Gives swap self.old lines → IsWhole line bytes
+        ensures { (swap : Swap) (lines : List (List ℕ)) (bytes : List ℕ) → KeepsLinesBut swap self.old lines → IsWhole line bytes
             → IsTaken result swap self.new number lines bytes }
     {
         match judge(self.size, self.count, line) {
@@ -68,7 +68,7 @@ impl<A: Allocator> LinesSoFar<A> {
 
     /// The graph of the lines so far, where nothing lacks. `number` is that of the line after them.
     pub(crate) fn graph(self, number: u64) -> Result<Graph<A>, ReadFault>
-        ensures { (swap : Swap) (lines : List (List ℕ)) → Gives swap self lines
+        ensures { (swap : Swap) (lines : List (List ℕ)) → KeepsLinesBut swap self lines
             → MatchResult result (λ graph. IsGraphOfLinesBut swap lines graph) (λ e. IsLack e number lines) }
     {
         match self.size {

@@ -4,7 +4,7 @@ ghost use denote.Param.Send.{IsSync};
 ghost use Rattle.gr_text.specs.ArcLines.{AppendsOrNot, FillsOrNot};
 
 use crate::arc_lines::{ArcLines, read_arc_lines};
-use crate::sizes::Size;
+use crate::sizes::ProblemSize;
 use links::Link;
 use std::alloc::Allocator;
 use std::thread::{Threads, join_mut};
@@ -23,7 +23,7 @@ pub(crate) const LEAST_LINE: usize = 8;
 pub(crate) fn append_arc_lines<R: Threads + Sync, A: Allocator>(
     rt: &R,
     threads: usize,
-    size: Size,
+    size: ProblemSize,
     bytes: &[u8],
     room: &mut [Link],
     links: &mut Vec<Link, A>,
@@ -57,7 +57,7 @@ pub(crate) fn append_arc_lines<R: Threads + Sync, A: Allocator>(
 
 // The same by the caller's thread alone.
 fn append_by_one<A: Allocator>(
-    size: Size,
+    size: ProblemSize,
     bytes: &[u8],
     room: &mut [Link],
     links: &mut Vec<Link, A>,

@@ -4,7 +4,7 @@ ghost use Rattle.gr_text.specs.Kept.{HasFollowed, HasKept, IsKeptReadOf};
 ghost use Rattle.gr_text.specs.Sourced.{IsReadOf};
 
 use crate::faults::ReadFault;
-use crate::feeders::{Feed, ManyThreads, OneThread};
+use crate::feeders::{Feed, SharedPieces, WholePieces};
 use crate::graphs::Graph;
 use crate::keep::{Keep, KeepAll};
 use crate::parallel::LEAST_LINE;
@@ -87,7 +87,7 @@ fn read_kept_upto<K: Keep<A>, S: Source, A: Allocator>(
 {
     let mut buffer = [0; READ_ROOM];
     read_rest(
-        &mut OneThread,
+        &mut WholePieces,
         keeper,
         GrReader::new(alloc, limit),
         source,
@@ -131,10 +131,10 @@ pub fn read_graph_kept_par<R: Threads + Sync, K: Keep<A>, S: Source, A: Allocato
     let mut reader = GrReader::new(alloc, MAX_BYTES);
     let mut buffer = [0; READ_ROOM];
     if threads < 2 {
-        return read_rest(&mut OneThread, keeper, reader, source, &mut buffer);
+        return read_rest(&mut WholePieces, keeper, reader, source, &mut buffer);
     }
     match read_pieces(
-        &mut OneThread,
+        &mut WholePieces,
         keeper,
         &mut reader,
         source,
@@ -155,9 +155,9 @@ pub fn read_graph_kept_par<R: Threads + Sync, K: Keep<A>, S: Source, A: Allocato
     if pieces.resize(PAR_READ_ROOM, 0).is_err()
         || room.resize(PAR_READ_ROOM / LEAST_LINE, any).is_err()
     {
-        return read_rest(&mut OneThread, keeper, reader, source, &mut buffer);
+        return read_rest(&mut WholePieces, keeper, reader, source, &mut buffer);
     }
-    let mut feeder = ManyThreads { rt, threads, room };
+    let mut feeder = SharedPieces { rt, threads, room };
     read_rest(&mut feeder, keeper, reader, source, pieces.as_mut_slice())
 }
 

@@ -9,7 +9,7 @@ ghost use Rattle.gr_text.specs.Graph.{IsArcOf, IsWeight};
 ghost use Rattle.gr_text.specs.Fault.{IsWrongArc};
 
 use crate::faults::GrKind;
-use crate::sizes::Size;
+use crate::sizes::ProblemSize;
 use crate::words::{LineFields, Signed};
 use limits::{MAX_ARCS, MAX_VERTICES};
 use links::Link;
@@ -20,7 +20,7 @@ pub(crate) enum Verdict {
     /// It says nothing.
     Silent,
     /// It states the problem.
-    Begins(Size),
+    Begins(ProblemSize),
     /// It adds an arc of this link, or a loop, which has none.
     Adds(Option<Link>),
     /// It has a fault.
@@ -30,7 +30,7 @@ pub(crate) enum Verdict {
 /// Judges a line by the lines before it: `size` is what their problem line states, where there is one, and
 /// `count` how many arc lines they have. In constant time.
 #[inline(always)]
-pub(crate) fn judge(size: Option<Size>, count: u32, line: LineFields) -> Verdict
+pub(crate) fn judge(size: Option<ProblemSize>, count: u32, line: LineFields) -> Verdict
     ensures fits { FitsAfter result size count }
     ensures judged { JudgesEach result size count (IsWhole line) }
 {
@@ -48,7 +48,7 @@ pub(crate) fn judge(size: Option<Size>, count: u32, line: LineFields) -> Verdict
     }
 }
 
-fn judge_problem(size: Option<Size>, n: u64, m: u64) -> Verdict
+fn judge_problem(size: Option<ProblemSize>, n: u64, m: u64) -> Verdict
     ensures fits { (count : ℕ) → FitsAfter result size count }
     ensures judged { (count : ℕ) → JudgesEach result size count (KeepsProblem n m) }
 {
@@ -58,13 +58,13 @@ fn judge_problem(size: Option<Size>, n: u64, m: u64) -> Verdict
     if n > u64::from(MAX_VERTICES) || m > u64::from(MAX_ARCS) {
         return Verdict::Faulty(GrKind::TooLarge);
     }
-    Verdict::Begins(Size {
+    Verdict::Begins(ProblemSize {
         vertices: n as u32,
         arcs: m as u32,
     })
 }
 
-fn bad_problem(size: Option<Size>) -> Verdict
+fn bad_problem(size: Option<ProblemSize>) -> Verdict
     ensures fits { (count : ℕ) → FitsAfter result size count }
     ensures judged { (count : ℕ) → JudgesEach result size count (λ bytes. IsOfSort bytes NoProblem) }
 {
@@ -75,7 +75,7 @@ fn bad_problem(size: Option<Size>) -> Verdict
 }
 
 #[inline(always)]
-fn judge_arc(size: Option<Size>, count: u32, u: u64, v: u64, w: Signed) -> Verdict
+fn judge_arc(size: Option<ProblemSize>, count: u32, u: u64, v: u64, w: Signed) -> Verdict
     ensures fits { FitsAfter result size count }
     ensures judged { JudgesEach result size count (KeepsArc u v w) }
 {
@@ -93,7 +93,7 @@ fn judge_arc(size: Option<Size>, count: u32, u: u64, v: u64, w: Signed) -> Verdi
 
 /// The link of an arc, or that it is a loop, where it is an arc of a graph of this size; else what is wrong with it.
 #[inline(always)]
-pub(crate) fn link_of(size: Size, u: u64, v: u64, w: Signed) -> Result<Option<Link>, GrKind>
+pub(crate) fn link_of(size: ProblemSize, u: u64, v: u64, w: Signed) -> Result<Option<Link>, GrKind>
     ensures fits { IfOk result (λ link. IfSome link (λ l. l.high ≤ size.vertices)) }
     ensures judged { (arc : Arc) → AreKeptOf u v w arc → MatchResult result
         (λ link. IsArcOf size.vertices arc × AreLinksOf (arc ∷ []) (option_to_list link)) (λ kind. IsWrongArc size.vertices arc kind) }
@@ -118,7 +118,7 @@ fn weight_of(w: Signed) -> Option<i64>
     }
 }
 
-fn bad_arc(size: Option<Size>, count: u32) -> Verdict
+fn bad_arc(size: Option<ProblemSize>, count: u32) -> Verdict
     ensures fits { FitsAfter result size count }
     ensures judged { JudgesEach result size count (λ bytes. IsOfSort bytes NoArc) }
 {

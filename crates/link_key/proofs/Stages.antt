@@ -12,7 +12,7 @@ use Rattle.link_key.specs.Rounds.{HasOneLabel}
 use Rattle.link_key.specs.Rounds.{is_apart, LeavesLabel, IsLeastOut, AreLabelsUpTo, IsStage}
 use Rattle.link_key.specs.Parts.{AreParts}
 use Rattle.links.specs.Labels.{renamed}
-use Rattle.link_key.specs.OpenLinks.{AreTouched, AreFilled, AreAllNumbers, number_of}
+use Rattle.link_key.specs.OpenLinks.{AreTouched, AreFilled, AreAllNumbers, number_at}
 use Rattle.std.proofs.lemmas.List.{get_or-map, length-map}
 use Rattle.links.proofs.Kept.{kept_in, kept_if}
 use Rattle.links.proofs.Members.{contains_none}
@@ -66,7 +66,7 @@ least_is_forest_link {links} {rest} {later} {labels} stage c l is = (stage.among
         ]
 
 -- a label's number is the new label
-pub renamed_to : (numbers labels : List ℕ) (v : ℕ) → v < length labels → get_or (renamed numbers labels) v 0 ≡ number_of labels numbers v
+pub renamed_to : (numbers labels : List ℕ) (v : ℕ) → v < length labels → get_or (renamed numbers labels) v 0 ≡ number_at labels numbers v
 renamed_to numbers labels v v_in = get_or-map (λ (c : ℕ). get_or numbers c 0) labels v 0 0 v_in
 
 pub renamed_len : (numbers labels : List ℕ) → length (renamed numbers labels) ≡ length labels
@@ -132,8 +132,8 @@ round_stage {count} {last} {links} {later} {rest} {rest'} {before} {after} {labe
     old_joined u v u_in v_in same = joins_more (Contains before) (Contains after) touched.kept u v (stage.joined u v u_in v_in same)
 
     -- a label that nothing touched shares its number with no other
-    alone : (u v : ℕ) → u < length labels → v < length labels → number_of labels numbers u ≡ 0 → number_of labels filled u ≡ number_of labels filled v → get_or labels u 0 ≡ get_or labels v 0
-    alone u v u_in v_in none same = elim (cases_lt 0 (number_of labels filled u)) [
+    alone : (u v : ℕ) → u < length labels → v < length labels → number_at labels numbers u ≡ 0 → number_at labels filled u ≡ number_at labels filled v → get_or labels u 0 ≡ get_or labels v 0
+    alone u v u_in v_in none same = elim (cases_lt 0 (number_at labels filled u)) [
       | inl had ↦ are.alone (get_or labels u 0) (get_or labels v 0) had none same
       | inr zero_is ↦
           let u_zero = is_zero u u_in (omega (arith, zero_is)) in
@@ -141,7 +141,7 @@ round_stage {count} {last} {links} {later} {rest} {rest'} {before} {after} {labe
           u_zero ∙ sym v_zero
     ]
       where
-        is_zero : (w : ℕ) → w < length labels → number_of labels filled w ≡ 0 → get_or labels w 0 ≡ 0
+        is_zero : (w : ℕ) → w < length labels → number_at labels filled w ≡ 0 → get_or labels w 0 ≡ 0
         is_zero w w_in none' = elim (cases_lt 0 (get_or labels w 0)) [
           | inl some ↦
               let most = up_to.in_range w w_in in
@@ -150,9 +150,9 @@ round_stage {count} {last} {links} {later} {rest} {rest'} {before} {after} {labe
           | inr is ↦ omega (arith, is)
         ]
 
-    joined : (u v : ℕ) → u < length labels → v < length labels → number_of labels filled u ≡ number_of labels filled v → Joins (Contains after) u v
-    joined u v u_in v_in same = elim (cases_lt 0 (number_of labels numbers u)) [
-      | inl had ↦ elim (cases_lt 0 (number_of labels numbers v)) [
+    joined : (u v : ℕ) → u < length labels → v < length labels → number_at labels filled u ≡ number_at labels filled v → Joins (Contains after) u v
+    joined u v u_in v_in same = elim (cases_lt 0 (number_at labels numbers u)) [
+      | inl had ↦ elim (cases_lt 0 (number_at labels numbers v)) [
         | inl had' ↦ touched.joined stage.joined u v u_in v_in had (sym (are.kept (get_or labels u 0) had) ∙ same ∙ are.kept (get_or labels v 0) had')
         | inr none' ↦ old_joined u v u_in v_in (sym (alone v u v_in u_in (omega (arith, none')) (sym same)))
       ]

@@ -12,7 +12,7 @@ use Rattle.links.specs.Link.{IsBelow, key_cmp}
 use Rattle.links.specs.Walk.{Joins}
 use Rattle.link_key.specs.Rounds.{HasOneLabel}
 use Rattle.link_key.specs.Rounds.{LeavesLabel, IsLeastOut, AreJoinedWhereOne}
-use Rattle.link_key.specs.OpenLinks.{AreNumbers, ShareNumber, AreTouched, number_of, zeros}
+use Rattle.link_key.specs.OpenLinks.{AreNumbers, ShareNumber, AreTouched, number_at, zeros}
 use Rattle.links.proofs.Members.{contains_none}
 use Rattle.links.proofs.Keys.{key_cmp_total}
 use Rattle.links.proofs.Walks.{joins_link, joins_symm, joins_trans, joins_more}
@@ -155,11 +155,11 @@ seen_with rest i x in_range is = take_more rest i x in_range ∙ ap (λ l. take 
 
 module _ {labels : List ℕ} {rest seen : List Link} {numbers : List ℕ} {before after : List Link} {x : Link} (next : Next labels rest seen x) (so_far : AreTouched labels rest seen numbers before after) where
   -- Both components were touched: it is passed over.
-  pub touched_passed : 0 < number_of labels numbers x.low → 0 < number_of labels numbers x.high → AreTouched labels rest (seen ++ x ∷ []) numbers before after
+  pub touched_passed : 0 < number_at labels numbers x.low → 0 < number_at labels numbers x.high → AreTouched labels rest (seen ++ x ∷ []) numbers before after
   touched_passed low_had high_had = record {
     touched = λ l l_in. elim (Contains-push_cases seen x l l_in) [
       | inl old ↦ so_far.touched l old
-      | inr is ↦ subst (λ (k : Link). (0 < number_of labels numbers k.low) × (0 < number_of labels numbers k.high)) is (low_had, high_had)
+      | inr is ↦ subst (λ (k : Link). (0 < number_at labels numbers k.low) × (0 < number_at labels numbers k.high)) is (low_had, high_had)
     ];
     kept = so_far.kept;
     least = so_far.least;
@@ -171,7 +171,7 @@ module _ {labels : List ℕ} {rest seen : List Link} {numbers : List ℕ} {befor
   touched_taken {last} {last'} {numbers'} are share = record {
     touched = λ l l_in. elim (Contains-push_cases seen x l l_in) [
       | inl old ↦ let had = so_far.touched l old in (some_stays share (get_or labels l.low 0) had.0, some_stays share (get_or labels l.high 0) had.1)
-      | inr is ↦ subst (λ (k : Link). (0 < number_of labels numbers' k.low) × (0 < number_of labels numbers' k.high)) is (subst (λ k. 0 < k) (sym share.first) some, subst (λ k. 0 < k) (sym share.second) some)
+      | inr is ↦ subst (λ (k : Link). (0 < number_at labels numbers' k.low) × (0 < number_at labels numbers' k.high)) is (subst (λ k. 0 < k) (sym share.first) some, subst (λ k. 0 < k) (sym share.second) some)
     ];
     kept = λ l l_in. Contains-append_left after (x ∷ []) l (so_far.kept l l_in);
     least = least;
@@ -211,8 +211,8 @@ module _ {labels : List ℕ} {rest seen : List Link} {numbers : List ℕ} {befor
         | inr is ↦ inr (subst (λ k. Contains rest k × (¬ (HasOneLabel labels k) → (c : ℕ) × IsLeastOut labels rest c k)) is (next.member, itself))
       ]
 
-      joined : AreJoinedWhereOne labels before → (u v : ℕ) → u < length labels → v < length labels → 0 < number_of labels numbers' u → number_of labels numbers' u ≡ number_of labels numbers' v → Joins S u v
-      joined one u v u_in v_in had same = elim (cases_eq (number_of labels numbers' u) share.number) [
+      joined : AreJoinedWhereOne labels before → (u v : ℕ) → u < length labels → v < length labels → 0 < number_at labels numbers' u → number_at labels numbers' u ≡ number_at labels numbers' v → Joins S u v
+      joined one u v u_in v_in had same = elim (cases_eq (number_at labels numbers' u) share.number) [
         | inl shared ↦ joins_trans S u x.low v (near u u_in shared) (joins_symm S v x.low (near v v_in (sym same ∙ shared)))
         | inr other ↦
             let at_u = kept_number u other in
@@ -223,7 +223,7 @@ module _ {labels : List ℕ} {rest seen : List Link} {numbers : List ℕ} {befor
           more : (u v : ℕ) → Joins (Contains after) u v → Joins S u v
           more = joins_more (Contains after) S (λ m m_in. Contains-append_left after (x ∷ []) m m_in)
 
-          old_joined : (u v : ℕ) → u < length labels → v < length labels → 0 < number_of labels numbers u → number_of labels numbers u ≡ number_of labels numbers v → Joins S u v
+          old_joined : (u v : ℕ) → u < length labels → v < length labels → 0 < number_at labels numbers u → number_at labels numbers u ≡ number_at labels numbers v → Joins S u v
           old_joined u v u_in v_in had same = more u v (so_far.joined one u v u_in v_in had same)
 
           one_label : (u v : ℕ) → u < length labels → v < length labels → get_or labels u 0 ≡ get_or labels v 0 → Joins S u v
@@ -233,11 +233,11 @@ module _ {labels : List ℕ} {rest seen : List Link} {numbers : List ℕ} {befor
           back = joins_symm S x.low x.high (joins_link S x (Contains-push after x))
 
           -- what has a number other than the shared one had it before
-          kept_number : (w : ℕ) → ¬ (number_of labels numbers' w ≡ share.number) → number_of labels numbers' w ≡ number_of labels numbers w
+          kept_number : (w : ℕ) → ¬ (number_at labels numbers' w ≡ share.number) → number_at labels numbers' w ≡ number_at labels numbers w
           kept_number w other = share.others (get_or labels w 0) (λ is. other (ap (λ k. get_or numbers' k 0) is ∙ share.first)) (λ is. other (ap (λ k. get_or numbers' k 0) is ∙ share.second))
 
           -- what had the shared number before
-          old_near : (w : ℕ) → w < length labels → number_of labels numbers w ≡ share.number → Joins S w x.low
+          old_near : (w : ℕ) → w < length labels → number_at labels numbers w ≡ share.number → Joins S w x.low
           old_near w w_in is = elim share.old [
             | inl given ↦ old_joined w x.low w_in next.low_in (subst (λ k. 0 < k) (sym is) some) (is ∙ given.0)
             | inr rest ↦ elim rest [
@@ -246,7 +246,7 @@ module _ {labels : List ℕ} {rest seen : List Link} {numbers : List ℕ} {befor
             ]
           ]
 
-          near : (w : ℕ) → w < length labels → number_of labels numbers' w ≡ share.number → Joins S w x.low
+          near : (w : ℕ) → w < length labels → number_at labels numbers' w ≡ share.number → Joins S w x.low
           near w w_in is = elim (cases_eq (get_or labels w 0) a) [
             | inl at_low ↦ one_label w x.low w_in next.low_in at_low
             | inr not_low ↦ elim (cases_eq (get_or labels w 0) b) [

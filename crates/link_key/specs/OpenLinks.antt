@@ -25,13 +25,13 @@ abbrev pub open_cmp : Link → List Link → Open → Open → Ordering
 open_cmp d links o p = key_cmp (link_of d links o) (link_of d links p)
 
 -- a link with the labels of its ends
-abbrev pub opened : (ℕ → ℕ) → ℕ → Link → Open
-opened label rank l = record { low = label l.low; high = label l.high; rank = rank }
+abbrev pub with_end_labels : (ℕ → ℕ) → ℕ → Link → Open
+with_end_labels label rank l = record { low = label l.low; high = label l.high; rank = rank }
 
 -- so are all links, in their order
 pub record AreOpened (label : ℕ → ℕ) (links : List Link) (candidates : List Open) : Type 0 where
   pub len : length candidates ≡ length links
-  pub each : (k : ℕ) (o : Open) (d : Link) → k < length links → slice_index_or candidates k o ≡ opened label k (slice_index_or links k d)
+  pub each : (k : ℕ) (o : Open) (d : Link) → k < length links → slice_index_or candidates k o ≡ with_end_labels label k (slice_index_or links k d)
 
 -- with new numbers of the labels
 abbrev pub renumbered : List ℕ → Open → Open
@@ -91,19 +91,19 @@ pub record ShareNumber (a b last : ℕ) (numbers : List ℕ) (last' : ℕ) (numb
   pub others : (c : ℕ) → c ≢ a → c ≢ b → slice_index numbers' c ≡ slice_index numbers c
 
 -- the number that the table gives the label of v; 0 is none
-abbrev pub number_of : List ℕ → List ℕ → ℕ → ℕ
-number_of labels numbers v = slice_index numbers (slice_index labels v)
+abbrev pub number_at : List ℕ → List ℕ → ℕ → ℕ
+number_at labels numbers v = slice_index numbers (slice_index labels v)
 
 -- What the first touches of the links seen lead to, which are the first of the rest: the labels at their ends have
 -- numbers; what was taken before stays taken; a link taken now whose ends' labels differ is the least of the rest that
 -- leaves some label; and what has one number is joined by what is taken, if what has one label was joined before.
 pub record AreTouched (labels : List ℕ) (rest seen : List Link) (numbers : List ℕ) (before after : List Link) : Type 0 where
-  pub touched : (l : Link) → Contains seen l → (0 < number_of labels numbers l.low) × (0 < number_of labels numbers l.high)
+  pub touched : (l : Link) → Contains seen l → (0 < number_at labels numbers l.low) × (0 < number_at labels numbers l.high)
   pub kept : (l : Link) → Contains before l → Contains after l
   pub least : (l : Link) → Contains after l
       → Contains before l ⊎ (Contains rest l × (¬ (HasOneLabel labels l) → (c : ℕ) × IsLeastOut labels rest c l))
   pub joined : AreJoinedWhereOne labels before → (u v : ℕ) → u < length labels → v < length labels
-      → 0 < number_of labels numbers u → number_of labels numbers u ≡ number_of labels numbers v → Joins (Contains after) u v
+      → 0 < number_at labels numbers u → number_at labels numbers u ≡ number_at labels numbers v → Joins (Contains after) u v
 
 -- the labels of all have numbers
 abbrev pub HaveNumbers : List ℕ → List Open → Type 0

@@ -86,9 +86,9 @@ abbrev pub files_named : List (List ℕ) → List (Option (List ℕ))
 files_named words = map file_of (names_given words)
 
 -- the number that a text writes, or this one where there is no text
-abbrev pub number_of : Option (List ℕ) → ℕ → ℕ
-number_of None default = default
-number_of (Some text) default = digits_value 10 (without_leading_plus text)
+abbrev pub number_or : Option (List ℕ) → ℕ → ℕ
+number_or None default = default
+number_or (Some text) default = digits_value 10 (without_leading_plus text)
 
 -- a text that sets a flag
 abbrev pub is_true : Option (List ℕ) → Bool

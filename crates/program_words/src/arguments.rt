@@ -4,7 +4,7 @@ ghost use Rattle.std.specs.String.{string_bytes};
 ghost use Rattle.std.specs.Vec.Iter.{into_iter_items};
 ghost use Rattle.clap.specs.Words.{IsAmong, app_of, fault_of, first_value, found_of, kind_of, one_text, rule_of, with_rule};
 ghost use Rattle.clap.specs.declared.error.kind.ErrorKind.TheVariants.{OutOfMemory};
-ghost use Rattle.program_words.specs.Arguments.{program, number_rule, default_rule, flag_rule, words_rule, refusals, given, said, files_named, number_of, is_true, is_set, OnUsage};
+ghost use Rattle.program_words.specs.Arguments.{program, number_rule, default_rule, flag_rule, words_rule, refusals, given, said, files_named, number_or, is_true, is_set, OnUsage};
 ghost use Rattle.program_words.specs.Arguments.{file_of as the_file_of};
 ghost use Rattle.program_words.specs.Arguments.{IsOwn, IsOwnArg, IsOtherName, HoldsFrom, IsUsage, kinds_of, wrong_together};
 
@@ -140,7 +140,7 @@ fn number<'a>(matches: &ArgMatches<'a>, name: &str, default: u32) -> u32
     ensures range { (low high : ℕ) → HoldsFrom matches.now name.now low high
         → low ≤ default → default ≤ high → high < 2 ^ 32 → (low ≤ result) × (result ≤ high) }
     ensures value { (low high : ℕ) → HoldsFrom matches.now name.now low high → high < 2 ^ 32
-        → result ≡ number_of (one_text (found_of matches.now) name.now) default }
+        → result ≡ number_or (one_text (found_of matches.now) name.now) default }
 {
     matches.get_one::<u32>(name).unwrap_or(default)
 }
@@ -230,13 +230,13 @@ fn options_of<'a, S: AsStr>(alloc: Global, words: &'a [S]) -> Result<(Options, b
     ensures names_threads { IfOk result (λ o.
         o.1 ≡ is_some (said (map S.text words.entry.now) (codes "threads"))) }
     ensures workers { IfOk result (λ o.
-        o.0.workers ≡ number_of (given (map S.text words.entry.now) (codes "workers")) 2) }
+        o.0.workers ≡ number_or (given (map S.text words.entry.now) (codes "workers")) 2) }
     ensures shards { IfOk result (λ o.
-        o.0.shards ≡ number_of (given (map S.text words.entry.now) (codes "shards")) 64) }
+        o.0.shards ≡ number_or (given (map S.text words.entry.now) (codes "shards")) 64) }
     ensures plain { IfOk result (λ o.
         o.0.plain ≡ is_set (map S.text words.entry.now) (codes "plain")) }
     ensures threads { IfOk result (λ o.
-        o.0.threads ≡ number_of (given (map S.text words.entry.now) (codes "threads")) 1) }
+        o.0.threads ≡ number_or (given (map S.text words.entry.now) (codes "threads")) 1) }
     ensures report { IfOk result (λ o.
         o.0.report ≡ is_set (map S.text words.entry.now) (codes "report")) }
     ensures progress { IfOk result (λ o.
@@ -282,13 +282,13 @@ pub fn options<'a, S: AsStr>(alloc: Global, words: &'a [S]) -> Result<Options, O
     // Words are taken only where nothing is wrong with them, and each sets what it names.
     ensures lawful { OnOk result (refusals (map S.text words.entry.now) ≡ []) }
     ensures workers { IfOk result (λ o.
-        o.workers ≡ number_of (given (map S.text words.entry.now) (codes "workers")) 2) }
+        o.workers ≡ number_or (given (map S.text words.entry.now) (codes "workers")) 2) }
     ensures shards { IfOk result (λ o.
-        o.shards ≡ number_of (given (map S.text words.entry.now) (codes "shards")) 64) }
+        o.shards ≡ number_or (given (map S.text words.entry.now) (codes "shards")) 64) }
     ensures plain { IfOk result (λ o.
         o.plain ≡ is_set (map S.text words.entry.now) (codes "plain")) }
     ensures threads { IfOk result (λ o.
-        o.threads ≡ number_of (given (map S.text words.entry.now) (codes "threads")) 1) }
+        o.threads ≡ number_or (given (map S.text words.entry.now) (codes "threads")) 1) }
     ensures report { IfOk result (λ o.
         o.report ≡ is_set (map S.text words.entry.now) (codes "report")) }
     ensures progress { IfOk result (λ o.

@@ -5,12 +5,12 @@ use Rattle.std.proofs.lemmas.List.{get_or_default, get_or-set_same, get_or-set_o
 use Rattle.links.specs.declared.links.Link.{Link}
 use Rattle.round_theory.specs.Labelling.{IsVertex}
 use Rattle.shard_scans.specs.declared.scanning.Best.{Best}
-use Rattle.shard_scans.specs.Scanning.{no_best, Says, Keeps, KeepsLesser, best_of, AreBest}
+use Rattle.shard_scans.specs.Scanning.{no_best, SaysBest, Keeps, KeepsLesser, best_of, AreBest}
 use Rattle.shard_scans.proofs.Scans.{kept_place, kept_none, kept_at, keeps_out}
 
 -- what a table keeps says the short key of the weight of the link at its place
 pub bests_say : (links : List Link) (labels : List ℕ) (from to : ℕ) (table : List Best) → AreBest links labels from to table → (i : ℕ) (d : Best) → i < length table
-    → (get_or table i d).place ≢ no_best.place → Says links (get_or table i d) (Some (get_or table i d).place)
+    → (get_or table i d).place ≢ no_best.place → SaysBest links (get_or table i d) (Some (get_or table i d).place)
 bests_say links labels from to table are i d within some = go keeps.best keeps.says
   where
     kept : Best
@@ -19,9 +19,9 @@ bests_say links labels from to table are i d within some = go keeps.best keeps.s
     keeps : Keeps links labels from to (i + 1) kept
     keeps = kept_at (length labels) links labels from to table (i + 1) i d are (omega arith, omega (arith, within, are.each_vertex)) (omega arith)
 
-    go : (best : Option ℕ) → Says links kept best → Says links kept (Some kept.place)
+    go : (best : Option ℕ) → SaysBest links kept best → SaysBest links kept (Some kept.place)
     go None says = absurd (some (ap (λ (b : Best). b.place) says))
-    go (Some p) says = subst (λ k. Says links kept (Some k)) (sym says.0) says
+    go (Some p) says = subst (λ k. SaysBest links kept (Some k)) (sym says.0) says
 
 -- the labels up to one keep the best place of both parts, and those behind it that of the earlier part
 pub record AreMerged (links : List Link) (labels : List ℕ) (from at to done : ℕ) (table : List Best) : Type 0 where

@@ -5,7 +5,7 @@ use Rattle.links.specs.declared.links.Link.{Link}
 use Rattle.links.specs.Labels.{label_of}
 use Rattle.shard_scans.specs.declared.scanning.Best.{Best}
 use Rattle.shard_scans.specs.declared.live.LiveLink.{LiveLink}
-use Rattle.shard_scans.specs.declared.numbers.Word.{Word}
+use Rattle.shard_scans.specs.declared.numbers.MarkWord.{MarkWord}
 use Rattle.shard_scans.specs.Scanning.{no_best, AreBestUpTo}
 use Rattle.shard_scans.specs.Live.{AreParallel, places_of, AreLiveLinks, CanBeTakenIn, TakesInLive, relabelled}
 use Rattle.shard_scans.specs.Numbers.{marks_of, marked_in, IsMarked, number_of, numbered, numbered_labels, HasItsName, HasNumbers, AreLiveByNumbers, AreNumbered, AreListed}
@@ -16,7 +16,7 @@ use Rattle.shard_scans.proofs.Numbering.{number_within_names}
 use Rattle.shard_scans.proofs.ByNumbers.{own_label, own_coarsens}
 use Rattle.shard_scans.proofs.Relisting.{number_at, by_numbers_long, shown_again, have_names}
 
-module _ (links : List Link) (labels : List ℕ) (words : List Word) (names : List ℕ) (live : List LiveLink) (size : length names ≡ marked_in (marks_of words) (length words))
+module _ (links : List Link) (labels : List ℕ) (words : List MarkWord) (names : List ℕ) (live : List LiveLink) (size : length names ≡ marked_in (marks_of words) (length words))
     (listed : AreLiveByNumbers links labels (marks_of words) names live) where
   abbrev marks : List ℕ
   marks = marks_of words

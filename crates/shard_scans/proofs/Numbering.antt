@@ -11,7 +11,7 @@ use Rattle.std.proofs.lemmas.Nat.{one_shl}
 use Rattle.links.specs.Labels.{label_of, AreLabels}
 use Rattle.round_theory.specs.Labelling.{IsVertex}
 use Rattle.shard_scans.proofs.Written.{label_vertex}
-use Rattle.shard_scans.specs.declared.numbers.Word.{Word}
+use Rattle.shard_scans.specs.declared.numbers.MarkWord.{MarkWord}
 use Rattle.shard_scans.specs.Numbers.{marks_of, IsMarked, marked_to, marked_in, AreCounted, number_of, HasItsName, new_name}
 
 no_ones : count_ones 0 ≡ 0
@@ -155,18 +155,18 @@ module _ (marks : List ℕ) (label : ℕ) (from_one : 1 ≤ label) (within : (la
     )
   ]
 
-abbrev marks_in : Word → ℕ
+abbrev marks_in : MarkWord → ℕ
 marks_in w = w.marks
 
 -- a bit of a word is set
-marks_set : (words : List Word) (i bit : ℕ) (w new : Word) → i < length words → w ≡ get_or words i w → new.marks ≡ with_bit w.marks bit
+marks_set : (words : List MarkWord) (i bit : ℕ) (w new : MarkWord) → i < length words → w ≡ get_or words i w → new.marks ≡ with_bit w.marks bit
     → marks_of (set words i new) ≡ set (marks_of words) i (with_bit (get_or (marks_of words) i 0) bit)
 marks_set words i bit w new within read new_is =
     map-set marks_in words i new
     ∙ ap (set (marks_of words) i) (new_is ∙ ap (λ m. with_bit m bit) (ap marks_in read ∙ sym (get_or-map marks_in words i w 0 within)))
 
 -- what marks the words have once the bit of a label is set in its word
-module _ (words : List Word) (label : ℕ) (from_one : 1 ≤ label) (within : (label - 1) / 64 < length words) (w new : Word) (read : w ≡ get_or words ((label - 1) / 64) w)
+module _ (words : List MarkWord) (label : ℕ) (from_one : 1 ≤ label) (within : (label - 1) / 64 < length words) (w new : MarkWord) (read : w ≡ get_or words ((label - 1) / 64) w)
     (new_is : new.marks ≡ with_bit w.marks ((label - 1) % 64)) where
   in_marks : (label - 1) / 64 < length (marks_of words)
   in_marks = omega (arith, within, length-map words marks_in)
@@ -177,13 +177,13 @@ module _ (words : List Word) (label : ℕ) (from_one : 1 ≤ label) (within : (l
       (mark_more (marks_of words) label from_one in_marks d)
 
 -- the number that a word gives
-pub number_is : (inside words : List Word) (c : ℕ) (w : Word) → inside ≡ words → AreCounted words → (c - 1) / 64 < length words → w ≡ get_or inside ((c - 1) / 64) w
+pub number_is : (inside words : List MarkWord) (c : ℕ) (w : MarkWord) → inside ≡ words → AreCounted words → (c - 1) / 64 < length words → w ≡ get_or inside ((c - 1) / 64) w
     → (w.before + count_ones (w.marks % (1 * 2 ^ ((c - 1) % 64) % 18446744073709551616)) + 1 ≡ number_of (marks_of words) c) × (number_of (marks_of words) c ≤ 2 ^ 28 + 65)
 number_is inside words c w same counted within inside_read =
     let at = (c - 1) / 64 in
     let bit = (c - 1) % 64 in
-    let read : w ≡ get_or words at w = inside_read ∙ ap (λ (t : List Word). get_or t at w) same in
-    let before : w.before ≡ marked_in (marks_of words) at = ap (λ (x : Word). x.before) read ∙ counted.before at w within in
+    let read : w ≡ get_or words at w = inside_read ∙ ap (λ (t : List MarkWord). get_or t at w) same in
+    let before : w.before ≡ marked_in (marks_of words) at = ap (λ (x : MarkWord). x.before) read ∙ counted.before at w within in
     let marks : w.marks ≡ get_or (marks_of words) at 0 = ap marks_in read ∙ sym (get_or-map marks_in words at w 0 within) in
     let shift : 1 * 2 ^ bit % 18446744073709551616 ≡ 2 ^ bit = one_shl bit 64 (omega arith) in
     let ones : count_ones (w.marks % (1 * 2 ^ bit % 18446744073709551616)) ≡ count_ones (get_or (marks_of words) at 0 % 2 ^ bit) =
@@ -194,13 +194,13 @@ number_is inside words c w same counted within inside_read =
     (omega (arith, before, ones, all), omega (arith, marked_rise (marks_of words) (c - 1) (length words * 64) (omega (arith, within)), counted.few))
 
 -- the number of a marked label has a place among the names
-pub number_within_names : (words : List Word) (names : List ℕ) → length names ≡ marked_in (marks_of words) (length words) → (c : ℕ) → IsMarked (marks_of words) c → number_of (marks_of words) c ≤ length names
+pub number_within_names : (words : List MarkWord) (names : List ℕ) → length names ≡ marked_in (marks_of words) (length words) → (c : ℕ) → IsMarked (marks_of words) c → number_of (marks_of words) c ≤ length names
 number_within_names words names size c is =
     let within : number_of (marks_of words) c ≤ marked_in (marks_of words) (length words) =
     subst (λ n. number_of (marks_of words) c ≤ marked_in (marks_of words) n) (length-map words marks_in) (number_within (marks_of words) c is) in
     omega (arith, size, within)
 
-pub number_has_place : (words : List Word) (names : List ℕ) (c : ℕ) → length names ≡ marked_in (marks_of words) (length words) → IsMarked (marks_of words) c → number_of (marks_of words) c - 1 < length names
+pub number_has_place : (words : List MarkWord) (names : List ℕ) (c : ℕ) → length names ≡ marked_in (marks_of words) (length words) → IsMarked (marks_of words) c → number_of (marks_of words) c - 1 < length names
 number_has_place words names c size is = omega (arith, number_within_names words names size c is)
 
 -- a name is written, and others stand
@@ -220,8 +220,8 @@ module _ (marks names : List ℕ) (d : ℕ) (d_is : IsMarked marks d) where
   ]
 
 -- one more word says how many are marked before it
-module _ (words : List Word) (i total : ℕ) (w : Word) (within : i < length words) (read : w ≡ get_or words i w) (total_is : total ≡ marked_in (marks_of words) i) where
-  abbrev noted : Word
+module _ (words : List MarkWord) (i total : ℕ) (w : MarkWord) (within : i < length words) (read : w ≡ get_or words i w) (total_is : total ≡ marked_in (marks_of words) i) where
+  abbrev noted : MarkWord
   noted = record { marks = w.marks; before = total }
 
   pub noted_marks : marks_of (set words i noted) ≡ marks_of words
@@ -241,16 +241,16 @@ module _ (words : List Word) (i total : ℕ) (w : Word) (within : i < length wor
       let sum : total + count_ones w.marks ≡ marked_in (marks_of words) (i + 1) = omega (arith, total_is, ones, all) in
       sum ∙ ap (λ m. marked_in m (i + 1)) (sym noted_marks)
 
-  pub told_before : ((k : ℕ) (d : Word) → k < i → (get_or words k d).before ≡ marked_in (marks_of words) k)
-      → (k : ℕ) (d : Word) → k < i + 1 → (get_or (set words i noted) k d).before ≡ marked_in (marks_of (set words i noted)) k
+  pub told_before : ((k : ℕ) (d : MarkWord) → k < i → (get_or words k d).before ≡ marked_in (marks_of words) k)
+      → (k : ℕ) (d : MarkWord) → k < i + 1 → (get_or (set words i noted) k d).before ≡ marked_in (marks_of (set words i noted)) k
   told_before before k d lt = elim (cases_lt k i) [
     | inl less ↦
         let other : k ≢ i = omega (arith, less) in
-        ap (λ (x : Word). x.before) (get_or-set_other words i k noted d other) ∙ before k d less ∙ ap (λ m. marked_in m k) (sym noted_marks)
+        ap (λ (x : MarkWord). x.before) (get_or-set_other words i k noted d other) ∙ before k d less ∙ ap (λ m. marked_in m k) (sym noted_marks)
     | inr le ↦
         let at : k ≡ i = omega (arith, le, lt) in
         subst (λ n. (get_or (set words i noted) n d).before ≡ marked_in (marks_of (set words i noted)) n) (sym at)
-        (ap (λ (x : Word). x.before) (get_or-set_same words i noted d within) ∙ total_is ∙ ap (λ m. marked_in m i) (sym noted_marks))
+        (ap (λ (x : MarkWord). x.before) (get_or-set_same words i noted d within) ∙ total_is ∙ ap (λ m. marked_in m i) (sym noted_marks))
   ]
 
 -- a new name has a word

@@ -15,7 +15,7 @@ use Rattle.round_theory.proofs.Leaving.{leaves_apart, leaves_end}
 use Rattle.shard_scans.proofs.BestSoFar.{one_read, best_goes_on, best_first, best_stays, best_new}
 use Rattle.shard_scans.proofs.ShortKeys.{key_fits, not_above_all, keys_keep_order}
 use Rattle.shard_scans.specs.declared.scanning.Best.{Best}
-use Rattle.shard_scans.specs.Scanning.{short_key, no_best, IsBestPlace, NoneLeavesIn, IsBest, Says, Keeps, best_of, AreBestUpTo}
+use Rattle.shard_scans.specs.Scanning.{short_key, no_best, IsBestPlace, NoneLeavesIn, IsBest, SaysBest, Keeps, best_of, AreBestUpTo}
 
 -- what the test for `<` of two keys says
 less_by_test : (a b : ℤ) → lt_z a b ≡ true → a <ℤ b
@@ -51,18 +51,18 @@ module _ (links : List Link) (labels : List ℕ) (from to c : ℕ) (kept : Best)
   pub kept_place : Keeps links labels from to c kept → kept.place ≢ no_best.place → IsBestPlace links labels from to c kept.place
   kept_place keeps some = go keeps.best keeps.says keeps.is
     where
-      go : (best : Option ℕ) → Says links kept best → IsBest links labels from to c best → IsBestPlace links labels from to c kept.place
+      go : (best : Option ℕ) → SaysBest links kept best → IsBest links labels from to c best → IsBestPlace links labels from to c kept.place
       go None says is = absurd (some (ap (λ (b : Best). b.place) says))
       go (Some place) says is = subst (IsBestPlace links labels from to c) (sym says.0) is
 
   pub kept_none : Keeps links labels from to c kept → length links ≤ 2 ^ 24 → kept.place ≡ no_best.place → NoneLeavesIn links labels from to c
   kept_none keeps few none = go keeps.best keeps.says keeps.is
     where
-      go : (best : Option ℕ) → Says links kept best → IsBest links labels from to c best → NoneLeavesIn links labels from to c
+      go : (best : Option ℕ) → SaysBest links kept best → IsBest links labels from to c best → NoneLeavesIn links labels from to c
       go None says is = is
       go (Some place) says is = absurd (omega (arith, few, says.0, says.1, none))
 
-module _ (links : List Link) (labels : List ℕ) (c from at to : ℕ) (le : from ≤ at) (next : Best) (next_says : Says links next (Some next.place)) (next_is : IsBestPlace links labels at to c next.place) (kept : Best)
+module _ (links : List Link) (labels : List ℕ) (c from at to : ℕ) (le : from ≤ at) (next : Best) (next_says : SaysBest links next (Some next.place)) (next_is : IsBestPlace links labels at to c next.place) (kept : Best)
     (keeps : Keeps links labels from at c kept) where
   -- what is known of the link that is kept
   abbrev OfKept : (Link → Type 0) → Type 0
@@ -72,7 +72,7 @@ module _ (links : List Link) (labels : List ℕ) (c from at to : ℕ) (le : from
   pub keeps_old : kept ≢ no_best → OfKept (λ l. ¬ (IsBelow next_is.link l)) → Keeps links labels from to c kept
   keeps_old some not_below = go keeps.best keeps.says keeps.is
     where
-      go : (best : Option ℕ) → Says links kept best → IsBest links labels from at c best → Keeps links labels from to c kept
+      go : (best : Option ℕ) → SaysBest links kept best → IsBest links labels from at c best → Keeps links labels from to c kept
       go None says is = absurd (some says)
       go (Some p) says is =
           let read : is.link ≡ get_or links kept.place is.link = subst (λ k. is.link ≡ get_or links k is.link) (sym says.0) is.here in
@@ -83,7 +83,7 @@ module _ (links : List Link) (labels : List ℕ) (c from at to : ℕ) (le : from
   pub keeps_new : OfKept (λ l. IsBelow next_is.link l) → Keeps links labels from to c next
   keeps_new below = record { best = Some next.place; says = next_says; is = go keeps.best keeps.says keeps.is }
     where
-      go : (best : Option ℕ) → Says links kept best → IsBest links labels from at c best → IsBestPlace links labels from to c next.place
+      go : (best : Option ℕ) → SaysBest links kept best → IsBest links labels from at c best → IsBestPlace links labels from to c next.place
       go None says is = best_first links labels c from at to next.place le next_is is
       go (Some p) says is =
           let read : is.link ≡ get_or links kept.place is.link = subst (λ k. is.link ≡ get_or links k is.link) (sym says.0) is.here in

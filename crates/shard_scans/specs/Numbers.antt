@@ -7,15 +7,15 @@ use Rattle.links.specs.Labels.{label_of}
 use Rattle.links.specs.Offers.{Offer}
 use Rattle.round_theory.specs.Labelling.{IsVertex}
 use Rattle.shard_scans.specs.declared.live.LiveLink.{LiveLink}
-use Rattle.shard_scans.specs.declared.numbers.Word.{Word}
+use Rattle.shard_scans.specs.declared.numbers.MarkWord.{MarkWord}
 use Rattle.shard_scans.specs.Live.{AreLiveLinks, relabelled}
 
 -- no label of a word is marked
-abbrev pub no_marks : Word
+abbrev pub no_marks : MarkWord
 no_marks = record { marks = 0; before = 0 }
 
-abbrev pub marks_of : List Word → List ℕ
-marks_of words = map (λ (w : Word). w.marks) words
+abbrev pub marks_of : List MarkWord → List ℕ
+marks_of words = map (λ (w : MarkWord). w.marks) words
 
 -- the label is marked: 64 labels a word, label 1 the lowest bit of the first one
 pub record IsMarked (marks : List ℕ) (c : ℕ) : Type 0 where
@@ -33,8 +33,8 @@ abbrev pub marked_in : List ℕ → ℕ → ℕ
 marked_in marks words = marked_to marks (words * 64)
 
 -- each word says how many are marked before it, and they are few
-pub record AreCounted (words : List Word) : Type 0 where
-  pub before : (w : ℕ) (d : Word) → w < length words → (slice_index_or words w d).before ≡ marked_in (marks_of words) w
+pub record AreCounted (words : List MarkWord) : Type 0 where
+  pub before : (w : ℕ) (d : MarkWord) → w < length words → (slice_index_or words w d).before ≡ marked_in (marks_of words) w
   pub few : marked_in (marks_of words) (length words) ≤ 2 ^ 28
 
 -- the number of a label: how many marked labels stand below it, and one

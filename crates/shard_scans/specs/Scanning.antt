@@ -40,15 +40,15 @@ abbrev pub no_best : Best
 no_best = record { key = NO_KEY; place = NO_PLACE }
 
 -- the place in the list, and the short key of the weight of the link there
-abbrev pub Says : List Link → Best → Option ℕ → Type 0
-Says links kept None = kept ≡ no_best
-Says links kept (Some place) =
+abbrev pub SaysBest : List Link → Best → Option ℕ → Type 0
+SaysBest links kept None = kept ≡ no_best
+SaysBest links kept (Some place) =
     (kept.place ≡ place) × (place < length links) × ((l : Link) → l ≡ slice_index_or links place l → kept.key ≡ short_key l.weight)
 
 -- what is kept for a label says its best place
 pub record Keeps (links : List Link) (labels : List ℕ) (from to c : ℕ) (kept : Best) : Type 0 where
   pub best : Option ℕ
-  pub says : Says links kept best
+  pub says : SaysBest links kept best
   pub is : IsBest links labels from to c best
 
 -- of what is kept for the places before another and the best of the places from that on, what is kept for both together

@@ -10,7 +10,7 @@ ghost use Rattle.limits.specs.declared.TheConstants.{MAX_SHARD_LINKS};
 ghost use Rattle.links.specs.Link.{EndsUpTo};
 ghost use Rattle.links.specs.Labels.{label_of, AreLabels};
 ghost use Rattle.round_theory.specs.Labelling.{IsVertex};
-ghost use Rattle.shard_scans.specs.Scanning.{Says};
+ghost use Rattle.shard_scans.specs.Scanning.{SaysBest};
 ghost use Rattle.shard_scans.specs.Live.{AreParallel, AreLiveLinks, StayLive, CanBeTakenIn, TakesInLive, relabelled, packed};
 
 use crate::scanning::{Best, keep_next, short_key};
@@ -55,7 +55,7 @@ impl LiveLink {
     pub(crate) fn best(self, links: &[Link]) -> Best
         requires in_list { self.place < length links.now }
         ensures place { result.place ≡ self.place }
-        ensures says { Says links.now result (Some result.place) }
+        ensures says { SaysBest links.now result (Some result.place) }
     {
         Best {
             key: short_key(links[self.place as usize].weight),

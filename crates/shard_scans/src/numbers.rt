@@ -16,12 +16,12 @@ use std::marker::Model;
 
 // A bit for each of 64 labels, set where it is marked, and how many labels are marked in the words before.
 #[derive(Clone, Copy)]
-pub(crate) struct Word {
+pub(crate) struct MarkWord {
     pub(crate) marks: u64,
     pub(crate) before: u32,
 }
 
-impl Word {
+impl MarkWord {
     // How many labels of it are marked.
     #[inline]
     fn count(self) -> u32
@@ -36,14 +36,14 @@ impl Word {
 // Which labels are marked. Contracts see the words.
 #[derive(Drop)]
 pub(crate) struct Numbers<A: Allocator> {
-    words: Vec<Word, A>,
+    words: Vec<MarkWord, A>,
 }
 
 impl<A: Allocator> Model for Numbers<A> {
     ghost use Rattle.std.specs.Prelude.{List};
-    ghost use Rattle.shard_scans.specs.declared.numbers.Word.{Word};
+    ghost use Rattle.shard_scans.specs.declared.numbers.MarkWord.{MarkWord};
 
-    ghost Value = { List Word };
+    ghost Value = { List MarkWord };
 
     ghost view = { λ n. n.words.items };
 }
@@ -64,7 +64,7 @@ impl<A: Allocator + Copy> Numbers<A> {
         ensures { OnOk result (self.new ≡ replicate (labels / 64 + 1) no_marks) }
     {
         self.words.clear();
-        let none = Word {
+        let none = MarkWord {
             marks: 0,
             before: 0,
         };

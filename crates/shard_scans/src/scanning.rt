@@ -2,7 +2,7 @@
 ghost use Rattle.std.specs.Prelude.{◌≡◌, ◌≤◌, length, Some, IfOk};
 ghost use Rattle.links.specs.Link.{EndsUpTo};
 ghost use Rattle.round_theory.specs.Offers.{AreLightOffers};
-ghost use Rattle.shard_scans.specs.Scanning.{short_key, Says, KeepsLesser, TakesIn};
+ghost use Rattle.shard_scans.specs.Scanning.{short_key, SaysBest, KeepsLesser, TakesIn};
 ghost use Rattle.shard_scans.specs.Live.{CanBeTakenIn};
 ghost use Rattle.shard_scans.specs.Numbers.{AreListed};
 
@@ -207,7 +207,7 @@ pub(crate) fn short_key(weight: i64) -> i32
 #[inline]
 pub(crate) fn keep_lesser(best: &mut Best, links: &[Link], next: Best)
     requires few_links { length links.now ≤ MAX_SHARD_LINKS }
-    requires next { Says links.now next (Some next.place) }
+    requires next { SaysBest links.now next (Some next.place) }
     ensures lesser { KeepsLesser links.now next best.old best.new }
 {
     if best.key < next.key {

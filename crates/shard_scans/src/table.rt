@@ -1,7 +1,7 @@
 //! What a scan keeps for each label.
 ghost use Rattle.std.specs.Prelude.{◌≡◌, ◌+◌, ◌^◌, ◌<◌, ◌≤◌, [], length, replicate, Some, IfOk, OnOk};
 ghost use Rattle.limits.specs.declared.TheConstants.{MAX_SHARD_LINKS};
-ghost use Rattle.shard_scans.specs.Scanning.{no_best, Says};
+ghost use Rattle.shard_scans.specs.Scanning.{no_best, SaysBest};
 ghost use Rattle.shard_scans.specs.Tables.{KeepsAt, ArePlacesBelow};
 
 use crate::scanning::{Best, NO_KEY, NO_PLACE, keep_lesser};
@@ -61,7 +61,7 @@ impl<A: Allocator + Copy> Table<A> {
     #[inline]
     pub(crate) fn keep(&mut self, before: usize, links: &[Link], next: Best)
         requires few_links { length links.now ≤ MAX_SHARD_LINKS }
-        requires next { Says links.now next (Some next.place) }
+        requires next { SaysBest links.now next (Some next.place) }
         requires label { before < length self.old }
         ensures kept { KeepsAt links.now next before self.old self.new }
     {

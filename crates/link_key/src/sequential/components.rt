@@ -7,7 +7,7 @@ ghost use Rattle.links.specs.LinkSet.{HasNoCycle};
 ghost use Rattle.link_key.specs.OpenLinks.{AreAllNumbers};
 ghost use Rattle.link_key.specs.Components.{IsAcyclic, AreLeastVertices, AreComponents, IsFirstWith};
 
-use super::rounds::{Renaming, join, open_vertices};
+use super::rounds::{Renaming, join_components, open_vertices};
 use links::forests::is_ascending;
 use links::sorting::sort;
 use links::{Labels, Link};
@@ -61,7 +61,7 @@ fn components_in_order<A: Allocator + Copy>(
 {
     let candidates = open_vertices(alloc, links)?;
     let mut marks = vec![in alloc; false; links.len()]?;
-    let components = join(alloc, n, candidates, marks.as_mut_slice())?;
+    let components = join_components(alloc, n, candidates, marks.as_mut_slice())?;
     let taken = are_all_marked(marks.as_slice());
     Ok((components, taken))
 }

@@ -229,7 +229,7 @@ fn round<A: Allocator + Copy>(
 // Marks the forest's links among these, between the components 1 to `count`, round after round, and returns the new
 // numbers of the components. A round's numbers are looked up at once and let go: there are two tables at the most, of 4
 // bytes a component.
-pub(crate) fn join<A: Allocator + Copy>(
+pub(crate) fn join_components<A: Allocator + Copy>(
     alloc: A,
     count: u32,
     candidates: Vec<Open, A>,

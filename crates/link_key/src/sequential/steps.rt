@@ -56,9 +56,9 @@ pub(crate) trait Steps {
 
 /// The caller's thread alone.
 #[derive(Drop)]
-pub(crate) struct OneThread;
+pub(crate) struct StepsAlone;
 
-impl Steps for OneThread {
+impl Steps for StepsAlone {
     fn sort(&self, links: &mut [Link]) {
         sorting::sort(links);
     }
@@ -85,12 +85,12 @@ impl Steps for OneThread {
 
 /// The caller's thread, with others made for a step, so many at the most at once.
 #[derive(Drop)]
-pub(crate) struct ManyThreads<'a, R> {
+pub(crate) struct StepsByThreads<'a, R> {
     pub rt: &'a R,
     pub threads: usize,
 }
 
-impl<'a, R: Threads + Sync> Steps for ManyThreads<'a, R> {
+impl<'a, R: Threads + Sync> Steps for StepsByThreads<'a, R> {
     ghost ready = { λ _. IsSync R.row };
 
     fn sort(&self, links: &mut [Link]) {

@@ -1,39 +1,47 @@
 // The codes of refusals, as `include/boruvka.h` has them, and their texts.
 use super::same::expect_same;
-use caller_forests::{Refusal, put_fault_text};
+use caller_forests::{CallRefusal, put_fault_text};
 use gr_text::GrKind;
 use std::alloc::Global;
 use std::process::Abort;
 
-const CODES: [(Refusal, i64, &[u8]); 20] = [
-    (Refusal::NoMemory, -1, b"no memory"),
-    (Refusal::BadEnd, -2, b"an end is no vertex"),
-    (Refusal::TooManyVertices, -3, b"too many vertices"),
-    (Refusal::TooManyLinks, -4, b"too many links"),
-    (Refusal::TooLong, -5, b"file is too long"),
-    (Refusal::Line(GrKind::UnknownLine), -6, b"UnknownLine"),
-    (Refusal::Line(GrKind::NoProblemYet), -7, b"NoProblemYet"),
-    (Refusal::Line(GrKind::SecondProblem), -8, b"SecondProblem"),
-    (Refusal::Line(GrKind::BadProblem), -9, b"BadProblem"),
-    (Refusal::Line(GrKind::TooLarge), -10, b"TooLarge"),
-    (Refusal::Line(GrKind::BadArc), -11, b"BadArc"),
-    (Refusal::Line(GrKind::EndOutOfRange), -12, b"EndOutOfRange"),
+const CODES: [(CallRefusal, i64, &[u8]); 20] = [
+    (CallRefusal::NoMemory, -1, b"no memory"),
+    (CallRefusal::BadEnd, -2, b"an end is no vertex"),
+    (CallRefusal::TooManyVertices, -3, b"too many vertices"),
+    (CallRefusal::TooManyLinks, -4, b"too many links"),
+    (CallRefusal::TooLong, -5, b"file is too long"),
+    (CallRefusal::Line(GrKind::UnknownLine), -6, b"UnknownLine"),
+    (CallRefusal::Line(GrKind::NoProblemYet), -7, b"NoProblemYet"),
     (
-        Refusal::Line(GrKind::WeightOutOfRange),
+        CallRefusal::Line(GrKind::SecondProblem),
+        -8,
+        b"SecondProblem",
+    ),
+    (CallRefusal::Line(GrKind::BadProblem), -9, b"BadProblem"),
+    (CallRefusal::Line(GrKind::TooLarge), -10, b"TooLarge"),
+    (CallRefusal::Line(GrKind::BadArc), -11, b"BadArc"),
+    (
+        CallRefusal::Line(GrKind::EndOutOfRange),
+        -12,
+        b"EndOutOfRange",
+    ),
+    (
+        CallRefusal::Line(GrKind::WeightOutOfRange),
         -13,
         b"WeightOutOfRange",
     ),
-    (Refusal::Line(GrKind::TooManyArcs), -14, b"TooManyArcs"),
+    (CallRefusal::Line(GrKind::TooManyArcs), -14, b"TooManyArcs"),
     (
-        Refusal::Line(GrKind::MissingProblem),
+        CallRefusal::Line(GrKind::MissingProblem),
         -15,
         b"MissingProblem",
     ),
-    (Refusal::Line(GrKind::MissingArcs), -16, b"MissingArcs"),
-    (Refusal::LengthsDiffer, -17, b"lengths differ"),
-    (Refusal::TooFewPlaces, -18, b"too few places"),
-    (Refusal::Cycle, -19, b"a cycle"),
-    (Refusal::Descending, -20, b"links descend"),
+    (CallRefusal::Line(GrKind::MissingArcs), -16, b"MissingArcs"),
+    (CallRefusal::LengthsDiffer, -17, b"lengths differ"),
+    (CallRefusal::TooFewPlaces, -18, b"too few places"),
+    (CallRefusal::Cycle, -19, b"a cycle"),
+    (CallRefusal::Descending, -20, b"links descend"),
 ];
 
 // What is in a room of so many bytes, of `~` before, once the text of this code was put there.

@@ -2,7 +2,7 @@ use Rattle.std.proofs.Common.{subst, sym, arith, inl, inr, refl, Option}
 use Rattle.gr_text.specs.Statement.{ArcLine}
 use Rattle.gr_text.specs.Sort.{Makes}
 use Rattle.gr_text.specs.LinesSoFar.{Judges}
-use Rattle.gr_text.specs.declared.sizes.Size.{Size}
+use Rattle.gr_text.specs.declared.sizes.ProblemSize.{ProblemSize}
 use Rattle.gr_text.specs.declared.verdicts.Verdict.TheVariants as verdict
 use Rattle.gr_text.proofs.Judging.{fault_alone, fault_behind}
 use Rattle.gr_text.proofs.verdicts.judge_arc.Goals as goal
@@ -25,7 +25,7 @@ returns-in-Err-clause-judged c = λ lines bytes counts (arc, says, kept).
 pub returns-in-Ok-clause-judged : goal.returns-in-Ok-clause-judged
 returns-in-Ok-clause-judged c = λ lines bytes counts (arc, says, kept).
     let judged = c.in-Ok.ensures.judged arc kept in
-    subst (λ (s : Option Size). Judges (verdict.Adds c.in-Ok.link) s c.args.count lines bytes) (sym c.in-Some.is)
+    subst (λ (s : Option ProblemSize). Judges (verdict.Adds c.in-Ok.link) s c.args.count lines bytes) (sym c.in-Some.is)
     (arc, says, judged.0, c.if-count-size.false, judged.1)
 
 pub returns-in-Ok-clause-fits : goal.returns-in-Ok-clause-fits

@@ -1,7 +1,7 @@
 use Rattle.std.specs.String.{string_bytes}
 use Rattle.std.proofs.Common.{rules, ap, option_map, arith, sym, ◌∙◌, ℕ, [], List, Option, Ok, map}
 use Rattle.std.specs.Prelude.{is_some, unwrap_or}
-use Rattle.program_words.specs.Arguments.{number_of, is_true, file_of}
+use Rattle.program_words.specs.Arguments.{number_or, is_true, file_of}
 use Rattle.program_words.proofs.WordMeanings.{workers_hold, shards_hold, threads_hold, given_is, is_some-map, said_is, names_are, fails_by_words}
 use Rattle.program_words.proofs.arguments.options_of.Goals as goal
 use Rattle.program_words.proofs.arguments.options_of.Goals.{in-Some+in_ok-files-in-Some, in-None}
@@ -13,13 +13,13 @@ pub returns-clause-workers : goal.returns-clause-workers
 returns-clause-workers g c =
     let held = workers_hold _ _ c.in_ok-command.ensures.own c.in_ok-matches.ensures.parsed in
     c.number-workers.ensures.value 0 64 (search rules) (omega arith)
-    ∙ ap (λ (t : Option (List ℕ)). number_of t 2) (given_is _ _ _ _ c.in_ok-command.ensures.app c.in_ok-matches.ensures.matches)
+    ∙ ap (λ (t : Option (List ℕ)). number_or t 2) (given_is _ _ _ _ c.in_ok-command.ensures.app c.in_ok-matches.ensures.matches)
 
 pub returns-clause-shards : goal.returns-clause-shards
 returns-clause-shards g c =
     let held = shards_hold _ _ c.in_ok-command.ensures.own c.in_ok-matches.ensures.parsed in
     c.number-shards.ensures.value 1 4096 (search rules) (omega arith)
-    ∙ ap (λ (t : Option (List ℕ)). number_of t 64) (given_is _ _ _ _ c.in_ok-command.ensures.app c.in_ok-matches.ensures.matches)
+    ∙ ap (λ (t : Option (List ℕ)). number_or t 64) (given_is _ _ _ _ c.in_ok-command.ensures.app c.in_ok-matches.ensures.matches)
 
 pub returns-clause-names_threads : goal.returns-clause-names_threads
 returns-clause-names_threads g c =
@@ -30,7 +30,7 @@ pub returns-clause-threads : goal.returns-clause-threads
 returns-clause-threads g c =
     let held = threads_hold _ _ c.in_ok-command.ensures.own c.in_ok-matches.ensures.parsed in
     c.number-threads.ensures.value 1 64 (search rules) (omega arith)
-    ∙ ap (λ (t : Option (List ℕ)). number_of t 1) (given_is _ _ _ _ c.in_ok-command.ensures.app c.in_ok-matches.ensures.matches)
+    ∙ ap (λ (t : Option (List ℕ)). number_or t 1) (given_is _ _ _ _ c.in_ok-command.ensures.app c.in_ok-matches.ensures.matches)
 
 pub returns-clause-plain : goal.returns-clause-plain
 returns-clause-plain g c =

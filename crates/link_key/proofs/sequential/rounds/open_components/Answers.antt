@@ -3,7 +3,7 @@ use Rattle.std.proofs.lemmas.Bool.{cases_lt}
 use Rattle.std.proofs.lemmas.List.{get_or_push, get_or_append_left, get_or_default}
 use Rattle.links.specs.declared.links.Link.{Link}
 use Rattle.link_key.specs.declared.sequential.rounds.Open.{Open}
-use Rattle.link_key.specs.OpenLinks.{opened}
+use Rattle.link_key.specs.OpenLinks.{with_end_labels}
 use Rattle.link_key.proofs.sequential.rounds.open_components.Goals as goal
 
 pub loop-link-init : goal.loop-link-init
@@ -19,8 +19,8 @@ loop-link-preserved g c =
     let len = l.invariant.len in
     let label : ℕ → ℕ = λ v. get_or c.args.labels.now v 0 in
     let now : Open = record { low = c.entry.result; high = c.entry-in-loop-link.result; rank = l.place } in
-    let here : (k : ℕ) (d : Link) → i ≡ k → now ≡ opened label k (get_or links k d) = λ k d is.
-    ap₂ (λ (low high : ℕ). record { low = low; high = high; rank = l.place }) c.entry.ensures c.entry-in-loop-link.ensures ∙ ap₂ (opened label) (place ∙ is) (c.link-item.is ∙ get_or_default links i x d c.loop-link-test.true ∙ ap (λ j. get_or links j d) is) in
+    let here : (k : ℕ) (d : Link) → i ≡ k → now ≡ with_end_labels label k (get_or links k d) = λ k d is.
+    ap₂ (λ (low high : ℕ). record { low = low; high = high; rank = l.place }) c.entry.ensures c.entry-in-loop-link.ensures ∙ ap₂ (with_end_labels label) (place ∙ is) (c.link-item.is ∙ get_or_default links i x d c.loop-link-test.true ∙ ap (λ j. get_or links j d) is) in
     rw c.push_reserved.ensures.items (record {
       place = ap (λ n. n + 1) place;
       len = search rules;

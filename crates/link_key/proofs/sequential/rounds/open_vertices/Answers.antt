@@ -2,7 +2,7 @@ use Rattle.std.proofs.Common.{rules, ◌≡◌, ℕ, ◌+◌, length, get_or, re
 use Rattle.std.proofs.lemmas.Bool.{cases_lt}
 use Rattle.std.proofs.lemmas.List.{get_or_push, get_or_append_left, get_or_default}
 use Rattle.links.specs.declared.links.Link.{Link}
-use Rattle.link_key.specs.OpenLinks.{opened}
+use Rattle.link_key.specs.OpenLinks.{with_end_labels}
 use Rattle.link_key.proofs.sequential.rounds.open_vertices.Goals as goal
 
 pub loop-link-init : goal.loop-link-init
@@ -16,7 +16,7 @@ loop-link-preserved g c =
     let x = c.link-item.result in
     let rank = l.invariant.rank in
     let len = l.invariant.len in
-    let here : (k : ℕ) (d : Link) → i ≡ k → opened (λ v. v) l.rank x ≡ opened (λ v. v) k (get_or links k d) = λ k d is. ap₂ (opened (λ v. v)) (rank ∙ is) (c.link-item.is ∙ get_or_default links i x d c.loop-link-test.true ∙ ap (λ j. get_or links j d) is) in
+    let here : (k : ℕ) (d : Link) → i ≡ k → with_end_labels (λ v. v) l.rank x ≡ with_end_labels (λ v. v) k (get_or links k d) = λ k d is. ap₂ (with_end_labels (λ v. v)) (rank ∙ is) (c.link-item.is ∙ get_or_default links i x d c.loop-link-test.true ∙ ap (λ j. get_or links j d) is) in
     rw c.push_reserved.ensures.items (record {
       rank = ap (λ n. n + 1) rank;
       len = search rules;

@@ -2,7 +2,7 @@ use Rattle.std.proofs.Common.{◌≡◌, ◌+◌, ◌*◌, ◌/◌, List, length
 use Rattle.std.proofs.lemmas.List.{length-replicate}
 use Rattle.round_theory.specs.Labelling.{IsVertex}
 use Rattle.shard_scans.specs.declared.live.LiveLink.{LiveLink}
-use Rattle.shard_scans.specs.declared.numbers.Word.{Word}
+use Rattle.shard_scans.specs.declared.numbers.MarkWord.{MarkWord}
 use Rattle.shard_scans.specs.Numbers.{no_marks}
 use Rattle.shard_scans.proofs.Written.{live_ends}
 use Rattle.shard_scans.proofs.scanning.Scanner.scan_and_list.Goals as goal
@@ -12,7 +12,7 @@ mark_each-requires g c =
     let live = c.in_ok-live.live.items in
     let labels = c.as_slice-labels.result.now in
     let ends = live_ends c.args.links.now labels live c.in_ok-live.ensures.live in
-    let words : length c.clear.new.self ≡ length labels / 64 + 1 = ap (λ (t : List Word). length t) c.in_ok-clear.ensures ∙ length-replicate (length labels / 64 + 1) no_marks in
+    let words : length c.clear.new.self ≡ length labels / 64 + 1 = ap (λ (t : List MarkWord). length t) c.in_ok-clear.ensures ∙ length-replicate (length labels / 64 + 1) no_marks in
     record {
       ends = subst (λ (t : List LiveLink). All (λ e. IsVertex (64 * length c.clear.new.self) e.low × IsVertex (64 * length c.clear.new.self) e.high) t) (sym c.as_slice.ensures.value)
           (λ k d lt. let at = ends k d lt in ((at.0.0, omega (arith, at.0.1, words)), (at.1.0, omega (arith, at.1.1, words))));

@@ -7,7 +7,7 @@ use Rattle.link_key.specs.OpenLinks.{LeadsOn}
 use Rattle.link_key.proofs.Composing.{stay_open, lead_on}
 use Rattle.link_key.proofs.Opened.{none_left, renamed_numbers}
 use Rattle.links.proofs.InPlace.{written}
-use Rattle.link_key.proofs.sequential.rounds.join.Goals as goal
+use Rattle.link_key.proofs.sequential.rounds.join_components.Goals as goal
 
 -- nothing is left, or fewer are
 shorter : (now before : ℕ) → 0 < before → (0 < now → now < before) → now < before

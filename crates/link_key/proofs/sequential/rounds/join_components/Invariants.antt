@@ -1,6 +1,6 @@
 use Rattle.std.proofs.Common.{◌≡◌, ◌+◌, ◌≤◌, length}
 use Rattle.link_key.specs.OpenLinks.{AreBetween, AreAllNumbers, StayOpen, LeadsOn}
-use Rattle.link_key.proofs.sequential.rounds.join.Given as goal
+use Rattle.link_key.proofs.sequential.rounds.join_components.Given as goal
 
 abbrev pub invariant-loop-alloc : goal.invariant-loop-alloc
 invariant-loop-alloc g l = record {
