@@ -19,6 +19,15 @@
 #include <stddef.h>
 #include <stdint.h>
 
+/* C before C99 has no `inline`. */
+#if defined __cplusplus || (defined __STDC_VERSION__ && __STDC_VERSION__ >= 199901L)
+#define BORUVKA_INLINE static inline
+#elif defined __GNUC__
+#define BORUVKA_INLINE static __inline__
+#else
+#define BORUVKA_INLINE static
+#endif
+
 #ifdef __cplusplus
 extern "C" {
 #endif
@@ -85,8 +94,8 @@ int64_t boruvka_places_in(uint32_t n, uint32_t base, const uint32_t *u, size_t u
                           const int64_t *w, size_t w_count, uint32_t *places, size_t room);
 
 /* The same for m arcs. `places` has room for m or n - 1 numbers, the less of the two. */
-static inline int64_t boruvka_places(uint32_t n, uint32_t base, const uint32_t *u, const uint32_t *v, const int64_t *w, size_t m,
-                                     uint32_t *places) {
+BORUVKA_INLINE int64_t boruvka_places(uint32_t n, uint32_t base, const uint32_t *u, const uint32_t *v, const int64_t *w, size_t m,
+                                      uint32_t *places) {
     const size_t most = n > 0 ? n - 1 : 0;
     return boruvka_places_in(n, base, u, m, v, m, w, m, places, m < most ? m : most);
 }
@@ -98,7 +107,7 @@ static inline int64_t boruvka_places(uint32_t n, uint32_t base, const uint32_t *
 int64_t boruvka_labels_in(const struct boruvka_link *links, size_t k, uint32_t *label, size_t n);
 
 /* The same, where `label` has room for n numbers. */
-static inline int64_t boruvka_labels(uint32_t n, const struct boruvka_link *links, size_t k, uint32_t *label) {
+BORUVKA_INLINE int64_t boruvka_labels(uint32_t n, const struct boruvka_link *links, size_t k, uint32_t *label) {
     return boruvka_labels_in(links, k, label, n);
 }
 
@@ -113,7 +122,7 @@ static inline int64_t boruvka_labels(uint32_t n, const struct boruvka_link *link
 int64_t boruvka_merges_in(uint32_t n, const struct boruvka_link *links, size_t k, struct boruvka_merge *merges, size_t room);
 
 /* The same, where `merges` has room for k. */
-static inline int64_t boruvka_merges(uint32_t n, const struct boruvka_link *links, size_t k, struct boruvka_merge *merges) {
+BORUVKA_INLINE int64_t boruvka_merges(uint32_t n, const struct boruvka_link *links, size_t k, struct boruvka_merge *merges) {
     return boruvka_merges_in(n, links, k, merges, k);
 }
 

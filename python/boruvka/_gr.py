@@ -152,12 +152,13 @@ def write_gr(path: str | os.PathLike[str], n: Any = None, u: Any = None, v: Any 
 
 def _text_of(path: str | os.PathLike[str]) -> bytes:
     with open(path, "rb") as file:
-        if file.peek(len(_GZIP))[: len(_GZIP)] != _GZIP:
-            return file.read()
-        try:
-            return gzip.GzipFile(fileobj=file).read()
-        except (EOFError, zlib.error, gzip.BadGzipFile) as error:
-            raise ValueError(f"{os.fsdecode(path)}: its compressed data is cut off or damaged: {error}") from None
+        text = file.read()
+    if not text.startswith(_GZIP):
+        return text
+    try:
+        return gzip.decompress(text)
+    except (EOFError, zlib.error, gzip.BadGzipFile) as error:
+        raise ValueError(f"{os.fsdecode(path)}: its compressed data is cut off or damaged: {error}") from None
 
 
 def _arcs(lines: bytes) -> NDArray[np.int64]:

@@ -332,7 +332,7 @@ def expect_no_rounding(y: Any, given: NDArray[Any], numbers: NDArray[np.float64]
         how = "take the least of each column off first" if given.ndim == 2 else "minimum_spanning_forest takes its pairs, and no double"
         raise ValueError(f"{name}[{', '.join(map(str, place))}] is {given[place]}, which a double would round: {how}")
     is_frame = hasattr(y, "iloc") and given.ndim == 2
-    if given.dtype.kind in "iu" or is_array(y) and not is_frame or not (np.abs(numbers) >= _EXACT).any():
+    if given.dtype.kind in "iu" or is_array(y) and given.dtype != object and not is_frame or not (np.abs(numbers) >= _EXACT).any():
         return
     if is_frame:
         # (its columns may have other dtypes than they have side by side)

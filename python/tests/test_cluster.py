@@ -186,6 +186,9 @@ class Estimators(unittest.TestCase):
             for made in (SingleLinkage(), HDBSCAN(2)):
                 with self.assertRaisesRegex(ValueError, r"^X\[1, 0\] is 9007199254740993, which a double would round: take the least"):
                     made.fit(points)
+        for made in (SingleLinkage(), HDBSCAN(2)):
+            with self.assertRaisesRegex(ValueError, r"^X\[1\]\[0\] is 9007199254740993, which numpy would round to"):
+                made.fit(np.array(apart, object))
         even = np.array(apart) // 2
         self.assertEqual(SingleLinkage(distance_threshold=0.5, n_clusters=None).fit_predict(even).tolist(), [0, 0, 1])
 

@@ -5,6 +5,8 @@ import os
 import random
 import struct
 import tempfile
+import threading
+import time
 import unittest
 
 import numpy as np
@@ -140,6 +142,24 @@ class Read(InFolder):
             for name in ("net.gr.gz", "net.gr"):
                 found = self.read(packed, name)
                 self.assertEqual([found.n, *(it.tolist() for it in found[1:])], [plain.n, *(it.tolist() for it in plain[1:])])
+
+    def test_a_pipe_that_gives_its_first_byte_alone(self):
+        text = self.data(f"{TOP}/examples/small.gr")
+        path = f"{self.folder}/pipe"
+        os.mkfifo(path)
+        for data in [text, gzip.compress(text)]:
+
+            def feed(data=data):
+                with open(path, "wb", buffering=0) as pipe:
+                    pipe.write(data[:1])
+                    time.sleep(0.2)
+                    pipe.write(data[1:])
+
+            writer = threading.Thread(target=feed)
+            writer.start()
+            found = boruvka.read_gr(path)
+            writer.join()
+            self.assertEqual((found.n, found.w.tolist()), (6, [17, 10, 2, 0, 0, 3, 0, 20]))
 
     def test_compressed_data_that_is_cut_off_or_damaged(self):
         whole = gzip.compress(self.data(f"{TOP}/examples/small.gr"))

@@ -250,7 +250,8 @@ def the_headers_stand_behind_macros_of_common_names(_room):
     before = ["algorithm", "cstddef", "cstdint", "span", "stdexcept", "string", "type_traits", "vector"]
     words = ["-Wall", "-Wextra", "-pedantic", "-Werror", INCLUDE, "-fsyntax-only", "-x"]
     for of, language, header, standard, earlier in [
-        *((it, "c", "boruvka.h", "-std=c99", []) for it in ("gcc", "clang")), *((it, "c++", "boruvka.hpp", "-std=c++20", before) for it in ("g++", "clang++")),
+        *((it, "c", "boruvka.h", f"-std={year}", []) for it in ("gcc", "clang") for year in ("c89", "c99", "c11")),
+        *((it, "c++", "boruvka.hpp", "-std=c++20", before) for it in ("g++", "clang++")),
     ]:
         if shutil.which(of):
             lines = [*(f"#include <{it}>" for it in earlier), *names, *[f"#include <{header}>"] * 2, "int main(void) { return 0; }", ""]
