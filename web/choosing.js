@@ -37,17 +37,21 @@ function showRoles(kind, header, roles) {
 
 // What is chosen, as columns.js has choices; null if the dialog is closed.
 export function askColumns({ rows, guess }) {
-  const header = guess.hasHeader ? rows[0] : rows[0].map((it, i) => `${i + 1}: ${it}`);
+  const namesOf = () => $('header').checked ? rows[0] : rows[0].map((it, i) => `${i + 1}: ${it}`);
+  const chosen = () => {
+    const kind = $('kind').value;
+    return { kind, roles: Object.fromEntries(Object.keys(ROLES[kind]).map(it => [it, Number($(`role-${it}`).value)])) };
+  };
+  const show = ({ kind, roles }) => showRoles(kind, namesOf(), roles);
   showSample(rows);
   $('kind').value = guess.kind;
-  showRoles(guess.kind, header, guess.roles);
-  $('kind').onchange = () => showRoles($('kind').value, header, {});
+  $('header').checked = guess.hasHeader;
+  show(guess);
+  $('kind').onchange = () => show({ kind: $('kind').value, roles: {} });
+  $('header').onchange = () => show(chosen());
   $('columns').returnValue = '';
   $('columns').showModal();
   return new Promise(done => {
-    $('columns').onclose = () => {
-      const kind = $('kind').value, roles = Object.fromEntries(Object.keys(ROLES[kind]).map(it => [it, Number($(`role-${it}`).value)]));
-      done($('columns').returnValue === 'take' ? { kind, roles, hasHeader: guess.hasHeader } : null);
-    };
+    $('columns').onclose = () => done($('columns').returnValue === 'take' ? { ...chosen(), hasHeader: $('header').checked } : null);
   });
 }

@@ -51,6 +51,14 @@ export function headerTold(header, { kind, roles }) {
   return kind === 'plane' && z !== undefined && !Object.values(roles).includes(z) ? [`The column ${header[z]} is left out: points lie on paper here.`] : [];
 }
 
+// What is to be said of points on paper whose numbers look like degrees: far from 0 for a drawing, near enough for the globe.
+export function degreesTold(data, { kind, roles: { across, up } }, commas) {
+  if (kind !== 'plane' || !data.some(row => /[.,]\d{4}/.test(row[across]))) return [];
+  const places = data.map(row => [across, up].map(it => Math.abs(numberOf(row[it], commas))));
+  const are = places.every(([x, y]) => x <= 180 && y <= 90) && places.some(it => Math.max(...it) > 10);
+  return are ? ['Points are read as places on paper. If these are degrees, call the columns lon and lat.'] : [];
+}
+
 // Whether a column that no word of a weight stands over may be one.
 const mayLackWeight = ({ kind, roles: { from, to, weight } }, numbers) => kind === 'links' && weight < 0 && numbers.some(it => it !== from && it !== to);
 

@@ -1,7 +1,7 @@
 // What a table says, row by row: points with their names, or links between names.
 
 import { Refusal } from './boruvka.js';
-import { chosenBy, hasComma, headerTold, numberOf } from './columns.js';
+import { chosenBy, degreesTold, hasComma, headerTold, numberOf } from './columns.js';
 import { Packer } from './names.js';
 import { fieldsOf, separatorOf } from './rows.js';
 
@@ -142,8 +142,8 @@ export async function readTable(source, choice) {
     const fields = reader.fields(row, line, count);
     if (!choice.hasHeader || line > head) table.take(fields, line);
   });
-  const notes = [...(choice.hasHeader ? headerTold(rows[0], choice) : []), ...reader.notes()];
-  return { ...table.all(notes), choice: { ...choice, separator, commas: Boolean(reader.comma) } };
+  const told = [...(choice.hasHeader ? headerTold(rows[0], choice) : []), ...degreesTold(rows.slice(choice.hasHeader ? 1 : 0), choice, reader.commas)];
+  return { ...table.all([...told, ...reader.notes()]), choice: { ...choice, separator, commas: Boolean(reader.comma) } };
 }
 
 // The table again, each row with one more field, as a file. `cell` answers that of each row of data.

@@ -215,6 +215,11 @@ def first_rows_that_are_guessed(_room):
         page.drop(("points.csv", text.encode()))
         is_so((text, page.text("notes")), (text, told))
         page.expect(points="2", total="5")
+    # degrees that aren't called so
+    for text, is_told in [("X,Y\n7.4474,46.9480\n8.5417,47.3769\n", True), ("7.4474,46.9480\n8.5417,47.3769\n", True), ("x;y\n7,4474;46,9480\n8,5417;47,3769\n", True),
+                          ("x,y\n0.4474,0.9480\n0.5417,0.3769\n", False), ("x,y\n7.44,46.94\n8.54,47.37\n", False), ("x,y\n7.4474,460.9480\n8.5417,47.3769\n", False)]:
+        page.drop(("points.csv", text.encode()))
+        is_so((text, "If these are degrees, call the columns lon and lat." in page.text("notes")), (text, is_told))
     # links between names: nothing tells the first from a header
     page.browser.run(DROP_SOON, [("links.csv", base64.b64encode(b"Bern,Rome\nRome,Oslo\n").decode())])
     page.browser.wait("document.getElementById('columns').open")
@@ -271,6 +276,16 @@ def columns_that_are_chosen(_room):
     page.browser.run("document.querySelector('#columns button[value=take]').click()")
     page.settle()
     page.expect(points="3", total="6")
+    # years over columns are no point, and a row of names alone may be a link
+    for text, is_header, points, total in [(b"town,2020,2021\na,0,0\nb,3,4\n", True, "2", "5"), (b"Bern,Rome\nRome,Oslo\n", False, "3", "2")]:
+        page.browser.run(DROP_SOON, [("table.csv", base64.b64encode(text).decode())])
+        page.browser.wait("document.getElementById('columns').open")
+        is_so(page.browser.run("return document.getElementById('header').checked"), not is_header)
+        page.browser.run("document.getElementById('header').click()")
+        page.keep("header")
+        page.browser.run("document.querySelector('#columns button[value=take]').click()")
+        page.settle()
+        page.expect(points=points, total=total)
     page.browser.run(DROP_SOON, [("table.csv", base64.b64encode(b"1,2,3\n").decode())])
     page.browser.wait("document.getElementById('columns').open")
     page.browser.press(ESCAPE)
