@@ -2,8 +2,10 @@
 // gathered in large buffers alone.
 use super::same::expect_same;
 use byte_streams::{Failed, FillFault, Gathered, PutFault, Sink, Source, Uncounted, fill, put};
+use std::alloc::Global;
 use std::io;
 use std::io::{ErrorKind, Read, Write};
+use std::process::Abort;
 
 // A reader whose first read is interrupted, and which then gives its bytes.
 #[derive(Drop)]
@@ -121,8 +123,8 @@ fn a_failed_flush_is_answered_and_takes_nothing(rt: HostRuntime) {
 }
 
 // The bytes of a text past the largest single read, each another than the one before.
-fn text_of(rt: &HostRuntime, size: usize) -> Vec<u8> {
-    let mut text = Vec::new(rt.alloc());
+fn text_of(rt: &impl Abort, alloc: Global, size: usize) -> Vec<u8> {
+    let mut text = Vec::new(alloc);
     for place in 0..size {
         text.push((place % 251) as u8).expect(rt, "memory");
     }
@@ -131,7 +133,7 @@ fn text_of(rt: &HostRuntime, size: usize) -> Vec<u8> {
 
 #[test]
 fn reads_into_a_large_buffer_are_gathered(rt: HostRuntime) {
-    let text = text_of(&rt, 150_000);
+    let text = text_of(&rt, rt.alloc(), 150_000);
     let mut source = Gathered::new(PiecewiseReader {
         bytes: text.as_slice(),
         piece: 30_000,
@@ -147,7 +149,7 @@ fn reads_into_a_large_buffer_are_gathered(rt: HostRuntime) {
 
 #[test]
 fn reads_into_a_small_buffer_are_not_gathered(rt: HostRuntime) {
-    let text = text_of(&rt, 150_000);
+    let text = text_of(&rt, rt.alloc(), 150_000);
     let mut source = Gathered::new(PiecewiseReader {
         bytes: text.as_slice(),
         piece: 30_000,
@@ -161,7 +163,7 @@ fn reads_into_a_small_buffer_are_not_gathered(rt: HostRuntime) {
 
 #[test]
 fn a_failure_among_gathered_reads_is_answered_behind_what_came(rt: HostRuntime) {
-    let text = text_of(&rt, 150_000);
+    let text = text_of(&rt, rt.alloc(), 150_000);
     let mut source = Gathered::new(PiecewiseReader {
         bytes: text.as_slice(),
         piece: 30_000,
@@ -178,7 +180,7 @@ fn a_failure_among_gathered_reads_is_answered_behind_what_came(rt: HostRuntime) 
 
 #[test]
 fn a_failure_of_the_first_gathered_read_is_answered_at_once(rt: HostRuntime) {
-    let text = text_of(&rt, 70_000);
+    let text = text_of(&rt, rt.alloc(), 70_000);
     let mut source = Gathered::new(PiecewiseReader {
         bytes: text.as_slice(),
         piece: 65_536,
