@@ -203,13 +203,15 @@ def started_by(room, file, text, workers, shards, processors):
 
 @case
 def a_list_halved_three_times(room):
-    # on eight processors a scan of all of them is by eight threads, one of which was there
+    # on eight processors a scan of all of them is by eight threads, one of which was there, and so is the reading of what is
+    # behind the first MiB, by 4 MiB
     file, text = forty_times(13, 600, 30_000)
+    pieces = -(-(len(file) - (1 << 20)) // (1 << 22))
     for workers, shards in [(0, 1), (1, 1)]:
         report, told = started_by(room, file, text, workers, shards, 8)
         # each round scans all of them without a worker, the last one too, which takes none; a worker scans so in the first
         own, others = told.count(b"w"), told.count(b"s")
-        if own < 7 if workers else others != 7 * (report.rounds + 1):
+        if own < 7 if workers else others != 7 * (pieces + report.rounds + 1):
             raise AssertionError(f"{workers} workers: told {told!r}: {vars(report)}")
 
 
@@ -222,6 +224,16 @@ def a_scan_has_no_more_threads_than_processors(room):
         most = told.count(b"a")
         if most > workers + processors - 1 or processors > 1 and most < workers + 1:
             raise AssertionError(f"{processors} processors, {workers} workers: {most} threads at once: told {told!r}")
+
+
+@case
+def a_round_starts_few_threads(room):
+    # a step of a round shares all answers among four: no answer has threads of its own, unless it is very long
+    file, text = drawn_graph(31, 120_000, 400_000)
+    for shards in [2, 16, 64]:
+        report, told = started_by(room, file, text, 2, shards, 4)
+        if not report.rounds < told.count(b"s") <= 8 * (report.rounds + 1):
+            raise AssertionError(f"{shards} shards: {report.rounds} rounds, told {told!r}")
 
 
 @case
