@@ -122,7 +122,7 @@ fn a_failed_flush_is_answered_and_takes_nothing(rt: HostRuntime) {
     expect_same(&rt, sink.0.taken.as_slice(), b"p sp".as_slice());
 }
 
-// The bytes of a text past the largest single read, each another than the one before.
+// So many bytes, each another than the one before.
 fn text_of(rt: &impl Abort, alloc: Global, size: usize) -> Vec<u8> {
     let mut text = Vec::new(alloc);
     for place in 0..size {
@@ -131,63 +131,88 @@ fn text_of(rt: &impl Abort, alloc: Global, size: usize) -> Vec<u8> {
     text
 }
 
+// The next read gives these many bytes, which are those of the text from this place on.
+fn expect_next(
+    rt: &impl Abort,
+    source: &mut Gathered<PiecewiseReader>,
+    room: &mut [u8],
+    text: &[u8],
+    at: usize,
+    count: usize,
+) {
+    assert!(rt; !room.is_empty());
+    expect_same(rt, source.read(room), Ok(count));
+    assert!(rt; count <= room.len());
+    assert!(rt; at <= text.len());
+    assert!(rt; count <= text.len() - at);
+    expect_same(rt, room[..count] == text[at..at + count], true);
+}
+
+fn expect_failure(rt: &impl Abort, source: &mut Gathered<PiecewiseReader>, room: &mut [u8]) {
+    assert!(rt; !room.is_empty());
+    expect_same(rt, source.read(room), Err(Failed));
+}
+
 #[test]
 fn reads_into_a_large_buffer_are_gathered(rt: HostRuntime) {
     let text = text_of(&rt, rt.alloc(), 150_000);
+    let text = text.as_slice();
     let mut source = Gathered::new(PiecewiseReader {
-        bytes: text.as_slice(),
+        bytes: text,
         piece: 30_000,
         reads_before: 100,
     });
-    let mut buf = vec![in rt.alloc(); 0; 100_000].expect(&rt, "memory");
-    expect_same(&rt, source.read(buf.as_mut_slice()), Ok(100_000));
-    expect_same(&rt, buf.as_slice(), &text[..100_000]);
-    expect_same(&rt, source.read(buf.as_mut_slice()), Ok(50_000));
-    expect_same(&rt, &buf[..50_000], &text[100_000..]);
-    expect_same(&rt, source.read(buf.as_mut_slice()), Ok(0));
+    let mut room = text_of(&rt, rt.alloc(), 100_000);
+    let room = room.as_mut_slice();
+    expect_next(&rt, &mut source, room, text, 0, 100_000);
+    expect_next(&rt, &mut source, room, text, 100_000, 50_000);
+    expect_next(&rt, &mut source, room, text, 150_000, 0);
 }
 
 #[test]
 fn reads_into_a_small_buffer_are_not_gathered(rt: HostRuntime) {
     let text = text_of(&rt, rt.alloc(), 150_000);
+    let text = text.as_slice();
     let mut source = Gathered::new(PiecewiseReader {
-        bytes: text.as_slice(),
+        bytes: text,
         piece: 30_000,
         reads_before: 100,
     });
-    let mut buf = vec![in rt.alloc(); 0; 65_537].expect(&rt, "memory");
-    expect_same(&rt, source.read(&mut buf[..65_536]), Ok(30_000));
-    expect_same(&rt, source.read(buf.as_mut_slice()), Ok(65_537));
-    expect_same(&rt, buf.as_slice(), &text[30_000..95_537]);
+    let mut small = text_of(&rt, rt.alloc(), 65_536);
+    let mut large = text_of(&rt, rt.alloc(), 65_537);
+    expect_next(&rt, &mut source, small.as_mut_slice(), text, 0, 30_000);
+    expect_next(&rt, &mut source, large.as_mut_slice(), text, 30_000, 65_537);
+    expect_next(&rt, &mut source, small.as_mut_slice(), text, 95_537, 30_000);
 }
 
 #[test]
 fn a_failure_among_gathered_reads_is_answered_behind_what_came(rt: HostRuntime) {
     let text = text_of(&rt, rt.alloc(), 150_000);
+    let text = text.as_slice();
     let mut source = Gathered::new(PiecewiseReader {
-        bytes: text.as_slice(),
+        bytes: text,
         piece: 30_000,
         reads_before: 2,
     });
-    let mut buf = vec![in rt.alloc(); 0; 100_000].expect(&rt, "memory");
-    expect_same(&rt, source.read(buf.as_mut_slice()), Ok(60_000));
-    expect_same(&rt, &buf[..60_000], &text[..60_000]);
-    expect_same(&rt, source.read(buf.as_mut_slice()), Err(Failed));
-    expect_same(&rt, source.read(buf.as_mut_slice()), Ok(90_000));
-    expect_same(&rt, &buf[..90_000], &text[60_000..]);
-    expect_same(&rt, source.read(buf.as_mut_slice()), Ok(0));
+    let mut room = text_of(&rt, rt.alloc(), 100_000);
+    let room = room.as_mut_slice();
+    expect_next(&rt, &mut source, room, text, 0, 60_000);
+    expect_failure(&rt, &mut source, room);
+    expect_next(&rt, &mut source, room, text, 60_000, 90_000);
+    expect_next(&rt, &mut source, room, text, 150_000, 0);
 }
 
 #[test]
 fn a_failure_of_the_first_gathered_read_is_answered_at_once(rt: HostRuntime) {
     let text = text_of(&rt, rt.alloc(), 70_000);
+    let text = text.as_slice();
     let mut source = Gathered::new(PiecewiseReader {
-        bytes: text.as_slice(),
+        bytes: text,
         piece: 65_536,
         reads_before: 0,
     });
-    let mut buf = vec![in rt.alloc(); 0; 70_000].expect(&rt, "memory");
-    expect_same(&rt, source.read(buf.as_mut_slice()), Err(Failed));
-    expect_same(&rt, source.read(buf.as_mut_slice()), Ok(70_000));
-    expect_same(&rt, buf.as_slice(), text.as_slice());
+    let mut room = text_of(&rt, rt.alloc(), 70_000);
+    let room = room.as_mut_slice();
+    expect_failure(&rt, &mut source, room);
+    expect_next(&rt, &mut source, room, text, 0, 70_000);
 }
