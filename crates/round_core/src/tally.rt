@@ -69,7 +69,7 @@ fn are_counted<R: Threads + Sync, A: Allocator + Copy + Send + Sync>(
     requires each_vertex { length numbers.now ≡ length labels.now }
     ensures { IsTrue result ↔ AreCountedIn labels.now numbers.now (all_named cut.now answers.now) }
 {
-    answers.par_iter().all(
+    answers.par_iter().with_min_len(1).all(
         rt,
         |answer: &Answer<A>| -> bool
             requires { CanCount cut.now labels.now (answer.now ∷ []) × (length numbers.now ≡ length labels.now) }
