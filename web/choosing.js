@@ -24,7 +24,7 @@ function showSample(rows) {
 }
 
 // A select for each role of the kind.
-function showRoles(kind, header, roles) {
+function showRoles({ kind, roles }, header) {
   $('roles').replaceChildren(...Object.entries(ROLES[kind]).map(([role, told], i) => {
     const label = element('label', told), select = element('select', '', { id: `role-${role}` });
     const names = header.map((it, place) => element('option', it.slice(0, 30), { value: String(place) }));
@@ -37,21 +37,20 @@ function showRoles(kind, header, roles) {
 
 // What is chosen, as columns.js has choices; null if the dialog is closed.
 export function askColumns({ rows, guess }) {
-  const namesOf = () => $('header').checked ? rows[0] : rows[0].map((it, i) => `${i + 1}: ${it}`);
+  const names = () => $('header').checked ? rows[0] : rows[0].map((it, i) => `${i + 1}: ${it}`);
   const chosen = () => {
-    const kind = $('kind').value;
-    return { kind, roles: Object.fromEntries(Object.keys(ROLES[kind]).map(it => [it, Number($(`role-${it}`).value)])) };
+    const kind = $('kind').value, roles = Object.fromEntries(Object.keys(ROLES[kind]).map(it => [it, Number($(`role-${it}`).value)]));
+    return { kind, roles, hasHeader: $('header').checked };
   };
-  const show = ({ kind, roles }) => showRoles(kind, namesOf(), roles);
   showSample(rows);
   $('kind').value = guess.kind;
   $('header').checked = guess.hasHeader;
-  show(guess);
-  $('kind').onchange = () => show({ kind: $('kind').value, roles: {} });
-  $('header').onchange = () => show(chosen());
+  showRoles(guess, names());
+  $('kind').onchange = () => showRoles({ kind: $('kind').value, roles: {} }, names());
+  $('header').onchange = () => showRoles(chosen(), names());
   $('columns').returnValue = '';
   $('columns').showModal();
   return new Promise(done => {
-    $('columns').onclose = () => done($('columns').returnValue === 'take' ? { ...chosen(), hasHeader: $('header').checked } : null);
+    $('columns').onclose = () => done($('columns').returnValue === 'take' ? chosen() : null);
   });
 }

@@ -54,9 +54,8 @@ export function headerTold(header, { kind, roles }) {
 // What is to be said of points on paper whose numbers look like degrees: far from 0 for a drawing, near enough for the globe.
 export function degreesTold(data, { kind, roles: { across, up } }, commas) {
   if (kind !== 'plane' || !data.some(row => /[.,]\d{4}/.test(row[across]))) return [];
-  const places = data.map(row => [across, up].map(it => Math.abs(numberOf(row[it], commas))));
-  const are = places.every(([x, y]) => x <= 180 && y <= 90) && places.some(it => Math.max(...it) > 10);
-  return are ? ['Points are read as places on paper. If these are degrees, call the columns lon and lat.'] : [];
+  const all = data.map(row => [across, up].map(it => Math.abs(numberOf(row[it], commas))));
+  return all.every(([x, y]) => x <= 180 && y <= 90) && all.flat().some(it => it > 10) ? ['If these are degrees, call the columns lon and lat.'] : [];
 }
 
 // Whether a column that no word of a weight stands over may be one.
