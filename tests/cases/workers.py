@@ -232,7 +232,7 @@ def a_round_starts_few_threads(room):
     file, text = drawn_graph(31, 120_000, 400_000)
     for shards in [2, 16, 64]:
         report, told = started_by(room, file, text, 2, shards, 4)
-        if not report.rounds < told.count(b"s") <= 8 * (report.rounds + 1):
+        if not report.rounds < told.count(b"s") <= 11 * (report.rounds + 1):
             raise AssertionError(f"{shards} shards: {report.rounds} rounds, told {told!r}")
 
 
