@@ -10,32 +10,26 @@ COMMENT = b"c" + 998 * b"." + b"\n"
 # 40 million bytes, and a little more
 LONG_NET = 40_000 * COMMENT + SMALL_NET
 TOLD = b"read 16 MB\rread 32 MB\rread 40 MB\n"
-LATE = rb"read 1[6-9] MB\rread 3[2-5] MB\rread 40 MB\n"
-BY_THREADS = [["--plain", "--threads", "4"], ["--workers", "0"], ["--workers", "2", "--shards", "2"]]
-MODES = [["--plain"], *BY_THREADS]
-
-
-def expect_so_much(found, status, output, errors):
-    """What was found, told beside steps that may be up to 4 MiB late, as threads read so much at a time."""
-    expect((*found[:2], b""), status, output, b"")
-    if not re.fullmatch(errors, found[2]):
-        raise AssertionError(f"wanted {errors!r}, found {found[2]!r}")
+MODES = [["--plain"], ["--workers", "0"], ["--workers", "2", "--shards", "2"]]
 
 
 @case
 def how_much_was_read_of_a_pipe(_room):
-    expect(ran(["--plain", "--progress"], LONG_NET), 0, SMALL_FOREST, TOLD)
+    for words in MODES:
+        expect(ran([*words, "--progress"], LONG_NET), 0, SMALL_FOREST, TOLD)
     expect(ran(["--progress", "--plain", "--report"], LONG_NET), 0, SMALL_FOREST, TOLD + SMALL_REPORT)
-    for words in BY_THREADS:
-        expect_so_much(ran([*words, "--progress"], LONG_NET), 0, SMALL_FOREST, LATE)
 
 
 @case
 def how_much_was_read_of_a_file(room):
     name = written(f"{room}/long.gr", LONG_NET)
     expect(ran(["--plain", "--progress", name]), 0, SMALL_FOREST, TOLD)
-    for words in BY_THREADS:
-        expect_so_much(ran([*words, "--progress", name]), 0, SMALL_FOREST, LATE)
+    # threads read more at a time, and so do runs over workers
+    for words in [["--plain", "--threads", "4"], *MODES[1:]]:
+        status, output, errors = ran([*words, "--progress", name])
+        if not re.fullmatch(rb"read 1[6-9] MB\rread 3[2-9] MB\rread 40 MB\n", errors):
+            raise AssertionError(f"{words}: {errors!r}")
+        expect((status, output, b""), 0, SMALL_FOREST, b"")
 
 
 @case
@@ -52,9 +46,9 @@ def nothing_is_told_unasked_or_of_a_short_file(_room):
 @case
 def a_fault_is_told_over_what_was_read(_room):
     malformed = 20_000 * COMMENT + b"x\n" + SMALL_NET
-    expect(ran(["--plain", "--progress"], malformed), 1, b"", b"read 16 MB\rboruvka: line 20001: UnknownLine\n")
-    for words in BY_THREADS:
-        expect_so_much(ran([*words, "--progress"], malformed), 1, b"", rb"read 1[6-9] MB\rboruvka: line 20001: UnknownLine\n")
+    for words in MODES:
+        told = b"read 16 MB\rboruvka: line 20001: UnknownLine\n"
+        expect(ran([*words, "--progress"], malformed), 1, b"", told)
 
 
 @case

@@ -209,7 +209,6 @@ def by_threads_reads_of_more_and_one_write_for_each_8192_links(room):
     for words, processors in [(["--plain", "--threads", "2"], "1"), (MODES[1], "2")]:
         found, told = told_by(room, [Program.path, *words, name], b"", {"COUNTED": "1", "PROCESSORS": processors})
         expect(found, 0, text, b"")
-        # the first MiB is read as by one thread, and the rest by one read: a second finds no more of it, and a third the end;
-        # the text's first line is a write of its own
-        if told != b"R" * -(-(1 << 20) // READ_ROOM) + b"rrr" + b"w" * (1 + -(-links // 8192)):
+        # the first MiB is read as by one thread, and the rest by one read; the text's first line is a write of its own
+        if told != b"R" * -(-(1 << 20) // READ_ROOM) + b"rr" + b"w" * (1 + -(-links // 8192)):
             raise AssertionError(f"{words}: {len(file)} bytes in, {links} links out: {told!r:.600}")

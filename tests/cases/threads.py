@@ -101,7 +101,7 @@ def cut(text, most, rng):
 
 @case
 def pipes_by_threads(_room):
-    # a pipe gives what was written to it so far: threads share many such pieces, wherever they are cut
+    # a pipe gives what was written to it so far, wherever that is cut
     file, text = drawn()
     lines = file.splitlines(keepends=True)
     rng = random.Random(7)
@@ -131,16 +131,16 @@ def reads_that_fail_behind_what_threads_share(room):
     name, faulty = written(f"{room}/good.gr", file), written(f"{room}/faulty.gr", file[:-1] + b" 0\n")
     at_front, at_end = b"boruvka: line %d: read failed\n" % front, b"boruvka: line %d: read failed\n" % behind
     fault = b"boruvka: line %d: BadArc\n" % (behind - 1)
-    wanted = {name: {17: (3, at_front), 18: (3, at_end), 19: (3, at_end)}, faulty: {17: (3, at_front), 18: (1, fault)}}
+    wanted = {name: {17: (3, at_front, b"x"), 18: (3, at_end, b"x")}, faulty: {17: (3, at_front, b"x"), 18: (1, fault, b"")}}
     for threads in [2, 4]:
         for it, ends in wanted.items():
-            for number, (status, errors) in ends.items():
+            for number, (status, errors, failed) in ends.items():
                 environment = {"FAIL_CALL": "read", "FAIL_NUMBER": str(number)}
                 for words in [[*by(threads), it], by(threads)]:
                     with open(it, "rb") as source:
                         found, told = told_by(room, [Program.path, *words], source, environment)
                     expect(found, status, b"", errors)
-                    if told != b"x":
+                    if told != failed:
                         raise AssertionError(f"read {number}: told {told!r}")
 
 

@@ -22,7 +22,7 @@ use crate::ends::write_end;
 use crate::joined::run_joined;
 use crate::progress::{Told, Watched};
 use crate::standard::{StandardStreams, workers_beside};
-use byte_streams::{Gathered, Sink, Source, put};
+use byte_streams::{Sink, Source, Uncounted, put};
 use forest_run::{Cutting, Report, RunFault, run_lines, run_plain, run_threads};
 use program_words::{
     DEVICE, MEMORY, Options, OptionsFault, USAGE, options, write_fault, write_no_text, write_text,
@@ -271,7 +271,7 @@ where
         errors,
     } = io;
     let from_file = StandardStreams {
-        input: &mut Gathered::new(file),
+        input: &mut Uncounted(file),
         output,
         errors,
     };

@@ -11,7 +11,7 @@ ghost use Rattle.boruvka.specs.Streams.{AreReady, OnLeft, OnStreams, left_input}
 use crate::ends::write_end;
 use crate::progress::{Told, Watched};
 use crate::standard::StandardStreams;
-use byte_streams::{Gathered, Sink, Source};
+use byte_streams::{Sink, Source, Uncounted};
 use plain_run::{Crew, ManyThreads, PartFault, Parts};
 use program_words::{DEVICE, Options, status_of_part, write_part_fault, write_unopened};
 use std::alloc::{Alloc, Global};
@@ -77,7 +77,7 @@ fn add_file<R: Files<File = File>, C: Crew, I: Source, P: Sink>(
 {
     match file {
         Some(name) => match File::open(rt, name) {
-            Ok(file) => add_source(crew, parts, &mut Gathered::new(file), progress, told),
+            Ok(file) => add_source(crew, parts, &mut Uncounted(file), progress, told),
             Err(_) => Err(JoinFault::Unopened),
         },
         None => {

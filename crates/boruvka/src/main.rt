@@ -29,7 +29,6 @@ mod standard;
 #[cfg(test)]
 mod tests;
 
-use byte_streams::Gathered;
 use std::process::ExitCode;
 use std::{env, io};
 
@@ -43,7 +42,7 @@ fn main(rt: HostRuntime) -> ExitCode {
         Ok(words) => command::command(
             &rt,
             words.as_slice(),
-            &mut Gathered::new(rt.stdin()),
+            &mut rt.stdin(),
             &mut rt.stdout(),
             &mut errors,
             &mut rt.stderr(),

@@ -2,11 +2,10 @@
 //! counts the failures of a device, so of these none is known; nor does std say a device's bytes. So no clause sees
 //! that a device is called once, nor that its failure isn't answered as its end. That is tested: of [`Uncounted`] by
 //! readers and writers that fail once, of the others over the built program.
-ghost use Rattle.std.specs.Prelude.{◌≡◌, ◌<◌, length, None};
+ghost use Rattle.std.specs.Prelude.{◌<◌, length, None};
 ghost use Rattle.std.specs.Io.{ReadsAtMost, WritesAtMost};
 ghost use Rattle.byte_streams.specs.Streams.{only_left, only_held, ReadGave, WriteTook, FlushTook};
 
-use crate::transfer::{FillFault, fill};
 use crate::{Failed, Sink, Source};
 use std::fs::File;
 use std::io::{Read, Stderr, Stdin, Stdout, Write};
@@ -60,56 +59,6 @@ impl<W: Write> Sink for Uncounted<W> {
 
     fn flush(&mut self) -> Result<(), Failed> {
         flush_of(&mut self.0)
-    }
-}
-
-/// A reader of std whose reads into more than 64 KiB are gathered, as a pipe gives no more at once.
-///
-/// Such a read goes on until the buffer is full, the stream ends or a read fails. What came by then is given, and the
-/// failure is answered by the next call. Of it the bytes are known that std says, and no failures.
-#[derive(Debug, Drop)]
-pub struct Gathered<T> {
-    reader: Uncounted<T>,
-    has_failed: bool,
-}
-
-// Into so many bytes or fewer one read goes.
-const ONE_READ: usize = 65_536;
-
-impl<R: Read> Gathered<R> {
-    /// The reader, of which nothing was read yet.
-    pub fn new(reader: R) -> Self
-        ensures { result.reader.0 ≡ reader }
-    {
-        Gathered {
-            reader: Uncounted(reader),
-            has_failed: false,
-        }
-    }
-}
-
-impl<R: Read> Source for Gathered<R> {
-    ghost state = { λ g. only_left (R.remaining g.reader.0) };
-
-    ghost lasts = { λ _ _. Unit {0} };
-
-    fn read(&mut self, buf: &mut [u8]) -> Result<usize, Failed> {
-        if self.has_failed {
-            self.has_failed = false;
-            return Err(Failed);
-        }
-        if buf.len() <= ONE_READ {
-            return self.reader.read(buf);
-        }
-        match fill(&mut self.reader, buf) {
-            Ok(()) => Ok(buf.len()),
-            Err(FillFault::Ended(n)) => Ok(n),
-            Err(FillFault::Failed(0)) => Err(Failed),
-            Err(FillFault::Failed(n)) => {
-                self.has_failed = true;
-                Ok(n)
-            }
-        }
     }
 }
 

@@ -14,7 +14,6 @@
 //! - [`fill`] fills a buffer with the next bytes, or says whether a read failed or the stream ended, and after how many.
 //! - [`put`] writes a text, or says how many of its bytes went out; it stops only where a write failed or took nothing.
 //! - [`FusedSource`] and [`FusedSink`], which fail at a chosen byte, are known whole; of a device nothing is known.
-//! - [`Gathered`] fills large buffers from a pipe, which gives 64 KiB at once.
 //! - A flush that ends well leaves no byte waiting, where it is known which do, as of a [`BufferedSink`].
 //!
 //! Where to start a change: `specs/Streams` for what is known of a stream and what a call does to it, with the traits in
@@ -27,7 +26,7 @@ mod memory;
 mod traits;
 mod transfer;
 
-pub use devices::{Gathered, Uncounted};
+pub use devices::Uncounted;
 pub use fused::{FusedSink, FusedSource};
 pub use memory::BufferedSink;
 pub use traits::{Failed, Sink, Source};
