@@ -100,7 +100,7 @@ def pc(name, prefix, libdir, includedir):
 def cmake(name, prefix, libdir, includedir):
     """A file by which CMake finds the libraries, from LIBDIR/cmake/boruvka on."""
     can_move = all(place(it, prefix).startswith("${prefix}") for it in (libdir, includedir))
-    near = f"${{CMAKE_CURRENT_LIST_DIR}}/{os.path.relpath(includedir, f'{libdir}/cmake/boruvka')}"
+    near = os.path.relpath(includedir, f"{libdir}/cmake/boruvka")
     return stamped(f"include/{name}.in", {"INCLUDE": near if can_move else os.path.abspath(includedir)})
 
 
