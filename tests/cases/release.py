@@ -315,7 +315,10 @@ def cmake_finds_the_libraries(room):
     for asked in (later, "0.9", f"{major()}.999", f"{major()}.0...<{version()}", f"{major()}.0...{major()}.0.5"):
         status, _, errors = configured(asked)
         is_so((asked, status != 0, b"boruvka" in errors), (asked, True, True))
-    for asked in ("", major(), version(), f"{version()} EXACT"):
+    for asked in ("COMPONENTS openmp", "COMPONENTS within openmp"):
+        status, _, errors = configured(asked)
+        is_so((asked, status != 0, b"no openmp" in errors), (asked, True, True))
+    for asked in ("", major(), version(), f"{version()} EXACT", "COMPONENTS static within OPTIONAL_COMPONENTS openmp"):
         status, _, errors = configured(asked)
         is_so((asked, status, errors), (asked, 0, b""))
     is_so(run(["cmake", "--build", f"{room}/made"], env=PLAIN, seconds=120)[0], 0)
