@@ -152,6 +152,24 @@ def ways_between_what_is_no_vertex(room):
 
 
 @case
+def forests_that_were_cut_off(room):
+    """A run that ends while it writes leaves a part of a forest, or nothing: no cluster and no missing way is told of that."""
+    for room in awk_rooms(room):
+        recipe(room, "Clusters")
+        recipe(room, "A bottleneck")
+        clusters, way = "awk -v clusters=2 -f clusters.awk", "awk -v start=1 -v goal=8 -f bottleneck.awk"
+        for lines, told in [(0, ""), (1, "the forest is cut off\n"), (4, "the forest is cut off\n"), (8, "the forest is cut off\n")]:
+            for command in (clusters, way):
+                found = pasted(room, f"boruvka --plain examples/roads.gr > forest.gr && head -n {lines} forest.gr | {command}")
+                if found != (1, told):
+                    raise AssertionError(f"{lines} lines, {command}: {found!r:.600}")
+        # a way that was found before the cut is that of the whole forest
+        found = pasted(room, "head -n 4 forest.gr | awk -v start=1 -v goal=3 -f bottleneck.awk")
+        if found != (0, "3\n"):
+            raise AssertionError(f"{found!r:.600}")
+
+
+@case
 def counts_that_the_recipes_refuse(room):
     """A count that is mistyped or missing has no answer: neither other clusters, nor weights whose point has moved."""
     for room in awk_rooms(room):
