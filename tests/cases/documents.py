@@ -253,6 +253,13 @@ def decimals_that_no_float_tells_apart(room):
         wanted = "p sp 5 4\na 2 3 -92233720368547758.08\na 4 5 -0.01\na 1 2 90071992547409.92\na 3 4 92233720368547758.07\n"
         if pasted(room, command) != (0, wanted):
             raise AssertionError(f"wanted {wanted}\n    found  {pasted(room, command)}")
+        # without digits after a point there is none, as the recipe itself asks of a weight
+        with open(f"{room}/decimals.gr", "w", encoding="utf-8") as it:
+            it.write("p sp 3 2\na 1 2 0\na 2 3 -70\n")
+        for digits in ["0", "00"]:
+            found = pasted(room, command.replace("digits=2", f"digits={digits}"))
+            if found != (0, "p sp 3 2\na 2 3 -70\na 1 2 0\n"):
+                raise AssertionError(f"{digits} digits: {found!r:.600}")
         # past 64 bits it is the program that refuses, and tells the same line
         with open(f"{room}/decimals.gr", "w", encoding="utf-8") as it:
             it.write("c a line more\np sp 2 1\na 1 2 92233720368547758.08\n")
