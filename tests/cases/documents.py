@@ -313,9 +313,9 @@ def names_in_files_of_others(room):
 @case
 def the_links_that_a_picture_draws_black(room):
     """They are the forest's, however the file spells them: by hand."""
-    net = [("1", "2", "9007199254740993"), ("1", "02", "9007199254740992"), ("3", "2", "-007"), ("3", "3", "5"), ("9", "10", "05")]
+    net = [("1", "2", "9007199254740993"), ("1", "02", "9007199254740992"), ("3", "2", "-007"), ("3", "3", "5"), ("9", "10", "05"), ("10", "9", "5")]
     black = ["1 -- 2 [label=9007199254740992", "2 -- 3 [label=-7", "9 -- 10 [label=5"]
-    grey = ["1 -- 2 [label=9007199254740993", "3 -- 3 [label=5"]
+    grey = ["1 -- 2 [label=9007199254740993", "3 -- 3 [label=5", "9 -- 10 [label=5"]
     draw = blocks_of("docs/RECIPES.md", "A picture")[0][1]
     for room in awk_rooms(room):
         pasted(room, draw)
