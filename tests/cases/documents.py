@@ -229,6 +229,10 @@ def lines_that_the_recipe_of_a_csv_refuses(room):
             (["id;from;to;metres", "p1;Old Mill;Gate;1"], 1),
         ]:
             expect_refused(room, plain, "pipes.csv", rows, line, rows[line - 1])
+        # with semicolons in place of commas
+        semicolons = plain.replace("-F ,", "-F ';'")
+        for row in ['p1;"Old Mill";Gate;1', "p\t1;Old Mill;Gate;1"]:
+            expect_refused(room, semicolons, "pipes.csv", [head.replace(",", ";"), "p0;Old Mill;Gate;2", row], 3, row)
         # (csv takes a quote behind a space for a part of the field)
         for row, told in [('p1, "Old Mill",Gate,1', 'p1\t "Old Mill"\tGate\t1'), ('p1,"Old Mill","Gate ",1', "p1\tOld Mill\tGate \t1")]:
             expect_refused(room, quoted, "quoted.csv", [head, row], 2, told)
