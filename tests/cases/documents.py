@@ -41,7 +41,7 @@ def shown(language, block):
     return [(f"{command}\n", output) for command, _, output in commands]
 
 
-def pasted(room, command):
+def pasted(room, command, shell="sh"):
     """What a command of a page does in a copy of the repository's top that has the examples alone: its status, and what it
     writes to either stream."""
     if not os.path.isdir(f"{room}/examples"):
@@ -49,20 +49,20 @@ def pasted(room, command):
         os.makedirs(f"{room}/bin", exist_ok=True)
         os.symlink(Program.path, f"{room}/bin/boruvka")
     env = {**os.environ, "PATH": f"{room}/bin:{os.environ['PATH']}", "LC_ALL": "C"}
-    ended = subprocess.run(["sh", "-c", command], cwd=room, env=env, stdin=subprocess.DEVNULL, stdout=subprocess.PIPE, stderr=subprocess.STDOUT, timeout=SECONDS)
+    ended = subprocess.run([shell, "-c", command], cwd=room, env=env, stdin=subprocess.DEVNULL, stdout=subprocess.PIPE, stderr=subprocess.STDOUT, timeout=SECONDS)
     return ended.returncode, ended.stdout.decode()
 
 
-def expect_shown(room, blocks):
+def expect_shown(room, blocks, shell="sh"):
     """Runs each command of the blocks, in their order."""
     count = 0
     for language, block in blocks:
         for command, output in shown(language, block):
             if command.startswith("dot ") and not shutil.which("dot"):
                 continue
-            found = pasted(room, command)
+            found = pasted(room, command, shell)
             if found != (0, output):
-                raise AssertionError(f"{command}    wanted {(0, output)!r}\n    found  {found!r:.900}")
+                raise AssertionError(f"{shell}: {command}    wanted {(0, output)!r}\n    found  {found!r:.900}")
             count += 1
     return count
 
@@ -104,6 +104,13 @@ def the_recipes(room):
         left = sorted(os.listdir(room)), sorted(os.listdir(f"{room}/examples"))
         if left != (["bin", "examples"], sorted(os.listdir(f"{ROOT}/examples"))):
             raise AssertionError(f"the recipes leave {left}")
+
+
+@case
+def the_recipes_in_other_shells(room):
+    """In zsh what has both a file and a pipe goes to either."""
+    for shell in filter(shutil.which, ["bash", "zsh"]):
+        expect_shown(f"{room}/{shell}", blocks_of("docs/RECIPES.md"), shell)
 
 
 @case
