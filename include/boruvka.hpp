@@ -98,7 +98,7 @@ template <class T> T refuse(std::int64_t code) { throw refused(code); }
 [[nodiscard]] inline answer<std::vector<std::uint32_t>> labels(std::uint64_t n, std::span<const boruvka_link> links) {
     if (n > BORUVKA_MAX_VERTICES) return refuse<std::vector<std::uint32_t>>(BORUVKA_TOO_MANY_VERTICES);
     std::vector<std::uint32_t> found(n);
-    const std::int64_t count = boruvka_labels(of_32_bits(n), first_of(links), links.size(), first_of(std::span(found)));
+    const std::int64_t count = boruvka_labels_in(first_of(links), links.size(), first_of(std::span(found)), found.size());
     if (count < 0) return refuse<std::vector<std::uint32_t>>(count);
     return found;
 }
@@ -107,7 +107,7 @@ template <class T> T refuse(std::int64_t code) { throw refused(code); }
  * them. */
 [[nodiscard]] inline answer<std::vector<boruvka_merge>> merges(std::uint64_t n, std::span<const boruvka_link> links) {
     std::vector<boruvka_merge> found(links.size());
-    const std::int64_t count = boruvka_merges(of_32_bits(n), first_of(links), links.size(), first_of(std::span(found)));
+    const std::int64_t count = boruvka_merges_in(of_32_bits(n), first_of(links), links.size(), first_of(std::span(found)), found.size());
     if (count < 0) return refuse<std::vector<boruvka_merge>>(count);
     return found;
 }

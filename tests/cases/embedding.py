@@ -259,6 +259,22 @@ def the_headers_stand_behind_macros_of_common_names(_room):
 
 
 @case
+def the_header_for_spans_calls_no_function_of_one_file(room):
+    """What is inline has one meaning in all files of a program ([basic.def.odr]), so it may call none that each has for itself."""
+    if not shutil.which("nm"):
+        raise Skipped("no nm is there")
+    source = b"""#include <boruvka.hpp>
+auto of_links(std::span<const boruvka_link> links) { return boruvka::labels(9, links).size() + boruvka::merges(9, links).size(); }
+auto of_columns(std::span<const std::uint32_t> u, std::span<const std::int64_t> w) { return boruvka::places(9, 1, u, u, w); }
+auto of_net(std::span<boruvka_link> net) { return boruvka::forest(9, net).size() + boruvka::total(net).low; }
+"""
+    for of in (it for it in ("g++", "clang++") if shutil.which(it)):
+        expect(run([of, "-std=c++20", "-O0", INCLUDE, "-c", "-o", f"{room}/{of}.o", "-x", "c++", "-"], source), 0, b"", b"")
+        found = subprocess.run(["nm", f"{room}/{of}.o"], check=True, capture_output=True, text=True).stdout
+        expect((re.findall(r" t (\S*boruvka\S*)", found), " W _ZN7boruvka" in found, b""), [], True, b"")
+
+
+@case
 def a_dropped_answer_is_warned_of(_room):
     """It may be a refusal, or how many links the forest has."""
     of = next(filter(shutil.which, ("g++", "clang++")), None)
