@@ -185,6 +185,19 @@ def a_malformed_file(room):
     expect(ran(["--plain", "--report", "short.gr"], cwd=room), 1, b"", b"boruvka: line 3: MissingArcs\n")
 
 
+@case
+def each_cut_of_a_file(_room):
+    """It is refused, but where docs/GR_FORMAT.md says that it isn't seen: between the marks."""
+    marked = b"c a net\np sp 3 0|0|2\na 1 2 17\na 2 3 -0|45\nc the end\n|"
+    parts = marked.split(b"|")
+    unseen = [range(len(parts[0]), len(parts[0]) + 2), range(len(b"".join(parts[:3])), len(b"".join(parts)))]
+    for length in range(len(b"".join(parts))):
+        status, _, errors = ran(["--plain"], b"".join(parts)[:length])
+        is_seen = not any(length in it for it in unseen)
+        if (status, errors.startswith(b"boruvka: line ")) != (int(is_seen), is_seen):
+            raise AssertionError(f"cut after {length} bytes: {status} {errors!r:.200}")
+
+
 # Wrong words
 
 
