@@ -2,7 +2,7 @@
 /* boruvka.hpp: calls of boruvka.h over spans, for C++20.
  *
  * A refusal is thrown as boruvka::refused; with BORUVKA_EXPECTED defined, and C++23, it is answered in a std::expected. Files
- * of both kinds can be linked into one program.
+ * of both kinds can be linked into one program. A vector that finds no memory throws std::bad_alloc in either.
  * What boruvka.h asks of pointers and lengths is seen to here; that no other thread touches a span meanwhile isn't. */
 #ifndef BORUVKA_HPP
 #define BORUVKA_HPP
