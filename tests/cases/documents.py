@@ -1,6 +1,7 @@
 """What README, docs/RECIPES.md and the manual page show, run as it stands there; the session that docs/PROTOCOL.md
 shows; README's call of a library; what the manual page, the promises and the map name; how long pages and their parts are."""
 import glob
+import math
 import os
 import random
 import re
@@ -354,6 +355,25 @@ def points_of_any_unit(room):
             found = pasted(room, f"python3 nearest.py 4 < points.csv | boruvka --plain | awk -v clusters={clusters} -f clusters.awk")
             if found != (0, "".join(f"{point} {least}\n" for point, least in enumerate(wanted, 1))):
                 raise AssertionError(f"{clusters} clusters, a unit of {unit}: {found!r:.600}")
+
+
+@case
+def points_far_from_zero(room):
+    """Times in nanoseconds, which doubles have 256 apart, most of them at one: how far the nearest two of each are, by all pairs."""
+    recipe(room, "Clusters")
+    recipe(room, "Points")
+    for seed in (8, 35):
+        draw = random.Random(seed)
+        points = [(1.7e18, 1.7e18)] * 192 + [tuple(1.7e18 + 256 * draw.randint(-9, 9) for _ in range(2)) for _ in range(8)]
+        draw.shuffle(points)
+        written(f"{room}/points.csv", "".join(f"{x!r},{y!r}\n" for x, y in points).encode())
+        status, output = pasted(room, "python3 nearest.py 2 < points.csv")
+        links = [tuple(map(int, it.split()[1:3])) for it in output.splitlines()[1:]]
+        for place, point in enumerate(points, 1):
+            wanted = sorted(math.dist(point, it) for it in points)[1:3]
+            found = sorted(math.dist(points[low - 1], points[high - 1]) for low, high in links if place in (low, high))[:2]
+            if (status, found) != (0, wanted):
+                raise AssertionError(f"seed {seed}, point {place}: {status}, wanted {wanted}, found {found}")
 
 
 @case
