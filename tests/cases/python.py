@@ -278,3 +278,16 @@ def networkx_finds_the_backend(room):
 @case
 def docstrings_readme_and_pictures(room):
     expect_tests(room, "test_documents")
+
+
+@case
+def points_in_the_page(room):
+    expect_tests(room, "test_page")
+
+
+@case
+def each_file_of_the_packages_tests_is_run(_room):
+    with open(__file__, encoding="utf-8") as it:
+        cases = it.read()
+    names = [it.removesuffix(".py") for it in os.listdir(f"{PACKAGE}/tests") if it.startswith("test_")]
+    is_so(([it for it in names if f'expect_tests(room, "{it}' not in cases], len(names) > 5), ([], True))
