@@ -9,6 +9,7 @@ from numpy.typing import ArrayLike, NDArray
 
 from boruvka._density import Condensed
 from boruvka._forest import Forest, expect_no_masks, whole
+from boruvka._weights import why_none
 from boruvka.linkage import cut, expect_no_rounding, spanning_tree
 
 if TYPE_CHECKING:
@@ -45,9 +46,12 @@ class _OverTree(_Estimator):
             points = self._validate_data(X, dtype=np.float64, ensure_min_samples=2)
         else:
             points = validate_data(self, X, dtype=np.float64, ensure_min_samples=2)
-        # (scikit-learn uncovers what is masked, and makes doubles of all)
+        # (scikit-learn uncovers what is masked, and makes doubles of all: of texts, times and long doubles too)
         expect_no_masks(X, "X")
-        expect_no_rounding(X, np.asarray(X), points, "X")
+        given = np.asarray(X)
+        if given.dtype.kind not in "biufO" or given.dtype.itemsize > 8:
+            raise TypeError(f"{why_none(given, 'X', 'biuf')}, and has to be real numbers of up to 64 bits")
+        expect_no_rounding(X, given, points, "X")
         self.tree_ = spanning_tree(points, metric=self.metric, p=self.p, min_samples=min_samples)
         return self.tree_
 

@@ -192,6 +192,19 @@ class Estimators(unittest.TestCase):
         even = np.array(apart) // 2
         self.assertEqual(SingleLinkage(distance_threshold=0.5, n_clusters=None).fit_predict(even).tolist(), [0, 0, 1])
 
+    def test_what_would_be_made_doubles(self):
+        """By scikit-learn. The gaps of the long doubles would be 0, and the last of the texts one less."""
+        longs = np.array([[1], [2], [3]], np.longdouble)
+        for points, told in [
+            (1 + longs * np.finfo(np.longdouble).eps, "dtype float128"),
+            (np.array([["1"], ["2"], ["9007199254740993"]]), r"dtype <U16, as X\[0, 0\] is '1'"),
+            (np.array([["2020-01-01"], ["2020-01-02"], ["2020-03-02"]], "M8[D]"), r"dtype datetime64\[D\]"),
+            (np.array([[1], [2], [5]], "m8[s]"), r"dtype timedelta64\[s\]"),
+        ]:
+            for made in (SingleLinkage(), HDBSCAN(2)):
+                with self.assertRaisesRegex(TypeError, f"^X has the {told}, and has to be real numbers of up to 64 bits$"):
+                    made.fit(points)
+
     def test_masked_points(self):
         hidden = np.ma.masked_equal([[0.0, 0.0], [1.0, 1.0], [99.0, 99.0]], 99)
         for points in (hidden, [*hidden]):
