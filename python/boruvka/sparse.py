@@ -10,7 +10,7 @@ from scipy.sparse import csr_matrix, issparse, spmatrix
 from scipy.sparse.csgraph import csgraph_from_dense, csgraph_from_masked
 
 from boruvka._entries import expect_no_filling
-from boruvka._forest import places
+from boruvka._forest import is_masked, places
 
 __all__ = ["minimum_spanning_tree"]
 
@@ -40,7 +40,8 @@ def minimum_spanning_tree(csgraph: spmatrix | ArrayLike, overwrite: bool = False
     ValueError
         If csgraph isn't square, a sparse matrix stores a NaN or a masked array has one that isn't masked, or scipy finds
         that a sparse matrix isn't well formed. If a bsr_matrix or dia_matrix stores a 0 off the main diagonal, which may
-        only fill it. If columns of a frame have labels of its rows, but at other places.
+        only fill it. If columns of a frame have labels of its rows, but at other places. If rows of a list are masked arrays
+        that mask something.
     TypeError
         If weights are no real numbers, or `maximum` is neither True nor False.
 
@@ -92,4 +93,6 @@ def _as_csr(csgraph: Any) -> csr_matrix:
             raise ValueError("csgraph is a frame whose columns have labels of its rows at other places: csgraph.reindex(columns=csgraph.index) mends it, .to_numpy() has no labels")
     if isinstance(csgraph, np.ma.MaskedArray):
         return csgraph_from_masked(csgraph)
+    if is_masked(csgraph):
+        raise ValueError("rows of csgraph have masked entries, which numpy uncovers: in numpy.ma.array(csgraph) they are no edges, and zeros are")
     return csgraph_from_dense(csgraph)

@@ -88,6 +88,16 @@ class Sparse(unittest.TestCase):
         left.eliminate_zeros()
         self.assertEqual(minimum_spanning_tree(left).data.tolist(), [1.0, 2.0, 3.0])
 
+    def test_a_list_of_masked_rows(self):
+        """Numpy would uncover the edge of weight 1."""
+        rows = [np.ma.masked_equal([0, 1, 5], 1), np.ma.array([0, 0, 7]), np.ma.array([0, 0, 0])]
+        for given in (rows, tuple(rows)):
+            with self.assertRaisesRegex(ValueError, r"^rows of csgraph have masked entries, .*: in numpy\.ma\.array\(csgraph\) they are no edges"):
+                minimum_spanning_tree(given)
+        # what the refusal tells to do, without the zeros
+        self.expect_scipys(np.ma.masked_equal(np.ma.array(rows), 0), True)
+        self.assertEqual(minimum_spanning_tree([it.data for it in rows]).toarray().tolist(), [[0, 1, 5], [0, 0, 0], [0, 0, 0]])
+
     def test_labels_of_a_frame(self):
         try:
             import pandas
