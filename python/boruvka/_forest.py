@@ -63,15 +63,17 @@ class Forest:
     names: Sequence[Any] | None = None
 
     def __post_init__(self) -> None:
-        arrays = [np.asarray(it) for it in self]
+        weights, arrays = self.w, [np.asarray(it) for it in self]
         for name, given, it in zip(("u", "v", "w", "index"), self, arrays):
             expect_no_masks(given, name)
             object.__setattr__(self, name, it)
         *shapes, place = (it.shape for it in arrays)
         if self.w.ndim != 1 or len({*shapes, place[:1]}) > 1 or place[1:] not in ((), (2,)):
             raise ValueError(f"the arrays of the forest have the shapes {', '.join(str(it.shape) for it in arrays)}")
-        if self.w.dtype.kind not in "biuf":
-            raise TypeError(f"{why_none(self.w, 'w', 'biuf')}, and weights are real numbers")
+        if self.w.dtype.kind not in "biuf" or self.w.dtype.itemsize > 8:
+            raise TypeError(f"{why_none(self.w, 'w', 'biuf')}, and weights are real numbers of up to 64 bits")
+        if not is_array(weights):
+            of_each(list(weights), self.w, "w")
         for name, it in (("u", self.u), ("v", self.v)):
             if len(it) and it.dtype.kind not in "iu":
                 raise TypeError(f"{why_none(it, name, 'iu')}, and vertices are whole numbers")
