@@ -48,12 +48,14 @@ def from_edges(frame: Any, u: Hashable = "u", v: Hashable = "v", *, weight: Hash
         If a name is missing, a weight is NaN, the columns differ in length, or two have the same name.
     TypeError
         If a name can't be a key of a dict, weights are no numbers, a column is a single value, or the frame has no columns.
-        If times have two units, some have a zone and some none, or some are numpy's and some aren't.
+        If times have two units, some have a zone and some none, some are dates without a time of day, or some are numpy's
+        and some aren't.
 
     Warns
     -----
     UserWarning
-        If vertices are called by a text and by its number or bytes, as "1" and 1: they are two.
+        If vertices are called by a text, and by a number, bytes, a time or what else has that text, as "1" and 1: they are
+        two.
 
     Examples
     --------
@@ -107,7 +109,7 @@ def _column(frame: Any, name: Hashable) -> Any:
 
 
 def _expect_one_kind_of_times(names: Iterable[Any]) -> None:
-    """A TypeError if names are times of different units, with and without a zone, or numpy's beside others.
+    """A TypeError if names are times of different units, with and without a zone or a time of day, or numpy's beside others.
 
     Their hashes tell apart what is equal, or they are never equal.
     """
@@ -115,6 +117,8 @@ def _expect_one_kind_of_times(names: Iterable[Any]) -> None:
     if any(issubclass(it, datetime.datetime) for it in types):
         if len({it.tzinfo is None for it in names if isinstance(it, datetime.datetime)}) > 1:
             raise TypeError("the ends are times with a zone, and times without: .dt.tz_localize gives these one")
+        if any(issubclass(it, datetime.date) and not issubclass(it, datetime.datetime) for it in types):
+            raise TypeError("the ends are dates, and dates with a time of day: .dt.date makes dates of these")
     kinds: list[tuple[Any, Any]] = [(np.datetime64, datetime.date), (np.timedelta64, datetime.timedelta)]
     for of_numpy, of_python in kinds:
         if of_numpy in types:
@@ -127,19 +131,28 @@ def _expect_one_kind_of_times(names: Iterable[Any]) -> None:
 
 
 def _warn_of_texts(number: Mapping[Any, int]) -> None:
-    """Warns if a name is the text of another, which is a number or bytes."""
+    """Warns if a name is the text of another, which is none."""
     types = {*map(type, number)}
     if not any(issubclass(it, str) for it in types) or len(types) == 1:
         return
+    others = {_shown(it): it for it in number if not isinstance(it, (str, bytes, int, float))}
     for text in (str(it) for it in number if isinstance(it, str)):
         if _number_of(text) in number:
             words = f"the number {_number_of(text)} name two vertices: .astype(str) of both columns makes them one"
         elif text.encode(errors="replace") in number:
             words = f"the bytes {text.encode(errors='replace')!r} name two vertices: numpy.char.decode(column) makes texts of bytes"
+        elif _shown(text) in others:
+            other = others[_shown(text)]
+            words = f"the {type(other).__name__} {other} name two vertices: both columns need the same type"
         else:
             continue
         warnings.warn(f"the text {text!r} and {words}", UserWarning, stacklevel=3)
         return
+
+
+def _shown(name: object) -> str:
+    """Its text; of a time without its letter T, and without a midnight."""
+    return str(name).replace("T", " ").removesuffix(" 00:00:00")
 
 
 def _number_of(text: str) -> int | float | None:

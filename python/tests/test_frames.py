@@ -5,6 +5,7 @@ import datetime
 import math
 import re
 import unittest
+import uuid
 import warnings
 
 import numpy as np
@@ -138,6 +139,16 @@ class Frames(unittest.TestCase):
             with self.assertWarnsRegex(UserWarning, f"^the text '{other}' and the number .* name two vertices: ") as told:
                 forest = boruvka.from_edges({"u": [one, 5], "v": ["a", other], "w": [1, 2]})
             self.assertEqual((forest.names, told.filename), ([one, 5, "a", other], __file__))
+        for one, other in [
+            (datetime.datetime(2020, 1, 2), "2020-01-02"),
+            (datetime.datetime(2020, 1, 2), "2020-01-02T00:00:00"),
+            (datetime.datetime(2020, 1, 2, 3, 4), "2020-01-02 03:04:00"),
+            (datetime.date(2020, 1, 2), "2020-01-02"),
+            (np.datetime64("2020-01-02"), "2020-01-02"),
+            (uuid.UUID(int=5), "00000000-0000-0000-0000-000000000005"),
+        ]:
+            with self.assertWarnsRegex(UserWarning, f"^the text '{other}' and the {type(one).__name__} {one} name two vertices: both columns need"):
+                self.assertEqual(boruvka.from_edges({"u": [one, one], "v": ["a", other], "w": [1, 2]}).names, [one, "a", other])
         encoded = np.array([b"a", b"b"])
         with self.assertWarnsRegex(UserWarning, r"^the text 'b' and the bytes b'b' name two vertices: numpy\.char\.decode\(column\)"):
             self.assertEqual(boruvka.from_edges({"u": encoded, "v": ["b", "c"], "w": [1, 2]}).n, 4)
@@ -147,6 +158,14 @@ class Frames(unittest.TestCase):
             self.assertEqual(boruvka.from_edges({"u": [1, 2], "v": ["a1", "nan"], "w": [1, 2]}).n, 4)
             self.assertEqual(boruvka.from_edges({"u": ["1"], "v": ["1.0"], "w": [1]}).n, 2)
             self.assertEqual(boruvka.from_edges({"u": [b"a", 7], "v": ["b", "\ud800"], "w": [1, 2]}).n, 4)
+
+    @unittest.skipUnless(pandas, "there is no pandas")
+    def test_texts_of_times_of_pandas(self):
+        days = ["2020-01-02", "2020-01-03"]
+        rows = pandas.DataFrame({"u": pandas.to_datetime(days), "v": days[::-1], "w": [1, 2]})
+        with self.assertWarnsRegex(UserWarning, "^the text '2020-01-03' and the Timestamp 2020-01-03 00:00:00 name two vertices: both columns need"):
+            self.assertEqual(boruvka.from_edges(rows).n, 4)
+        self.assertEqual(boruvka.from_edges(rows.assign(v=pandas.to_datetime(rows["v"]))).n, 2)
 
     @unittest.skipUnless(pandas, "there is no pandas")
     def test_what_pandas_has_in_place_of_columns(self):
@@ -335,6 +354,9 @@ class Refused(unittest.TestCase):
         self.expect(TypeError, words, {"u": days, "v": [datetime.datetime(2020, 1, 1)], "w": [1]})
         zoned = datetime.datetime(2020, 1, 1, tzinfo=datetime.timezone.utc)
         self.expect(TypeError, "^the ends are times with a zone, and times without", {"u": [zoned], "v": [zoned.replace(tzinfo=None)], "w": [1]})
+
+        words = r"^the ends are dates, and dates with a time of day: \.dt\.date makes dates of these$"
+        self.expect(TypeError, words, {"u": [datetime.date(2020, 1, 2)], "v": [datetime.datetime(2020, 1, 2)], "w": [1]})
 
     def test_what_is_no_frame(self):
         for rows in ([("a", "b", 1)], (("a", "b", 1),), "abc", b"abc"):
