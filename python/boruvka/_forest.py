@@ -502,7 +502,7 @@ def expect_no_masks(given: Any, name: str) -> None:
 
 
 def is_masked(given: Any) -> bool:
-    """Whether an array of numpy or of pandas masks something, or a list holds one that does."""
+    """Whether an array of numpy, of pandas or of dask masks something, or a list holds one that does."""
     return bool(np.any(mask_of(given)))
 
 
@@ -511,7 +511,9 @@ def mask_of(given: Any) -> Any:
     if isinstance(given, (list, tuple)) and any(issubclass(it, np.ma.MaskedArray) for it in {*map(type, given)}):
         return [is_masked(it) for it in given]
     masked: Any = np.ma
-    return masked.getmask(given)
+    # (an array of dask knows its mask once it is computed)
+    is_lazy = isinstance(getattr(given, "_meta", None), np.ma.MaskedArray)
+    return masked.getmask(np.asanyarray(given) if is_lazy else given)
 
 
 def of_each(each: list[Any], column: NDArray[Any], name: str) -> NDArray[Any]:

@@ -19,6 +19,8 @@ from graphs import Graph, by_key
 
 HAS = [importlib.util.find_spec(it) is not None for it in ("dask", "distributed", "pandas")]
 if HAS[0] and HAS[2]:
+    import boruvka
+    import dask.array
     import dask.dataframe
     import pandas
 
@@ -112,6 +114,20 @@ class OneProcess(unittest.TestCase):
         whole = self.roads.astype({"w": "Int64"}, errors="ignore").assign(w=pandas.array([1, 2, 3, None, 4, 5], "Int64"))
         with self.assertRaisesRegex(TypeError, "^partition 1: w has the dtype object"):
             minimum_spanning_forest(in_partitions(whole, [0, 2, 4]), 4).compute()
+
+    def test_what_arrays_of_dask_mask(self):
+        """Numpy would uncover it. They are no frames, and are taken as other arrays are."""
+        for weights, masked in [([1, 2, 9], 9), ([1, 9, 9], 9), ([1, 2, 3], 9)]:
+            given = dask.array.ma.masked_equal(dask.array.from_array(np.array(weights), chunks=2), masked)
+            points = dask.array.stack([given, given], axis=1)
+            if masked not in weights:
+                self.assertEqual(boruvka.minimum_spanning_forest(4, [0, 1, 2], [1, 2, 3], given).w.tolist(), weights)
+                self.assertEqual(boruvka.linkage.single_linkage(points)[:, 2].tolist(), [2**0.5] * 2)
+                continue
+            with self.assertRaisesRegex(ValueError, rf"^w has masked entries, as w\[{weights.index(masked)}\] is: leave these edges out first$"):
+                boruvka.minimum_spanning_forest(4, [0, 1, 2], [1, 2, 3], given)
+            with self.assertRaisesRegex(ValueError, "^y has masked entries"):
+                boruvka.linkage.single_linkage(points)
 
     def test_partitions_of_other_dtypes_than_the_frame_says(self):
         """Put together they would be rounded."""
