@@ -107,7 +107,7 @@ def spanning_tree(y: ArrayLike | SparseMatrix, *, metric: str = "euclidean", p: 
         another metric, min_samples isn't from 1 to n, a row has no place in the metric, a sparse matrix has two entries
         in one place, or a bsr_matrix or dia_matrix stores a 0 that may fill it.
     TypeError
-        As `single_linkage` does; or if p is no number, min_samples no whole number, or min_samples or a metric is given
+        As `single_linkage` does; or if p is no number, min_samples no whole number, or min_samples, p or a metric is given
         with distances.
 
     Notes
@@ -129,11 +129,11 @@ def spanning_tree(y: ArrayLike | SparseMatrix, *, metric: str = "euclidean", p: 
     array([1.        , 4.24264069])
     """
     if hasattr(y, "tocoo"):
-        _expect_points(metric, min_samples, "a sparse matrix")
+        _expect_points(metric, p, min_samples, "a sparse matrix")
         return _of_entries(y)
     given = _numbers(y)
     if given.ndim == 1:
-        _expect_points(metric, min_samples, "one dimension")
+        _expect_points(metric, p, min_samples, "one dimension")
         return _of_distances(given)
     if given.ndim != 2:
         raise ValueError(f"y has the shape {given.shape}: points are rows, and distances have one dimension")
@@ -383,9 +383,9 @@ def _of_distances(distances: NDArray[np.float64]) -> Forest:
     return minimum_spanning_forest(n, *_pairs(n), distances)
 
 
-def _expect_points(metric: str, min_samples: int | None, given: str) -> None:
-    if metric != "euclidean" or min_samples is not None:
-        raise TypeError(f"y is distances, as {given} says: a metric and min_samples want points, a row each; of one dimension y[:, None]")
+def _expect_points(metric: str, p: float, min_samples: int | None, given: str) -> None:
+    if metric != "euclidean" or p != 2 or min_samples is not None:
+        raise TypeError(f"y is distances, as {given} says: a metric, p and min_samples want points, a row each; of one dimension y[:, None]")
 
 
 def _of_entries(matrix: Any) -> Forest:

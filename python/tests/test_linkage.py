@@ -379,7 +379,7 @@ class Metrics(unittest.TestCase):
                     call(points, **given)
         with self.assertRaisesRegex(ValueError, "^the latitude of the point 1 is 51.5, .*radians"):
             spanning_tree([[0, 0], [51.5, 0.1]], metric="haversine")
-        for given in ({"metric": "cosine"}, {"min_samples": 2}):
+        for given in ({"metric": "cosine"}, {"min_samples": 2}, {"p": 3}, {"p": "2"}):
             with self.assertRaisesRegex(TypeError, "^y is distances, "):
                 spanning_tree([1.0, 2.0, 3.0], **given)
         with self.assertRaises(TypeError):
