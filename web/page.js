@@ -1,7 +1,7 @@
 // The page: it wires controls to the state, and tells what the state is. What takes long goes on in worker.js.
 //
 // points in: sources, rows, columns, tables, geojson, graphs (in the worker), address, choosing
-// tree and forest: spaces, tree, weights, boruvka, kruskal; then merges, rounds, layout (in the worker)
+// tree and forest: bounds, spaces, tree, weights, boruvka, kruskal; then merges, rounds, layout (in the worker)
 // what is shown: state, clusters; view, scene, picture, dendrogram, fading, playing, reading; out and saving; card
 
 import { carried, inside } from './address.js';

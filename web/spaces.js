@@ -4,6 +4,8 @@
 // grows with the distance of two places; `within`, the largest square of boxes' gaps that a nearer place can have; and `length`,
 // the distance of a square.
 
+import { boundsOf } from './bounds.js';
+
 export const KILOMETRES_OF_EARTH = 6371;
 const RADIAN = Math.PI / 180;
 
@@ -15,16 +17,6 @@ function picked(values, order, width = 1) {
   const all = new Float64Array(order.length * width);
   for (let i = 0; i < order.length; i++) for (let axis = 0; axis < width; axis++) all[i * width + axis] = values[order[i] * width + axis];
   return all;
-}
-
-// The least and the greatest of some numbers, or nothing where there are none.
-export function boundsOf(values, step = 1, begin = 0) {
-  let low = Infinity, high = -Infinity;
-  for (let i = begin; i < values.length; i += step) {
-    if (values[i] < low) low = values[i];
-    if (values[i] > high) high = values[i];
-  }
-  return { low, high };
 }
 
 // Distances on paper. Coordinates are scaled by a power of two, so that no square of a distance is past what doubles hold.

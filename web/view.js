@@ -1,6 +1,6 @@
 // What part of the places is seen: the place (x, y) in the middle of the free part of the picture, and `zoom` pixels a unit.
 
-import { boundsOf } from './spaces.js';
+import { boundsOf } from './bounds.js';
 import { state } from './state.js';
 
 const MOST_ZOOM = 1e6; // times that by which all is seen

@@ -1,0 +1,9 @@
+// The least and the greatest of some numbers, or nothing where there are none.
+export function boundsOf(values, step = 1, begin = 0) {
+  let low = Infinity, high = -Infinity;
+  for (let i = begin; i < values.length; i += step) {
+    if (values[i] < low) low = values[i];
+    if (values[i] > high) high = values[i];
+  }
+  return { low, high };
+}
