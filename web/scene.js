@@ -24,7 +24,7 @@ function sceneOfClusters(clusters) {
   return { colourOf: v => colours ? colours[v] : NONE, lowPart: () => 1, highPart: () => 0, isCut: i => i >= kept };
 }
 
-// The scene of now. `key` differs if it does.
+// The scene of now.
 export function sceneNow() {
   const { shown, clusters, round } = state, plain = inks();
   const scene = round === null ? sceneOfClusters(clusters) : sceneOfRound(shown, round);
