@@ -23,6 +23,9 @@ export function numberOf(field, commas) {
   return commas && WITH_COMMA.test(field) ? Number(field.replace(',', '.')) : NaN;
 }
 
+// Whether a double rounds a field's whole number.
+export const isRounded = (field, number) => !Number.isSafeInteger(number) && /^[-+]?\d+$/.test(field) && BigInt(field) !== BigInt(number);
+
 export const hasComma = field => WITH_COMMA.test(field);
 
 const found = (header, words) => [...header.keys()].filter(i => words.includes(header[i].toLowerCase()));

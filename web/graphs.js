@@ -3,6 +3,7 @@
 // A .gr is read by the module, whose reader is proved. `linksOfGraph` stands in for it where there is no module.
 
 import { Refusal } from './boruvka.js';
+import { isRounded } from './columns.js';
 
 const MOST_VERTICES = 2 ** 26, MOST_ARCS = 2 ** 30, MOST_PLACED = 1_000_000;
 const LEAST_WEIGHT = -(2n ** 63n), MOST_WEIGHT = 2n ** 63n - 1n;
@@ -100,6 +101,7 @@ class Places {
     const isPlace = words.length === 4 && Number.isInteger(v) && Number.isFinite(x) && Number.isFinite(y);
     if (!isPlace || words.some(it => /0[box]/i.test(it))) throw fault('BadPlace'); // (0x10 is a number to JavaScript alone)
     if (v < 1 || v > this.points.length / 2) throw fault('EndOutOfRange');
+    if (isRounded(words[2], x) || isRounded(words[3], y)) throw fault('LongPlace');
     if (!Number.isNaN(this.points[2 * v - 2])) throw fault('SecondPlace');
     this.points.set([x, y], 2 * v - 2);
     this.left--;

@@ -1,7 +1,7 @@
 // What a table says, row by row: points with their names, or links between names.
 
 import { Refusal } from './boruvka.js';
-import { chosenBy, degreesTold, hasComma, headerTold, numberOf } from './columns.js';
+import { chosenBy, degreesTold, hasComma, headerTold, isRounded, numberOf } from './columns.js';
 import { Packer } from './names.js';
 import { fieldsOf, separatorOf } from './rows.js';
 
@@ -33,7 +33,7 @@ class Reader {
   // The number. A whole one that doubles round is refused.
   whole(field, line, kind) {
     const it = this.number(field, line);
-    if (!Number.isSafeInteger(it) && /^[-+]?\d+$/.test(field) && BigInt(field) !== BigInt(it)) throw new Refusal(kind, line, field.slice(0, 40));
+    if (isRounded(field, it)) throw new Refusal(kind, line, field.slice(0, 40));
     return it;
   }
 

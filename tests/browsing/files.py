@@ -378,6 +378,7 @@ FAULTS = [
     ("bad.co", b"p aux sp co 1\nv 0x1 2 3\n", "line 2: BadPlace"),
     ("bad.co", b"p aux sp co 1\nv 1 0B10 3\n", "line 2: BadPlace"),
     ("bad.co", b"p aux sp co 2\nv 3 1 1\n", "line 2: EndOutOfRange"),
+    ("bad.co", b"p aux sp co 2\nv 1 9007199254740992 0\nv 2 9007199254740993 0\n", "line 3: LongPlace"),
     ("bad.co", b"p aux sp co 2\nv 1 1 1\nv 1 1 1\n", "line 3: SecondPlace"),
     ("bad.co", b"p aux sp co 2\nv 1 1 1\n", "line 3: MissingPlaces"),
     ("bad.co", b"p aux sp co 2\nx\n", "line 2: UnknownLine"),
