@@ -232,14 +232,17 @@ function takeBack() {
   return penned && showPoints(shown.points.slice(0, -2), { penned: penned - 1, view: { ...viewNow() }, count: state.clusters?.count ?? 1 });
 }
 
-function putPlaces(points) {
+function putPlaces(points, isAlone) {
   const { shown } = state;
-  if (shown?.kind !== 'graph' && shown?.kind !== 'links') return joinPoints(points, { view: null, penned: 0 });
+  if (shown?.kind !== 'graph' && shown?.kind !== 'links') {
+    if (!isAlone) throw new Refused({ kind: 'SeveralFiles', what: '2' });
+    return joinPoints(points, { view: null, penned: 0 });
+  }
   if (points.length / 2 !== shown.n) throw new Refused({ kind: 'PlacesDiffer' });
   return change({ shown: { ...shown, places: points }, view: null });
 }
 
-async function openFile(file, isNow) {
+async function openFile(file, isNow, isAlone) {
   let answer = await solver.ask({ task: 'open', file });
   if (answer?.ask) {
     busy(-1);
@@ -250,7 +253,7 @@ async function openFile(file, isNow) {
     answer = await solver.ask({ task: 'open', file, choice });
   }
   if (!answer) return;
-  if (answer.kind === 'places') await putPlaces(answer.points);
+  if (answer.kind === 'places') await putPlaces(answer.points, isAlone);
   else await showOther(answer, { file, view: null, penned: 0, cross: null });
 }
 
@@ -265,7 +268,7 @@ async function open(files) {
   for (const it of document.querySelectorAll('dialog[open]')) it.close();
   for (const file of [...files].sort((a, b) => isPlaces(a) - isPlaces(b))) {
     try {
-      if (isNow()) await openFile(file, isNow);
+      if (isNow()) await openFile(file, isNow, files.length === 1);
     } catch (error) {
       fault(new Error(`${file.name}: ${error.message}`));
       break;

@@ -414,6 +414,9 @@ def several_files(_room):
     for names in (["a.csv", "b.csv"], ["a.gr", "b.gr", "b.co"], ["a.co", "b.co"]):
         page.drop(*((name, SMALL_NET if name.endswith(".gr") else PLACES if name.endswith(".co") else b"0,0\n3,4\n") for name in names))
         is_so((page.text("fault").split(". ")[0], page.shown()), (f"SeveralFiles ({len(names)})", before))
+    # points have their places already: they stay
+    page.drop(("a.csv", b"0,0\n3,4\n"), ("a.co", b"p aux sp co 3\nv 1 0 0\nv 2 1 0\nv 3 2 0\n"))
+    is_so((page.text("fault").split(". ")[0], page.text("points"), page.text("total")), ("a.co: SeveralFiles (2)", "2", "5"))
 
 
 @case
