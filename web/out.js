@@ -52,12 +52,19 @@ export function pointsCsv({ n, points, names, kind }, numbers = null, named = gu
 // The points as a table that this page reads again, with the names that they have.
 export const carriedCsv = shown => pointsCsv(shown, null, quoted);
 
+// What is written of the weight of a forest's link.
+function weightsWritten({ forest, heights, isExact }) {
+  const weights = bitsOf(forest);
+  return i => isExact ? weights[2 * i] : written(heights[i]);
+}
+
 // The forest's links with the names of their ends, the lightest first.
-export function forestCsv({ forest, names, heights, isExact }) {
-  const weights = bitsOf(forest), text = new Text(`from,to,${isExact ? 'weight' : 'length'}\n`);
+export function forestCsv(shown) {
+  const { forest, names, heights, isExact } = shown, weight = weightsWritten(shown);
+  const text = new Text(`from,to,${isExact ? 'weight' : 'length'}\n`);
   for (let i = 0; i < heights.length; i++) {
     const [low, high] = [2, 3].map(word => guarded(nameAt(names, forest[4 * i + word] - 1)));
-    text.add(`${low},${high},${isExact ? weights[2 * i] : heights[i]}\n`);
+    text.add(`${low},${high},${weight(i)}\n`);
   }
   return text.blob('text/csv');
 }
@@ -74,10 +81,10 @@ export function forestGeoJson({ forest, names, heights, points }) {
 }
 
 // The merges as scipy's linkage has them: two nodes, the lower first, the height, and how many points they have together.
-export function linkageCsv({ n, forest, heights, isExact, merges: { larger, smaller, size } }) {
-  const weights = bitsOf(forest), text = new Text();
+export function linkageCsv(shown) {
+  const { n, heights, merges: { larger, smaller, size } } = shown, weight = weightsWritten(shown), text = new Text();
   for (let i = 0; i < heights.length; i++) {
-    text.add(`${Math.min(larger[i], smaller[i])},${Math.max(larger[i], smaller[i])},${isExact ? weights[2 * i] : heights[i]},${size[n + i]}\n`);
+    text.add(`${Math.min(larger[i], smaller[i])},${Math.max(larger[i], smaller[i])},${weight(i)},${size[n + i]}\n`);
   }
   return text.blob('text/csv');
 }

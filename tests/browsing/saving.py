@@ -48,6 +48,18 @@ def the_forest_as_csv_and_geojson(_room):
 
 
 @case
+def doubles_past_whole_numbers(_room):
+    """A link of 2^60 isn't saved as another whole number, and what is saved is read again as itself."""
+    page = Page.opened()
+    page.drop(("links.csv", b"source,target,weight\na,b,1152921504606846976\nb,c,1\n"))
+    forest, merges = page.saved("forest.csv").decode().splitlines(), page.saved("linkage.csv").decode().splitlines()
+    for written in (forest[2].split(",")[2], merges[1].split(",")[2]):
+        is_so((float(written), written.isdigit() and int(written) != 2**60), (2.0**60, False))
+    page.drop(("again.csv", "\n".join(forest).encode()))
+    page.expect(points="3", total="1.152922E18")
+
+
+@case
 def names_that_are_formulas(_room):
     """A name that a spreadsheet would run begins with an apostrophe, and separators are quoted."""
     page = Page.opened()
