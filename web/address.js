@@ -20,10 +20,11 @@ async function through(bytes, stream) {
   return new Uint8Array(await new Blob(parts).arrayBuffer());
 }
 
-// The address of the page with this text.
+// The address of the page with this text, if it can be read from there again.
 export async function addressOf(text) {
-  const bytes = await through(new TextEncoder().encode(text), new CompressionStream('deflate-raw'));
+  const whole = new TextEncoder().encode(text), bytes = await through(whole, new CompressionStream('deflate-raw'));
   const letters = btoa(Array.from(bytes, it => String.fromCharCode(it)).join(''));
+  if (whole.length > MOST_BYTES || letters.length > MOST_LETTERS) throw new Refused({ kind: 'LongAddress' });
   return `${location.href.split('#')[0]}#d=${letters.replaceAll('+', '-').replaceAll('/', '_').replaceAll('=', '')}`;
 }
 

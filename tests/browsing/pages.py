@@ -194,6 +194,19 @@ def data_in_the_address(_room):
 
 
 @case
+def data_too_long_for_the_address(_room):
+    """No link is copied that the page refuses: here of 5,000 points with long names."""
+    page = Page.opened()
+    for name in (lambda v: hashlib.sha512(b"%d" % v).hexdigest(), lambda v: f"{v}" + "ツ" * 190):
+        page.drop(("named.csv", "".join(["name,x,y\n", *(f"{name(v)},{v},{v % 7}\n" for v in range(5000))]).encode()))
+        page.expect(points="5,000")
+        page.click("save")
+        page.click("copylink")
+        page.browser.wait("document.getElementById('fault').textContent")
+        is_so((page.text("fault").split(".")[0], page.value("copied")), ("LongAddress", ""))
+
+
+@case
 def addresses_that_are_no_data(_room):
     for more, told in [
         ("#d=%%%", "BadAddress"),
