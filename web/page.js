@@ -309,7 +309,10 @@ function listenToOpening() {
 function listenToBar() {
   $('play').onclick = () => isPlaying() ? stopPlaying() : play({ isAsked: true });
   $('cut').oninput = () => cutTo($('cut').valueAsNumber);
-  $('clusters').onchange = () => cutTo($('clusters').valueAsNumber);
+  $('clusters').onchange = () => {
+    cutTo($('clusters').valueAsNumber);
+    $('clusters').value = state.clusters?.count ?? 1; // what was written may be no number of clusters
+  };
   $('pen').onclick = () => change({ tool: state.tool === 'pen' ? 'hand' : 'pen', cross: null });
   $('undo').onclick = undo;
   $('stop').onclick = beginOther;

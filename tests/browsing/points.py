@@ -68,6 +68,19 @@ def a_point_far_from_zero(_room):
 
 
 @case
+def the_field_has_the_clusters_that_there_are(_room):
+    """What is written into it past the points, between two numbers or as nothing, doesn't stay there."""
+    page = Page.opened()
+    page.drop(("points.csv", b"0,0\n3,4\n10,10\n"))
+    for written, count in [("1000", "3"), ("1.6", "2"), ("-5", "1"), (DELETE, "1")]:
+        page.set("cut", 2)
+        page.browser.run("const it = document.getElementById('clusters'); it.focus(); it.select()")
+        page.browser.press(*written, ENTER)
+        page.frames()
+        is_so((written, page.value("clusters"), page.text("say").split(" ")[0]), (written, count, count))
+
+
+@case
 def points_by_keys(_room):
     page = Page.cleared()
     page.click("pen")
