@@ -279,8 +279,11 @@ async function open(files) {
 
 const openText = text => open([new File([text], 'pasted.csv')]);
 
-// Opens what was dropped or pasted: files, or else a text.
-const openAll = data => data.files.length ? open([...data.files]) : openText(data.getData('text/plain'));
+// Opens what was dropped or pasted: files, or else a text. Spreadsheets copy cells as a text and as a picture.
+function openAll(data) {
+  const files = [...data.files], text = data.getData('text/plain');
+  return files.length && !(text && files.every(it => it.type.startsWith('image/'))) ? open(files) : openText(text);
+}
 
 // ---- events
 

@@ -311,6 +311,15 @@ def a_table_that_is_pasted(_room):
     page.browser.run(drop, "0 0\n5 12\n")
     page.settle()
     page.expect(points="2", total="13")
+    # cells of a spreadsheet have their picture with them; a picture alone is refused
+    picture = "data.items.add(new File([Uint8Array.of(137, 80, 78, 71)], 'image.png', { type: 'image/png' }))"
+    cells = paste.replace("document.body.", f"{picture}; document.body.")
+    page.browser.run(cells, "x\ty\n0\t0\n8\t6")
+    page.settle()
+    page.expect(points="2", total="10")
+    page.browser.run(cells.replace("data.setData('text/plain', arguments[0]);", ""))
+    page.settle()
+    is_so(page.text("fault").split(". ")[0], "image.png: NoText (a PNG picture)")
     page.browser.run(paste, "nothing")
     page.settle()
     is_so(page.text("fault")[:39], "pasted.csv: line 1: OneColumn (‘nothing")
