@@ -233,6 +233,9 @@ def an_embedded_page_has_no_controls(_room):
     shown = "return ['head', 'side', 'bar'].filter(it => document.getElementById(it).checkVisibility())"
     is_so((page.browser.run(shown), page.text("points")), ([], "3"))
     page.keep("embed")
+    # but it says why it shows nothing
+    page = Page.opened("?embed#d=AAAA")
+    is_so((page.browser.run(shown), page.text("fault")[:10]), (["head"], "BadAddress"))
 
 
 @case
