@@ -50,8 +50,12 @@ function waited(solver) {
   if (solver.asked) throw new Error('Wait until the forest is there.');
 }
 
-// Lets each button of a file save it; `fault` hears what fails.
-export function listenToSaving(solver, fault) {
+// Lets each button of a file save it; `hear` is told what fails.
+export function listenToSaving(solver, hear) {
+  const fault = error => {
+    $('saving').close(); // it would hide what is told
+    hear(error);
+  };
   for (const [name, { make }] of Object.entries(FILES)) {
     $(idOf(name)).onclick = async () => {
       try {

@@ -204,6 +204,8 @@ def data_too_long_for_the_address(_room):
         page.click("copylink")
         page.browser.wait("document.getElementById('fault').textContent")
         is_so((page.text("fault").split(".")[0], page.value("copied")), ("LongAddress", ""))
+        # no dialog lies over what is told
+        is_so(page.browser.run("return document.getElementById('saving').open"), False)
 
 
 @case
