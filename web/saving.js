@@ -101,12 +101,15 @@ async function copied(text, fault) {
 
 const number = ({ commas }, column) => `float(row[${column}]${commas ? '.replace(",", ".")' : ''})`;
 
+// A file that is opened, packed or not.
+const openedInPython = (name, how) => `${/\.gz$/i.test(name) ? 'gzip.' : ''}open(${JSON.stringify(name)}, ${how})`;
+
 // Lines that read the rows of the file, or of clusters.csv as this page saves it.
 function rowsInPython(choice, file) {
-  const [name, part] = [file?.name ?? 'clusters.csv', choice.separator].map(it => JSON.stringify(it));
-  const text = `open(${name}, encoding="utf-8-sig")`;
-  const split = choice.separator === ' ' ? `line.split() for line in ${text}` : `*csv.reader(${text}, delimiter=${part})`;
-  return ['import csv', 'import numpy as np', `rows = [row for row in [${split}] if row][${choice.hasHeader ? 1 : 0}:]`];
+  const text = openedInPython(file?.name ?? 'clusters.csv', '"rt", encoding="utf-8-sig"'), part = JSON.stringify(choice.separator);
+  const table = `*csv.reader(${text}, delimiter=${part}, skipinitialspace=True)`;
+  const split = choice.separator === ' ' ? `line.split() for line in ${text}` : table;
+  return ['import csv, gzip', 'import numpy as np', `rows = [row for row in [${split}] if any(row)][${choice.hasHeader ? 1 : 0}:]`];
 }
 
 const linksInPython = ({ roles, ...choice }) => [
@@ -140,8 +143,8 @@ function pointsInPython({ roles, ...choice }, kind, count) {
 function pythonText() {
   const { shown: { kind, choice, names }, file, clusters } = state, first = names ? 1 : 0;
   if (kind === 'graph') {
-    const words = JSON.stringify(['boruvka', '--plain', file?.name ?? 'forest.gr']);
-    return `import subprocess\nprint(subprocess.run(${words}, capture_output=True, text=True).stdout)\n`;
+    const text = openedInPython(file?.name ?? 'forest.gr', '"rb"');
+    return `import gzip, subprocess\nsubprocess.run(["boruvka", "--plain"], input=${text}.read(), check=True)\n`;
   }
   const read = choice ?? { separator: ',', hasHeader: true, roles: { across: first, up: first + 1 } };
   const lines = kind === 'links' ? linksInPython(read) : pointsInPython(read, kind, clusters.count);

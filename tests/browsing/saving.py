@@ -1,5 +1,6 @@
 """Files out: each is read again, by what it is for."""
 import csv
+import gzip
 import io
 import json
 import math
@@ -118,6 +119,9 @@ def python_that_does_the_same(room):
         ("towns.csv", open(TOWNS, "rb").read(), 4501.454),
         ("points.csv", b"a;b\n1,5;2,5\n4,5;6,5\n", 5),
         ("links.csv", b"source,target,weight\na,b,1.5\nb,c,2\nc,a,-1\n", 0.5),
+        ("packed.csv.gz", gzip.compress(b"x,y\n0,0\n3,4\n"), 5),
+        # quotes after a space, and a row of spaces
+        ("spaced.csv", b'source, target, weight\na, "b", 1\n  \nb, c, 2\nc, "b, or d", 4\n"b, or d", a, 8\n', 7),
     ]:
         page.drop((name, content))
         page.click("save")
@@ -136,6 +140,25 @@ def python_that_does_the_same(room):
         ended = subprocess.run(["/usr/bin/python3", "-c", text], cwd=room, env=env, capture_output=True, text=True, check=False)
         is_so((ended.returncode, ended.stderr[-300:]), (0, ""))
         is_so(abs(float(ended.stdout.split()[0]) / total - 1) < 1e-6, True)
+
+
+@case
+def python_that_runs_the_program(room):
+    """It hands a packed graph over unpacked, and a program that fails isn't passed over."""
+    page = Page.opened()
+    page.drop(("small.gr.gz", gzip.compress(SMALL_NET)))
+    page.click("save")
+    page.click("copypython")
+    page.browser.wait("document.getElementById('copied').value")
+    with open(f"{room}/small.gr.gz", "wb") as it:
+        it.write(gzip.compress(SMALL_NET))
+    for stand_in, is_well, output in [("cat", True, SMALL_NET), ("exit 3", False, b"")]:
+        with open(f"{room}/boruvka", "w", encoding="utf-8") as it:
+            it.write(f"#!/bin/sh\n{stand_in}\n")
+        os.chmod(it.name, 0o755)
+        env = {**os.environ, "PATH": f"{room}:{os.environ['PATH']}"}
+        ended = subprocess.run([sys.executable, "-c", page.value("copied")], cwd=room, env=env, capture_output=True, check=False)
+        is_so((stand_in, ended.returncode == 0, ended.stdout), (stand_in, is_well, output))
 
 
 @case
