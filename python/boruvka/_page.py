@@ -11,6 +11,7 @@ import json
 import os
 import sys
 import tempfile
+import unicodedata
 import webbrowser
 from collections.abc import Mapping, Sequence, Set
 
@@ -129,5 +130,6 @@ def _table(points: ArrayLike, names: Sequence[str] | None, globe: bool) -> str:
 
 
 def _quoted(name: str) -> str:
-    text = "".join(it if it.isprintable() else " " for it in name)
+    # (the page refuses control characters, and UTF-8 has no halves of surrogates; joiners are letters of names)
+    text = "".join(" " if unicodedata.category(it) in ("Cc", "Cs") else it for it in name)
     return '"' + text.replace('"', '""') + '"'

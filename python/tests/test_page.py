@@ -46,8 +46,10 @@ class Shown(unittest.TestCase):
         self.assertEqual(self.made(np.float32([[1, 2]]), globe=True), [["longitude", "latitude"], ["1.0", "2.0"]])
 
     def test_names(self):
-        names = ['a "b", c', "</script><b>", "ů\n;"]
-        self.assertEqual(self.made([[0, 0]] * 3, names)[1:], [[it, "0.0", "0.0"] for it in [*names[:2], "ů ;"]])
+        # (joiners shape Persian words and families of emoji)
+        names = ['a "b", c', "</script><b>", "می\u200cخواهم", "👨\u200d👩", "a\xa0b", "ů\n;", "a\0b\x85\ud800"]
+        wanted = [*names[:5], "ů ;", "a b  "]
+        self.assertEqual(self.made([[0, 0]] * 7, names)[1:], [[it, "0.0", "0.0"] for it in wanted])
 
     def test_what_is_refused(self):
         for points, more, told in [
