@@ -61,6 +61,22 @@ def doubles_past_whole_numbers(_room):
 
 
 @case
+def points_of_one_feature_keep_apart(_room):
+    """Their forest is read again as itself: it was a loop at one name."""
+    page = Page.opened()
+    named = {"type": "Feature", "properties": {"name": "A"}, "geometry": {"type": "MultiPoint", "coordinates": [[0, 0], [0, 1]]}}
+    for given, names in [
+        ({"type": "MultiPoint", "coordinates": [[0, 0], [0, 1], [0, 3]]}, {"1.1", "1.2", "1.3"}),
+        ([named, {"type": "Point", "coordinates": [0, 3]}], {"A.1", "A.2", "2"}),
+    ]:
+        page.drop(("points.geojson", json.dumps(given).encode()))
+        forest = page.saved("forest.csv")
+        is_so({it for row in csv.DictReader(io.StringIO(forest.decode())) for it in (row["from"], row["to"])}, names)
+        page.drop(("forest.csv", forest))
+        page.expect(points="3", size="2", total=f"{math.radians(3) * 6371:.7g}")
+
+
+@case
 def names_that_are_formulas(_room):
     """A name that a spreadsheet would run begins with an apostrophe, and separators are quoted."""
     page = Page.opened()
