@@ -18,7 +18,13 @@ export function save(name, content) {
 }
 
 const svg = text => new Blob([text], { type: 'image/svg+xml' });
-const png = canvas => new Promise(done => canvas.toBlob(done, 'image/png'));
+
+// A canvas as PNG, once it is drawn.
+async function png(canvas) {
+  while (canvas.ariaBusy === 'true') await new Promise(requestAnimationFrame);
+  return new Promise(done => canvas.toBlob(done, 'image/png'));
+}
+
 const isPoints = () => state.shown?.kind === 'plane' || state.shown?.kind === 'globe';
 
 // A text that the worker makes of what is shown.

@@ -33,6 +33,19 @@ def pictures_of_both(_room):
 
 
 @case
+def a_picture_that_is_being_drawn(_room):
+    """It is saved once it is done: not without points, nor in the colours from before."""
+    page = Page.opened()
+    page.drop(("points.csv", drawn_points(6, 60_000)[1]))
+    zoom = "document.getElementById('picture').dispatchEvent(new WheelEvent('wheel', { deltaY: -100 }))"
+    for more in ("", "const cut = document.getElementById('cut'); cut.value = 40; cut.dispatchEvent(new Event('input'));"):
+        page.browser.run(f"{more} {zoom}; document.getElementById('save-picture-png').click()")
+        soon = page.browser.downloaded("picture.png")
+        page.settle()
+        is_so((more, page.saved("picture.png") == soon), (more, True))
+
+
+@case
 def the_forest_as_csv_and_geojson(_room):
     page = opened_towns()
     with open(TOWNS, encoding="utf-8") as it:
