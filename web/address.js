@@ -5,6 +5,7 @@ import { Refused } from './solver.js';
 const MOST_BYTES = 2_000_000; // unpacked
 const MOST_LETTERS = 400_000;
 export const MOST_CARRIED = 5_000; // points
+export const LINKED = 'link.csv'; // what a file is called that a link carries
 
 async function through(bytes, stream) {
   const reader = new Blob([bytes]).stream().pipeThrough(stream).getReader(), parts = [];
@@ -35,7 +36,7 @@ export async function carried(hash = location.hash) {
   if (letters.length > MOST_LETTERS) throw new Refused({ kind: 'LongAddress' });
   try {
     const bytes = Uint8Array.from(atob(letters.replaceAll('-', '+').replaceAll('_', '/')), it => it.charCodeAt(0));
-    return new File([await through(bytes, new DecompressionStream('deflate-raw'))], 'link.csv');
+    return new File([await through(bytes, new DecompressionStream('deflate-raw'))], LINKED);
   } catch (error) {
     throw error instanceof Refused ? error : new Refused({ kind: 'BadAddress' });
   }

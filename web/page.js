@@ -4,7 +4,7 @@
 // tree and forest: bounds, spaces, tree, weights, boruvka, kruskal; then merges, rounds, layout (in the worker)
 // what is shown: state, clusters; view, scene, picture, dendrogram, fading, playing, reading; out and saving; card
 
-import { carried, inside } from './address.js';
+import { LINKED, carried, inside } from './address.js';
 import { tellSums } from './card.js';
 import { askColumns } from './choosing.js';
 import { clustersTold, greatest, numbersOf } from './clusters.js';
@@ -132,6 +132,9 @@ function tell() {
   tellControls();
   if (!isSame) tellFigures();
   if (drawn.shown !== shown && !state.view) measure();
+  // an address that carries other points than are shown would be passed on
+  const isOther = drawn.shown && drawn.shown !== shown && state.file?.name !== LINKED;
+  if (isOther && location.hash) history.replaceState(null, '', location.href.split('#')[0]);
   tellPicked();
   if (isSame) return;
   drawn = now;

@@ -194,6 +194,29 @@ def data_in_the_address(_room):
 
 
 @case
+def the_address_has_what_is_shown(room):
+    """Who opens other points than the link's has no link any more: a reload, or the address passed on, brought those back."""
+    more = address_of(b"x,y\n0,0\n3,4\n")
+    for begin in (None, f"file://{packed_page(room)}"):
+        page = Page.opened(more if begin is None else "")
+        if begin:
+            page.browser.open(begin + more)
+            page.settle()
+        page.set("clusters", 2)
+        page.drop(("bad.csv", b"1\n"))
+        is_so((page.text("points"), page.browser.run("return location.hash")), ("2", more))
+        page.drop(("other.csv", b"0,0\n6,8\n9,9\n"))
+        page.expect(points="3")
+        is_so(page.browser.run("return location.hash"), "")
+        page.browser.run("location.hash = arguments[0]", more)
+        page.browser.wait("document.getElementById('points').textContent === '2'", seconds=5)
+        page.settle()
+        is_so(page.browser.run("return location.hash"), more)
+        page.click("clear")
+        is_so((page.text("points"), page.browser.run("return location.hash")), ("0", ""))
+
+
+@case
 def data_too_long_for_the_address(_room):
     """No link is copied that the page refuses: here of 5,000 points with long names."""
     page = Page.opened()
