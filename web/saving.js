@@ -56,30 +56,31 @@ function waited(solver) {
   if (solver.asked) throw new Error('Wait until the forest is there.');
 }
 
-// Lets each button of a file save it; `hear` is told what fails.
-export function listenToSaving(solver, hear) {
-  const fault = error => {
-    $('saving').close(); // it would hide what is told
-    hear(error);
+// Lets each button of a file save it; `fault` hears what fails, and null when another one begins.
+export function listenToSaving(solver, fault) {
+  const tried = act => async () => {
+    fault(null);
+    try {
+      await act();
+    } catch (error) {
+      $('saving').close(); // it would hide what is told
+      fault(error);
+    }
   };
   for (const [name, { make }] of Object.entries(FILES)) {
-    $(idOf(name)).onclick = async () => {
-      try {
-        waited(solver);
-        if (name === 'rounds.webm') $('saving').close();
-        const content = await make(solver);
-        if (content) save(name, content);
-      } catch (error) {
-        fault(error);
-      }
-    };
+    $(idOf(name)).onclick = tried(async () => {
+      waited(solver);
+      if (name === 'rounds.webm') $('saving').close();
+      const content = await make(solver);
+      if (content) save(name, content);
+    });
   }
-  $('copylink').onclick = () => copied(async () => {
+  $('copylink').onclick = tried(async () => {
     waited(solver);
     const table = await made('carried.csv')(solver);
-    return table && addressOf(await table.text());
-  }, fault);
-  $('copypython').onclick = () => copied(async () => pythonText(), fault);
+    if (table) await copy(await addressOf(await table.text()));
+  });
+  $('copypython').onclick = tried(() => copy(pythonText()));
 }
 
 export function tellSaving() {
@@ -90,17 +91,11 @@ export function tellSaving() {
 }
 
 // Copies a text; where the browser doesn't, the text is shown to be copied by hand.
-async function copied(text, fault) {
-  try {
-    const it = await text();
-    if (!it) return; // something else was opened meanwhile
-    $('copied').value = it;
-    $('copied').hidden = false;
-    $('copied').select();
-    await navigator.clipboard?.writeText($('copied').value).catch(() => {});
-  } catch (error) {
-    fault(error);
-  }
+async function copy(text) {
+  $('copied').value = text;
+  $('copied').hidden = false;
+  $('copied').select();
+  await navigator.clipboard?.writeText(text).catch(() => {});
 }
 
 // ---- Python

@@ -229,6 +229,9 @@ def data_too_long_for_the_address(_room):
         is_so((page.text("fault").split(".")[0], page.value("copied")), ("LongAddress", ""))
         # no dialog lies over what is told
         is_so(page.browser.run("return document.getElementById('saving').open"), False)
+        # nor does it stay after what goes well
+        page.saved("forest.csv")
+        is_so(page.text("fault"), "")
 
 
 @case
