@@ -322,7 +322,10 @@ function listenToBar() {
   $('pen').onclick = () => change({ tool: state.tool === 'pen' ? 'hand' : 'pen', cross: null });
   $('undo').onclick = undo;
   $('stop').onclick = beginOther;
-  $('save').onclick = () => $('saving').showModal();
+  $('save').onclick = () => {
+    $('copied').hidden = true; // what was copied of other points, or clusters
+    $('saving').showModal();
+  };
   $('about').onclick = () => $('card').showModal();
   $('scale').onchange = () => change({ scale: $('scale').value });
   for (const it of document.querySelectorAll('dialog .close')) it.onclick = () => it.closest('dialog').close();

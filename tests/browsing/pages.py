@@ -185,10 +185,14 @@ def data_in_the_address(_room):
     page.expect(points="2", total="5")
     is_so(page.saved("clusters.csv"), b"name,x,y,cluster\none,0,0,1\ntwo,3,4,1\n")
     # so large a double is read again as itself, 2^60
-    page.drop(("large.csv", b"x,y\n1152921504606846976,0\n0,0\n"))
     page.click("save")
     page.click("copylink")
-    page.browser.wait("document.getElementById('copied').value")
+    page.browser.wait("document.getElementById('copied').checkVisibility()")
+    page.drop(("large.csv", b"x,y\n1152921504606846976,0\n0,0\n"))
+    page.click("save")
+    is_so(page.browser.run("return document.getElementById('copied').checkVisibility()"), False)
+    page.click("copylink")
+    page.browser.wait("document.getElementById('copied').checkVisibility()")
     page = Page.opened(page.value("copied")[len(page.address) :])
     page.expect(points="2", total="1.152922E18")
 
