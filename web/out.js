@@ -1,6 +1,7 @@
 // Files out that the worker makes, each a Blob. Forests and merges are as worker.js answers them.
 
 import { nameAt } from './names.js';
+import { onceEast } from './spaces.js';
 import { bitsOf } from './weights.js';
 
 // A text that grows by pieces.
@@ -69,11 +70,19 @@ export function forestCsv(shown) {
   return text.blob('text/csv');
 }
 
+// A link, from -180 to 180 degrees east. If it crosses the edge of the map it is cut in two there (RFC 7946, 3.1.9).
+function lineOf(ends) {
+  const [[east, high], [west, low]] = ends[0][0] < ends[1][0] ? [ends[1], ends[0]] : ends, over = west + 360 - east;
+  if (over >= 180) return { type: 'LineString', coordinates: ends };
+  const edge = high + (low - high) * (180 - east) / over, parts = [[[east, high], [180, edge]], [[-180, edge], [west, low]]];
+  return { type: 'MultiLineString', coordinates: parts.filter(([one, other]) => one[0] !== other[0]) };
+}
+
 export function forestGeoJson({ forest, names, heights, points }) {
   const text = new Text('{"type":"FeatureCollection","features":[');
   for (let i = 0; i < heights.length; i++) {
     const ends = [2, 3].map(word => forest[4 * i + word] - 1), [from, to] = ends.map(it => nameAt(names, it));
-    const geometry = { type: 'LineString', coordinates: ends.map(it => [points[2 * it], points[2 * it + 1]]) };
+    const geometry = lineOf(ends.map(it => [onceEast(points[2 * it]), points[2 * it + 1]]));
     text.add(`${i ? ',' : ''}\n${JSON.stringify({ type: 'Feature', properties: { from, to, kilometres: heights[i] }, geometry })}`);
   }
   text.add('\n]}\n');

@@ -53,11 +53,11 @@ export class Plane {
   }
 }
 
-// Degrees by which each place of the globe has one pair: east from -180 to below 180, and 0 at the poles. Each step is exact.
-export function namedOnce(points) {
-  const east = it => it >= 180 ? it - 360 : it < -180 ? it + 360 : it;
-  return points.map((it, i) => i % 2 ? it : Math.abs(points[i + 1]) === 90 ? 0 : east(it));
-}
+// Degrees east from -180 to below 180. Each step is exact.
+export const onceEast = it => it >= 180 ? it - 360 : it < -180 ? it + 360 : it;
+
+// Degrees by which each place of the globe has one pair: 0 east at the poles.
+export const namedOnce = points => points.map((it, i) => i % 2 ? it : Math.abs(points[i + 1]) === 90 ? 0 : onceEast(it));
 
 // Kilometres on great circles, by the haversine formula. Points are degrees east and north; axes lead out of the earth.
 export class Globe {

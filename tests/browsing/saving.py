@@ -62,6 +62,26 @@ def the_forest_as_csv_and_geojson(_room):
 
 
 @case
+def a_forest_over_the_edge_of_the_map(_room):
+    """The line of RFC 7946, 3.1.9, in two parts, however its ends are called; other programs drew it round the world."""
+    page = Page.opened()
+    cut = ("MultiLineString", [[[170, 45], [180, 45]], [[-180, 45], [-170, 45]]])
+    for rows, wanted in [
+        ("170,45\n-170,45\n", cut),
+        ("190,45\n170,45\n", cut),
+        ("-175,0\n170,45\n", ("MultiLineString", [[[170, 45], [180, 15]], [[-180, 15], [-175, 0]]])),
+        ("170,45\n180,45\n", ("MultiLineString", [[[170, 45], [180, 45]]])),
+        ("180,45\n-170,45\n", ("LineString", [[-180, 45], [-170, 45]])),
+        ("350,45\n10,45\n", ("LineString", [[-10, 45], [10, 45]])),
+        ("-180,1\n180,2\n", ("LineString", [[-180, 1], [-180, 2]])),
+    ]:
+        page.drop(("globe.csv", f"lon,lat\n{rows}".encode()))
+        (link,) = json.loads(page.saved("forest.geojson"))["features"]
+        geometry = link["geometry"]
+        is_so((rows, geometry["type"], geometry["coordinates"]), (rows, *wanted))
+
+
+@case
 def doubles_past_whole_numbers(_room):
     """A link of 2^60 isn't saved as another whole number, and what is saved is read again as itself."""
     page = Page.opened()
