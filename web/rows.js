@@ -49,7 +49,8 @@ export class Rows {
   }
 
   push(text) {
-    if (CONTROLS.test(text)) throw new Refusal('NoText', this.line + 1);
+    const control = text.search(CONTROLS);
+    if (control >= 0) throw new Refusal('NoText', this.line + (this.rest + text.slice(0, control)).split(BREAKS).length);
     const all = this.rest + text, lines = all.split(all.includes('\r') ? BREAKS : '\n');
     this.rest = lines.pop();
     if (this.line + lines.length > MOST_LINES) throw new Refusal('TooManyLines', MOST_LINES + 1);
