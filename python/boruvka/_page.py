@@ -57,7 +57,7 @@ def show(
         If there is no point, or there are too many; a coordinate isn't finite, or none of the globe; names aren't one for
         each point; a double would round a whole number; or the file isn't such a page.
     TypeError
-        If a coordinate is no real number, `globe` is neither True nor False, or names are a set or a dict.
+        If a coordinate is no real number, `globe` is neither True nor False, or names are a set, a dict or a string.
     FileNotFoundError
         If no page is found.
 
@@ -118,7 +118,7 @@ def _table(points: ArrayLike, names: Sequence[str] | None, globe: bool) -> str:
     if are_wrong.any():
         row, column = np.argwhere(are_wrong)[0].tolist()
         raise ValueError(f"points[{row}, {column}] is {given[row, column]}: it must be {'degrees east, or north' if globe else 'finite'}")
-    if isinstance(names, (Set, Mapping)):
+    if isinstance(names, (Set, Mapping, str, bytes)):
         raise TypeError(f"names are a {type(names).__name__}, and have to be a list")
     if names is not None and len(names) != len(given):
         raise ValueError(f"there are {len(names)} names for {len(given)} points")

@@ -65,7 +65,11 @@ class Shown(unittest.TestCase):
         ]:
             with self.subTest(told=told), self.assertRaisesRegex(ValueError, told):
                 show(points, into=self.into, page=self.page, **more)
-        for more, told in [({"globe": "no"}, "^globe is 'no', and has to be True or False$"), ({"names": {"a"}}, "^names are a set, and have to be a list$")]:
+        for more, told in [
+            ({"globe": "no"}, "^globe is 'no', and has to be True or False$"),
+            ({"names": {"a"}}, "^names are a set, and have to be a list$"),
+            ({"names": "a"}, "^names are a str, and have to be a list$"),
+        ]:
             with self.subTest(told=told), self.assertRaisesRegex(TypeError, told):
                 show([[0, 0]], into=self.into, page=self.page, **more)
         self.assertFalse(os.path.exists(self.into))
