@@ -83,7 +83,7 @@ function tellControls() {
     [$(id).min, $(id).max, $(id).disabled] = [trees, Math.max(trees, most), !clusters];
     if (document.activeElement !== $(id) || id === 'cut') $(id).value = count;
   }
-  $('cut').ariaValueText = `${count} clusters`;
+  $('cut').ariaValueText = clustersCounted(count);
   $('play').textContent = isPlaying() ? 'Stop' : 'Play';
   $('play').disabled = !canPlay();
   $('pen').ariaPressed = tool === 'pen';
@@ -101,6 +101,8 @@ function tellPicked() {
   $('tip').style.top = `${Math.max(4, y - 40)}px`;
 }
 
+const clustersCounted = count => `${count} cluster${count === 1 ? '' : 's'}`;
+
 function dendrogramTold() {
   const { shown, clusters } = state, heaviest = clusters ? greatest(shown).slice(0, 3).map((_, i) => weightAt(shown.heights.length - 1 - i)) : [];
   return heaviest.length ? `Dendrogram. The heaviest merges are at ${heaviest.join(', ')}.` : 'Dendrogram: no merges yet';
@@ -111,7 +113,7 @@ function tellDendrogram() {
   it.ariaLabel = dendrogramTold();
   it.ariaDisabled = String(!clusters);
   [it.ariaValueMin, it.ariaValueMax, it.ariaValueNow] = (clusters ? [shown.merges.roots.length, shown.n, count] : [1, 1, 1]).map(String);
-  it.ariaValueText = `${count} cluster${count === 1 ? '' : 's'}${kept ? `, joined up to ${weightAt(kept - 1)}` : ''}`;
+  it.ariaValueText = `${clustersCounted(count)}${kept ? `, joined up to ${weightAt(kept - 1)}` : ''}`;
   if (it.clientWidth) drawDendrogram(it);
 }
 

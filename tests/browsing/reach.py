@@ -84,7 +84,11 @@ def the_slider_moves_by_keys(_room):
     page.browser.press("\ue014", "\ue014")
     page.frames()
     is_so((page.value("cut"), page.value("clusters")), (str(before + 2), str(before + 2)))
+    is_so(page.browser.run("return document.getElementById('cut').ariaValueText"), f"{before + 2} clusters")
     is_so(page.text("say").startswith(f"{before + 2} clusters, of "), True)
+    page.browser.press("\ue011")
+    page.frames()
+    is_so(page.browser.run("return document.getElementById('cut').ariaValueText"), "1 cluster")
 
 
 # How cones that lack or fail see a colour: Machado, Oliveira and Fernandes 2009, at full severity, over linear light.
