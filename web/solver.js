@@ -23,7 +23,7 @@ const CAUSES = {
   NoUtf8: 'Some letters aren’t UTF-8. Save it as “CSV UTF-8”.',
   NoUtf16: 'It begins as UTF-16, and some letters aren’t. Was the file cut off?',
   Unreadable: 'The file can’t be read. Was it moved, or changed since it was opened?',
-  BadGzip: 'It can’t be unpacked. Was the file cut off?',
+  BadGzip: 'It can’t be unpacked. Was the file cut off? If several files were joined in it, unpack it first.',
   SeveralFiles: 'Open one table or graph at a time, and perhaps its places (.co): none is joined to another here.',
   TooLong: 'A text of this kind may have a gigabyte at most. The program takes more.',
   LongText: 'Places, and graphs without the module, may have half a gigabyte at most.',
