@@ -145,7 +145,8 @@ function pythonText() {
   const { shown: { kind, choice, names }, file, clusters } = state, first = names ? 1 : 0;
   if (kind === 'graph') {
     const text = openedInPython(file?.name ?? 'forest.gr', '"rb"');
-    return `import gzip, subprocess\nsubprocess.run(["boruvka", "--plain"], input=${text}.read(), check=True)\n`;
+    const run = `subprocess.run(["boruvka", "--plain"], input=${text}.read(), stdout=subprocess.PIPE, check=True)`;
+    return `import gzip, subprocess\nprint(${run}.stdout.decode(), end="")\n`;
   }
   const read = choice ?? { separator: ',', hasHeader: true, roles: { across: first, up: first + 1 } };
   const lines = kind === 'links' ? linksInPython(read) : pointsInPython(read, kind, clusters.count);

@@ -50,7 +50,7 @@ const CAUSES = {
   TooFarApart: 'No double holds the distance of these points.',
   TooNear: 'Two points are nearer to each other than 10^-150 of the whole. Leave one of them out.',
   BadAddress: 'What stands behind #d= in the address isn’t data of this page. Was the link cut off?',
-  LongAddress: 'An address carries 5,000 points at most, whose names are short.',
+  LongAddress: 'An address carries at most 5,000 points, with short names.',
   Broken: 'The page has a fault of its own. Please report it.',
   'no memory': 'The browser gives no more memory.',
 };
