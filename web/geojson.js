@@ -21,10 +21,9 @@ function placesOf(feature, number) {
   throw new Refusal('NoGeoPoint', 0, `feature ${number}: ${String(geometry?.type ?? 'nothing').slice(0, 40)}`);
 }
 
-// Places of one feature are told apart by their numbers.
-function nameOf(feature, number, place) {
+function nameOf(feature, number) {
   const all = feature?.properties ?? {}, key = NAMES.find(it => typeof all[it] === 'string' || typeof all[it] === 'number');
-  return `${all[key] ?? feature?.id ?? number}${place ? `.${place}` : ''}`;
+  return String(all[key] ?? feature?.id ?? number);
 }
 
 function parsed(bytes) {
@@ -39,10 +38,9 @@ function parsed(bytes) {
 export async function readGeoJson(source) {
   const bytes = await source.whole(MOST_BYTES), points = new Points('globe', true);
   featuresOf(parsed(bytes)).forEach((feature, i) => {
-    const places = placesOf(feature, i + 1).map(it => Array.isArray(it) ? it : []);
-    for (const [at, [east, north]] of places.entries()) {
+    for (const [east, north] of placesOf(feature, i + 1).map(it => Array.isArray(it) ? it : [])) {
       if (!Number.isFinite(east) || !Number.isFinite(north)) throw new Refusal('NoGeoPoint', 0, `feature ${i + 1}: no two numbers`);
-      points.add(east, north, nameOf(feature, i + 1, places.length > 1 ? at + 1 : 0), 0);
+      points.add(east, north, nameOf(feature, i + 1), 0);
     }
   });
   return points.all([]);

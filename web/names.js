@@ -31,3 +31,17 @@ export class Packer {
 export function nameAt(names, v) {
   return names ? new TextDecoder().decode(names.bytes.subarray(names.ends[v], names.ends[v + 1])) : String(v + 1);
 }
+
+// The name of each place, where a name that several have gets the place's number behind it.
+export function namesApart(names, n) {
+  const all = new Set(), shared = new Set();
+  for (let v = 0; names && v < n; v++) {
+    const name = nameAt(names, v);
+    (all.has(name) ? shared : all).add(name);
+  }
+  return v => {
+    let name = nameAt(names, v);
+    if (shared.has(name)) for (name += `.${v + 1}`; all.has(name);) name += '.';
+    return name;
+  };
+}

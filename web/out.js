@@ -1,6 +1,6 @@
 // Files out that the worker makes, each a Blob. Forests and merges are as worker.js answers them.
 
-import { nameAt } from './names.js';
+import { nameAt, namesApart } from './names.js';
 import { onceEast } from './spaces.js';
 import { bitsOf } from './weights.js';
 
@@ -61,10 +61,10 @@ function weightsWritten({ forest, heights, isExact }) {
 
 // The forest's links with the names of their ends, the lightest first.
 export function forestCsv(shown) {
-  const { forest, names, heights, isExact } = shown, weight = weightsWritten(shown);
+  const { n, forest, names, heights, isExact } = shown, nameOf = namesApart(names, n), weight = weightsWritten(shown);
   const text = new Text(`from,to,${isExact ? 'weight' : 'length'}\n`);
   for (let i = 0; i < heights.length; i++) {
-    const [low, high] = [2, 3].map(word => guarded(nameAt(names, forest[4 * i + word] - 1)));
+    const [low, high] = [2, 3].map(word => guarded(nameOf(forest[4 * i + word] - 1)));
     text.add(`${low},${high},${weight(i)}\n`);
   }
   return text.blob('text/csv');
@@ -78,10 +78,10 @@ function lineOf(ends) {
   return { type: 'MultiLineString', coordinates: parts.filter(([one, other]) => one[0] !== other[0]) };
 }
 
-export function forestGeoJson({ forest, names, heights, points }) {
-  const text = new Text('{"type":"FeatureCollection","features":[');
+export function forestGeoJson({ n, forest, names, heights, points }) {
+  const nameOf = namesApart(names, n), text = new Text('{"type":"FeatureCollection","features":[');
   for (let i = 0; i < heights.length; i++) {
-    const ends = [2, 3].map(word => forest[4 * i + word] - 1), [from, to] = ends.map(it => nameAt(names, it));
+    const ends = [2, 3].map(word => forest[4 * i + word] - 1), [from, to] = ends.map(nameOf);
     const geometry = lineOf(ends.map(it => [onceEast(points[2 * it]), points[2 * it + 1]]));
     text.add(`${i ? ',' : ''}\n${JSON.stringify({ type: 'Feature', properties: { from, to, kilometres: heights[i] }, geometry })}`);
   }

@@ -110,6 +110,22 @@ def points_of_one_feature_keep_apart(_room):
 
 
 @case
+def points_of_one_name_keep_apart(_room):
+    """Their forest is read again as itself, though one is called as another would be."""
+    page = Page.opened()
+    page.drop(("towns.csv", b"name,x,y\nA,0,0\nA,3,4\nA.2,9,12\nB,0,1\n"))
+    page.expect(points="4", total="15.24264")
+    forest = page.saved("forest.csv")
+    is_so({it for row in csv.DictReader(io.StringIO(forest.decode())) for it in (row["from"], row["to"])}, {"A.1", "A.2.", "A.2", "B"})
+    page.drop(("forest.csv", forest))
+    page.expect(points="4", size="3", total="15.24264")
+    # names that are cut to the same letters stand for several, too
+    page.drop(("links.csv", b"source,target,weight\n%bx,%by,1\n%by,b,2\n" % ((b"a" * 200,) * 3)))
+    page.drop(("forest.csv", page.saved("forest.csv")))
+    page.expect(points="3", size="2", total="3")
+
+
+@case
 def names_that_are_formulas(_room):
     """A name that a spreadsheet would run begins with an apostrophe, and separators are quoted."""
     page = Page.opened()
