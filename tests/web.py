@@ -52,6 +52,9 @@ def main():
     words.add_argument("--pictures")
     words.add_argument("cases", nargs="*")
     given = words.parse_args()
+    for word in given.cases:
+        if not any(word in it.__name__ for it in CASES):
+            words.error(f"no case has {word} in its name")
     Page.module, Program.path, Page.pictures = os.path.realpath(given.module), os.path.realpath(given.program), given.pictures
     Page.strict = given.strict
     chosen = [it for it in CASES if not given.cases or any(word in it.__name__ for word in given.cases)]
