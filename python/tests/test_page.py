@@ -44,6 +44,9 @@ class Shown(unittest.TestCase):
     def test_points(self):
         self.assertEqual(self.made([[0, 1.5], [-1e-9, 1 / 3]]), [["x", "y"], ["0.0", "1.5"], ["-1e-09", "0.3333333333333333"]])
         self.assertEqual(self.made(np.float32([[1, 2]]), globe=True), [["longitude", "latitude"], ["1.0", "2.0"]])
+        self.assertEqual(self.made([[360, 90], [-360, -90]], globe=True)[1:], [["360.0", "90.0"], ["-360.0", "-90.0"]])
+        with mock.patch("boruvka._page._MOST_POINTS", 2):
+            self.assertEqual(len(self.made([[0, 0]] * 2)), 3)
 
     def test_names(self):
         # (joiners shape Persian words and families of emoji)
@@ -61,6 +64,9 @@ class Shown(unittest.TestCase):
             ([[0, 0], [1, np.nan]], {}, r"points\[1, 1\] is nan"),
             ([[np.inf, 0]], {}, r"points\[0, 0\] is inf"),
             ([[0, 91]], {"globe": True}, r"points\[0, 1\] is 91.0: it must be degrees"),
+            ([[-361, 0]], {"globe": True}, r"points\[0, 0\] is -361.0: it must be degrees"),
+            ([[0, 2**53 + 1]], {}, r"^points\[0, 1\] is 9007199254740993, which a double would round"),
+            (np.ma.masked_equal([[0, 0], [1, 9]], 9), {}, "^points has masked entries"),
             ([[0, 0]], {"names": ["a", "b"]}, "2 names for 1 points"),
         ]:
             with self.subTest(told=told), self.assertRaisesRegex(ValueError, told):
@@ -72,6 +78,14 @@ class Shown(unittest.TestCase):
         ]:
             with self.subTest(told=told), self.assertRaisesRegex(TypeError, told):
                 show([[0, 0]], into=self.into, page=self.page, **more)
+        # (numpy makes doubles of each of these, if it is asked to)
+        for points, told in [
+            (np.array([[1, 2]], np.longdouble), "^points has the dtype float128: "),
+            ([["1", "2"]], r"^points has the dtype <U1, as points\[0, 0\] is '1': "),
+            (np.array([["2020-01-01", "2020-01-02"]], "M8[D]"), r"^points has the dtype datetime64\[D\]: "),
+        ]:
+            with self.subTest(told=told), self.assertRaisesRegex(TypeError, told):
+                show(points, into=self.into, page=self.page)
         self.assertFalse(os.path.exists(self.into))
         with self.assertRaisesRegex(ValueError, "no empty place"):
             show([[0, 0]], into=self.into, page=np.__file__)
