@@ -203,6 +203,12 @@ def mistakes_that_people_make(room):
 
 
 @case
+def typical_uses(room):
+    """They run, whether or not mypy is there to look at their types."""
+    expect(run([python(), f"{PACKAGE}/tests/typed_uses.py"], env={**WITHOUT, "PYTHONPATH": site(room)}, cwd=room), 0, b"", b"")
+
+
+@case
 def types_by_mypy(room):
     """`mypy --strict` finds nothing in the package, nothing in typical uses, and just the lines that say so in mistakes."""
     if run([python(), "-m", "mypy", "--version"], env=WITHOUT)[0]:
@@ -212,7 +218,6 @@ def types_by_mypy(room):
     words = [python(), "-m", "mypy", "--config-file", f"{room}/mypy.ini", "--no-error-summary"]
     expect(run([*words, f"{room}/site/boruvka"], env=env, cwd=room, seconds=300), 0, b"", b"")
     expect(run([*words, f"{PACKAGE}/tests/typed_uses.py"], env=env, cwd=room, seconds=300), 0, b"", b"")
-    expect(run([python(), f"{PACKAGE}/tests/typed_uses.py"], env={**WITHOUT, "PYTHONPATH": f"{room}/site"}, cwd=room), 0, b"", b"")
     mistakes = f"{PACKAGE}/tests/typed_mistakes.py"
     told = run([*words, mistakes], env=env, cwd=room, seconds=300)[1].decode()
     with open(mistakes, encoding="utf-8") as lines:
