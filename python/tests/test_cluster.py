@@ -104,6 +104,11 @@ class Density(unittest.TestCase):
         found = HDBSCAN(3, min_samples=1).fit(points)
         self.assertEqual(found.labels_.tolist(), [0, 0, 0, 0, 1, 1, 1])
         self.assertEqual(found.probabilities_.tolist(), [1, 1, 1, 0.5, 1, 1, 1])
+        # one that leaves at half the density at which the others fall apart, into two clusters that don't last as long
+        points = np.array([[0.0], [0.5], [1.0], [2.0], [2.5], [3.0], [5.0], [100.0], [100.5], [101.0]])
+        found = HDBSCAN(3, min_samples=1).fit(points)
+        self.assertEqual(found.labels_.tolist(), [0] * 7 + [1] * 3)
+        self.assertEqual(found.probabilities_.tolist(), [1.0] * 6 + [0.5] + [1.0] * 3)
 
     def test_leaves(self):
         draw = np.random.default_rng(2)
