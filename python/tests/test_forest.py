@@ -89,7 +89,7 @@ class Knowing(unittest.TestCase):
     def test_equal_forests(self):
         self.assertEqual(self.forest, minimum_spanning_forest(7, *SMALL))
         self.assertNotEqual(self.forest, minimum_spanning_forest(6, *SMALL))
-        self.assertNotEqual(self.forest, minimum_spanning_forest(7, *SMALL, maximum=True))
+        self.assertNotEqual(self.forest, self.forest._replace(maximum=True))
         self.assertNotEqual(self.forest, self.forest._replace(w=self.forest.w + 1))
         self.assertFalse(self.forest == 5)
 
