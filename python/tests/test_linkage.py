@@ -379,6 +379,10 @@ class Metrics(unittest.TestCase):
                     call(points, **given)
         with self.assertRaisesRegex(ValueError, "^the latitude of the point 1 is 51.5, .*radians"):
             spanning_tree([[0, 0], [51.5, 0.1]], metric="haversine")
+        with self.assertRaisesRegex(ValueError, "^the latitude of the point 0 is 1.6, past a right angle"):
+            spanning_tree([[1.6, 0], [0, 0]], metric="haversine")
+        poles = spanning_tree([[np.pi / 2, 0], [-np.pi / 2, 0]], metric="haversine")
+        self.assertEqual(poles.w.tolist(), [np.pi])
         for given in ({"metric": "cosine"}, {"min_samples": 2}, {"p": 3}, {"p": "2"}):
             with self.assertRaisesRegex(TypeError, "^y is distances, "):
                 spanning_tree([1.0, 2.0, 3.0], **given)
