@@ -82,6 +82,8 @@ class Knowing(unittest.TestCase):
         self.assertNotIn("more", forest._repr_html_())
         path = minimum_spanning_forest(range(40), range(1, 41), [1.5] * 40)
         self.assertIn("and 30 more", path._repr_html_())
+        whole = minimum_spanning_forest(range(10), range(1, 11), [1.5] * 10)._repr_html_()
+        self.assertEqual((whole.count("<td>1.5</td>"), "more" in whole), (10, False))
         self.assertEqual(Forest([0, 4], [1, 2], [5, 6], [0, 1]).n, 5)
         with self.assertRaisesRegex(ValueError, r"shapes \(2,\), \(1,\), "):
             Forest([0, 4], [1], [5, 6], [0, 1])
