@@ -291,8 +291,13 @@ def points_in_the_page(room):
 
 
 @case
-def each_file_of_the_packages_tests_is_run(_room):
+def each_class_of_the_packages_tests_is_run(_room):
+    """Its file is named by a case, or the class itself."""
     with open(__file__, encoding="utf-8") as it:
         cases = it.read()
-    names = [it.removesuffix(".py") for it in os.listdir(f"{PACKAGE}/tests") if it.startswith("test_")]
-    is_so(([it for it in names if f'expect_tests(room, "{it}' not in cases], len(names) > 5), ([], True))
+    names, lacking = [it.removesuffix(".py") for it in os.listdir(f"{PACKAGE}/tests") if it.startswith("test_")], []
+    for name in names:
+        with open(f"{PACKAGE}/tests/{name}.py", encoding="utf-8") as it:
+            classes = [f"{name}.{each}" for each in re.findall(r"^class (\w+)\(unittest\.TestCase\)", it.read(), re.M)]
+        lacking += [each for each in classes or [name] if f'"{name}"' not in cases and f'"{each}"' not in cases]
+    is_so((lacking, len(names) > 5), ([], True))
