@@ -1,6 +1,7 @@
 """What README, docs/RECIPES.md and the manual page show, run as it stands there; the session that docs/PROTOCOL.md
 shows; README's call of a library; what the manual page, the promises and the map name; how long pages and their parts are."""
 import glob
+import gzip
 import math
 import os
 import random
@@ -559,6 +560,22 @@ def the_call_of_a_library_is_proved(room):
     ended = run(["rt", "check"], seconds=10 * SECONDS, cwd=f"{room}/crates/{name}")
     if ended[0] or b"logic=proved" not in ended[1] + ended[2]:
         raise AssertionError(f"{name}: {(ended[1] + ended[2])[-900:]!r}")
+
+
+@case
+def packed_files_that_are_broken(room):
+    """A pipe has the status of its last command: gzip tells of a wrong sum after the whole text has gone into it."""
+    packed = gzip.compress(b"p sp 2 1\na 1 2 17\n", 0)
+    page = text_of("man/boruvka.1").replace("\\-", "-")
+    for name, found in [("road.gr.gz", re.findall(r"`(gzip [^`]*)`", text_of("README.md"))), ("FILE.gz", re.findall(r"\\fB(gzip .*?)\\fR", page))]:
+        [command] = found
+        written(f"{room}/{name}", packed)
+        if pasted(room, command) != (0, "p sp 2 1\na 1 2 17\n"):
+            raise AssertionError(command)
+        written(f"{room}/{name}", packed.replace(b"17", b"71"))
+        status, output = pasted(room, command)
+        if not status or "71" in output:
+            raise AssertionError(f"{command}: {(status, output)!r:.600}")
 
 
 @case
