@@ -110,9 +110,16 @@ def the_recipes(room):
 
 @case
 def the_recipes_in_other_shells(room):
-    """In zsh what has both a file and a pipe goes to either."""
+    """In zsh what has both a file and a pipe goes to either. With `pipefail` a pipe fails just if its graph can't be read."""
+    *blocks, last = blocks_of("docs/RECIPES.md")
+    [setting] = re.findall(r"`(set -o \w+)`", text_of("docs/RECIPES.md"))
     for shell in filter(shutil.which, ["bash", "zsh"]):
-        expect_shown(f"{room}/{shell}", blocks_of("docs/RECIPES.md"), shell)
+        expect_shown(f"{room}/{shell}", blocks, shell)
+        for command, output in [it for block in blocks for it in shown(*block) if it[0].startswith("boruvka --plain examples/roads.gr |")]:
+            found = [pasted(f"{room}/{shell}", f"{setting}; {it}", shell) for it in (command, command.replace("roads.gr", "none.gr"))]
+            if found[0] != (0, output) or not found[1][0]:
+                raise AssertionError(f"{shell}: {command}    found {found!r:.900}")
+        expect_shown(f"{room}/{shell}", [last], shell)
 
 
 @case
