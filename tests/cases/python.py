@@ -81,15 +81,18 @@ def lent_networkx(room, python):
 
 
 def expect_tests(room, *names, more=()):
-    """These of the package's tests pass over the wheel. If all of them are skipped, so is the case."""
+    """These of the package's tests pass over the wheel. If all of them are skipped, so is the case; why some are is printed."""
     path = os.pathsep.join([site(room), *more, *filter(None, [os.environ.get("PYTHONPATH")])])
     env = {**WITHOUT, "PYTHONPATH": path, "PYTHONDONTWRITEBYTECODE": "1", "MPLCONFIGDIR": os.path.dirname(room)}
     status, _, told = run([python(), "-m", "unittest", "-v", *names], env=env, cwd=f"{PACKAGE}/tests", seconds=300)
     shape = re.search(r"^Ran (\d+) tests? in .*\n\nOK(?: \(skipped=(\d+)\))?\s*$", told.decode(), re.M)
     if status or not shape or shape[1] == "0":
         raise AssertionError(told.decode()[-3000:])
+    reasons = {*re.findall(r"\.\.\. skipped ['\"](.*)['\"]$", told.decode(), re.M)}
     if shape[1] == shape[2]:
-        raise Skipped(re.search(r"\.\.\. skipped ['\"](.*)['\"]$", told.decode(), re.M)[1])
+        raise Skipped(min(reasons))
+    for why in sorted(reasons):
+        print(f"program: some of {' and '.join(names)}: skipped: {why}", flush=True)
 
 
 @case
