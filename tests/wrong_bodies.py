@@ -153,6 +153,16 @@ def cut_off(*_):
         it.terminate()
 
 
+def texts_of(folder):
+    """The texts of a crate's code, by their paths in its folder."""
+    texts = {}
+    for at, _, files in os.walk(f"{folder}/src"):
+        for name in files:
+            with open(f"{at}/{name}", encoding="utf-8") as it:
+                texts[os.path.relpath(f"{at}/{name}", folder)] = it.read()
+    return texts
+
+
 class Room:
     """A copy of a crate, with what stands below it, in a folder of its own."""
 
@@ -166,11 +176,7 @@ class Room:
             it.write("".join(lines[name] for name in [*names, crate]))
         if os.path.exists(f"{ROOT}/HANDLES"):
             shutil.copy(f"{ROOT}/HANDLES", folder)
-        self.texts = {}
-        for at, _, files in os.walk(f"{self.folder}/src"):
-            for name in files:
-                with open(f"{at}/{name}", encoding="utf-8") as it:
-                    self.texts[os.path.relpath(f"{at}/{name}", self.folder)] = it.read()
+        self.texts = texts_of(self.folder)
 
     def check(self, texts):
         """What `rt check` says of the crate with these texts, over the work that the crate's own checks kept, and its verdict."""

@@ -1,6 +1,7 @@
 """The programs around the proofs, over small repositories with stand-ins for `rt`: that the gate fails if a part of it ends
 ill, what it keeps for a release, that nothing is proved over a crate that isn't, and which wrong bodies are counted as
 refused."""
+import collections
 import json
 import os
 import re
@@ -8,6 +9,9 @@ import shutil
 import stat
 import subprocess
 import sys
+
+import wrong_bodies
+from crates import crate_lines
 
 from cases.running import ROOT, SECONDS, SMALL_FOREST, TESTS, Skipped, case
 
@@ -414,6 +418,16 @@ def wrong_bodies_of_several_functions_share_a_copy(room):
     it.expect(0, [*small, "2 wrong bodies refused, 0 survived"], 2, ["--jobs", "1", "small"])
     third = f"small/c: refused: src/lib.rt:14:5: {GOAL}"
     it.expect(0, [*small, third, "3 wrong bodies refused, 0 survived"], 2, ["--jobs", "1", "--must-fail", "small"])
+
+
+@case
+def each_wrong_body_can_be_tried(_room):
+    """As far as that is seen without the prover: `make wrong`, which the gate doesn't run, tries them."""
+    count = collections.Counter()
+    for crate in crate_lines():
+        texts = wrong_bodies.texts_of(f"{ROOT}/crates/{crate}")
+        count["fit"] += len([*wrong_bodies.edits_of(crate, ["wrong-bodies"], texts, count)])
+    expect((count["unfit"], count["fit"] > 500), (0, True))
 
 
 @case

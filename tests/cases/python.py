@@ -80,6 +80,14 @@ def lent_networkx(room, python):
     return f"{room}/lent"
 
 
+def networkx_if_there(room):
+    """Its folder, for tests a few of which need it."""
+    try:
+        return [lent_networkx(room, python())]
+    except Skipped:
+        return []
+
+
 def expect_tests(room, *names, more=()):
     """These of the package's tests pass over the wheel. If all of them are skipped, so is the case; why some are is printed."""
     path = os.pathsep.join([site(room), *more, *filter(None, [os.environ.get("PYTHONPATH")])])
@@ -164,7 +172,7 @@ def a_fresh_environment_installs_the_wheel(room):
 
 @case
 def forests_of_arrays(room):
-    expect_tests(room, "test_forest")
+    expect_tests(room, "test_forest", more=networkx_if_there(room))
 
 
 @case
@@ -202,7 +210,7 @@ def refusals_as_the_library_tells_them(room):
 
 @case
 def mistakes_that_people_make(room):
-    expect_tests(room, "test_mistakes")
+    expect_tests(room, "test_mistakes", more=networkx_if_there(room))
 
 
 @case
