@@ -192,6 +192,12 @@ class Room:
         return said, last if last.startswith({0: "logic=proved", 1: "logic=not-proved"}.get(status, "\n")) else ""
 
 
+def named(path):
+    """The function that a path names, and the one in whose body it stands if it is a closure: `fn`, that one, and its own."""
+    # (the folder of a function that calls itself begins with a plus sign)
+    return {path[-1].removeprefix("+"), *(it.removeprefix("+") for before, it in zip(path, path[1:]) if before == "fn")}
+
+
 def verdict(edit, texts, said):
     """'refused', 'named' (only names are missing) or 'survived', and the reason that was told."""
     names = ""
@@ -203,10 +209,9 @@ def verdict(edit, texts, said):
             function = function_at(text, len("\n".join(text.split("\n")[: int(told[2])])))
             own, is_refused = function[0] if function else set(), "it is not proved" in told[3]
         elif told and told[3].startswith("error"):
-            # (the folder of a function that calls itself begins with a plus sign)
-            own, is_refused = {told[1].split("/")[-2].removeprefix("+")}, not NAMES_ALONE.search(told[3])
+            own, is_refused = named(told[1].split("/")[:-1]), not NAMES_ALONE.search(told[3])
         elif of:
-            own, is_refused = {of[1].split("::")[-1]}, "did not prove" in of[2]
+            own, is_refused = named(of[1].split("::")), "did not prove" in of[2]
         else:
             continue
         if not edit.touched or own & edit.touched:

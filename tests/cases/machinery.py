@@ -358,6 +358,10 @@ for it in re.finditer(r"fn (\w+)\(\) -> u8\n    ensures \|it\| it == (\d),\n\{\n
         print(f"proofs/{name}/body.oantt:1:1: error: `gone` is not in scope")
     elif value == "told()":
         print(f"fn small::{name}: not proved: `auto` did not prove it")
+    elif value == "closed()":
+        print(f"proofs/fn/{name}/all/body.oantt:1:1: error: a goal is left")
+    elif value == "closed_told()":
+        print(f"fn small::fn::{name}::all: not proved: `auto` did not prove it")
     elif value == "elsewhere()":
         print("src/lib.rt:4:5: error: it is not proved that the clause holds")
         print("proofs/one/body.oantt:1:1: error: a goal is left")
@@ -453,6 +457,15 @@ def a_body_is_refused_for_a_reason_of_its_own(room):
     it.put_edit("b", turned("give(3)", "give(7)"))
     named = "small/a: refused (SUSPICIOUS: only a proof file's names are missing; turn a value in its place): proofs/two/body.oantt:1:1: error: `gone` is not in scope"
     it.expect(0, [f"small/b: refused: src/lib.rt:14:5: {GOAL}", named, "2 wrong bodies refused, 0 survived"], 3)
+
+
+@case
+def a_body_is_refused_by_its_closures_proof(room):
+    it = Bodies(room)
+    it.put_edit("a", turned("give(1)", "closed()"))
+    it.put_edit("b", turned("give(2)", "closed_told()"))
+    told = ["proofs/fn/one/all/body.oantt:1:1: error: a goal is left", "fn small::fn::two::all: not proved: `auto` did not prove it"]
+    it.expect(0, [*(f"small/{name}: refused: {line}" for name, line in zip("ab", told)), "2 wrong bodies refused, 0 survived"], 2)
 
 
 @case
