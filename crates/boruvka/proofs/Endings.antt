@@ -58,8 +58,7 @@ wants_memory_as false asked s a e f text = wants_memory_over asked.workers asked
 
 -- what is so of the state of a source is so whether it is told how much was read or isn't
 pub so_left : {S : Type 0} (told : Bool) (R : S → Type 0) (left : S) → R left → OnLeft told R left
-so_left true R left holds = (left, holds)
-so_left false R left holds = holds
+so_left a1 a2 a3 a4 = search arith
 
 wants_memory_in : (asked : Asked) (s : SourceState) (a e f : SinkState) → IsWritten no_memory e f
     → EndsOnSource asked 4 (record { source = s; sink = a; errors = e }) (record { source = s; sink = a; errors = f })
@@ -67,8 +66,7 @@ wants_memory_in asked s a e f text = so_left asked.progress _ s (wants_memory_as
 
 wants_memory_on : (file : Option (List ℕ)) (asked : Asked) (s : SourceState) (a e f : SinkState) → IsWritten no_memory e f
     → EndsOn file asked 4 (record { source = s; sink = a; errors = e }) (record { source = s; sink = a; errors = f })
-wants_memory_on None asked s a e f text = wants_memory_in asked s a e f text
-wants_memory_on (Some name) asked s a e f text = inr (wants_memory_in asked uncounted a e f text)
+wants_memory_on a1 a2 a3 a4 a5 a6 a7 = search (arith, wants_memory_in)
 
 pub wants_memory_of : (files : List (Option (List ℕ))) (asked : Asked) (s : SourceState) (a e f : SinkState) → IsWritten no_memory e f
     → EndsOnFiles files asked 4 (record { source = s; sink = a; errors = e }) (record { source = s; sink = a; errors = f })
@@ -91,8 +89,7 @@ only_file (item ∷ next ∷ items) name few is = absurd (omega arith)
 -- a run whose report is written ends as its answer says
 pub status_by_report : {X : Type 0} (status : ℕ) (ended : Result Report RunFault) (result : Result (Report × X) RunFault)
     → ended ≡ report_of result → status ≡ status_of_run ended → status ≡ status_of_run result
-status_by_report status ended (Ok went) ended_is is = rw ended_is at is
-status_by_report status ended (Err why) ended_is is = rw ended_is at is
+status_by_report a1 a2 a3 a4 a5 = search arith
 
 -- ---- the status
 
@@ -112,19 +109,7 @@ own_status : (why : RunFault) (status : ℕ) → 1 ≤ status → status ≤ 4 �
 own_status why status some few = record { some = some; few = omega arith; own = λ own. few }
 
 pub status_bound : (why : RunFault) → HasStatus why (status_for why)
-status_bound (fault.Read (read.Gr f)) = own_status _ 1 (omega arith) (omega arith)
-status_bound (fault.Read (read.Source line)) = own_status _ 3 (omega arith) (omega arith)
-status_bound (fault.Read read.TooLong) = own_status _ 1 (omega arith) (omega arith)
-status_bound (fault.Read read.Memory) = own_status _ 4 (omega arith) (omega arith)
-status_bound (fault.Cut cut.NoShards) = own_status _ 1 (omega arith) (omega arith)
-status_bound (fault.Cut cut.TooManyShards) = own_status _ 1 (omega arith) (omega arith)
-status_bound (fault.Cut cut.ShardTooLarge) = own_status _ 1 (omega arith) (omega arith)
-status_bound (fault.Cut cut.BadPlaces) = own_status _ 1 (omega arith) (omega arith)
-status_bound (fault.Cut cut.Memory) = own_status _ 4 (omega arith) (omega arith)
-status_bound (fault.Rounds round) = record { some = omega arith; few = omega arith; own = λ own. absurd (own tt) }
-status_bound (fault.Missed link) = record { some = omega arith; few = omega arith; own = λ own. absurd (own tt) }
-status_bound fault.Memory = own_status _ 4 (omega arith) (omega arith)
-status_bound (fault.Write written) = own_status _ 3 (omega arith) (omega arith)
+status_bound a1 = search (arith, own_status)
 
 -- a run that no fault of the workers' ends has another status than theirs
 pub own_end : {X : Type 0} (found : ForestFact) (says : AnswerFact X) (why : GraphValue → RunFault → Type 0) (result : Result X RunFault) (status : ℕ) (before after : Streams)
@@ -139,21 +124,16 @@ own_end found says why (Err fault.Memory) status before after is ran no_round no
 own_end found says why (Err (fault.Write written)) status before after is ran no_round no_link = omega arith
 
 pub run_bound : {X : Type 0} (result : Result X RunFault) (status : ℕ) → status ≡ status_of_run result → status ≤ 5
-run_bound (Ok x) status is = omega arith
-run_bound (Err why) status is = (let bound = (status_bound why).few in omega arith)
+run_bound a1 a2 a3 = search (arith, status_bound)
 
 -- a run of status 0 ended well, and so left its sink flushed
 pub flushed_at_end : {X : Type 0} (result : Result X RunFault) (status : ℕ) (unflushed : Option (List ℕ)) → status ≡ status_of_run result
     → OnOk result (IsFlushed unflushed) → status ≡ 0 → IsFlushed unflushed
-flushed_at_end (Ok x) status unflushed is flushed none = flushed
-flushed_at_end (Err why) status unflushed is flushed none = (let bound = (status_bound why).some in absurd (omega arith))
+flushed_at_end a1 a2 a3 a4 a5 a6 = search (arith, status_bound)
 
 -- neither 0 nor 3 is the status of a run that wrote nothing
 pub loud : (status : ℕ) → (status ≡ 0) ⊎ (status ≡ 3) → LeavesOutput status → ⊥
-loud status is (inl one) = elim is [ inl none ↦ omega arith | inr three ↦ omega arith ]
-loud status is (inr (inl two)) = elim is [ inl none ↦ omega arith | inr three ↦ omega arith ]
-loud status is (inr (inr (inl four))) = elim is [ inl none ↦ omega arith | inr three ↦ omega arith ]
-loud status is (inr (inr (inr five))) = elim is [ inl none ↦ omega arith | inr three ↦ omega arith ]
+loud a1 a2 a3 = search arith
 
 -- at a status of those nothing was written
 pub silent_run : {X : Type 0} (found : ForestFact) (says : AnswerFact X) (why : GraphValue → RunFault → Type 0)
@@ -170,30 +150,8 @@ silent_run found says why (Err (fault.Write written)) status s t a b is ran sile
 -- a lawful file whose links can be cut so has its forest, or memory was wanting, or the sink had a setback
 pub done_status : {X : Type 0} (result : Result X RunFault) (status : ℕ) (a b : SinkState) → status ≡ status_of_run result → IsUnhindered result a b
     → (status ≡ 0) ⊎ ((status ≡ 4) ⊎ ((status ≡ 3) × ¬ HadNoSetback a b))
-done_status (Ok went) status a b is free = inl is
-done_status (Err (fault.Read (read.Gr f))) status a b is free = absurd cc
-done_status (Err (fault.Read (read.Source line))) status a b is free = absurd cc
-done_status (Err (fault.Read read.TooLong)) status a b is free = absurd cc
-done_status (Err (fault.Read read.Memory)) status a b is free = inr (inl is)
-done_status (Err (fault.Cut cut.NoShards)) status a b is free = absurd cc
-done_status (Err (fault.Cut cut.TooManyShards)) status a b is free = absurd cc
-done_status (Err (fault.Cut cut.ShardTooLarge)) status a b is free = absurd cc
-done_status (Err (fault.Cut cut.BadPlaces)) status a b is free = absurd cc
-done_status (Err (fault.Cut cut.Memory)) status a b is free = inr (inl is)
-done_status (Err (fault.Rounds round)) status a b is free = absurd free
-done_status (Err (fault.Missed link)) status a b is free = absurd free
-done_status (Err fault.Memory) status a b is free = inr (inl is)
-done_status (Err (fault.Write written)) status a b is free = inr (inr (is, free))
+done_status a1 a2 a3 a4 a5 a6 = search arith
 
 -- a file that means nothing is refused, or memory was wanting
 pub refused_status : {X : Type 0} (bytes : List ℕ) (result : Result X RunFault) (status : ℕ) → status ≡ status_of_run result → IsFirstFaultOf bytes result → (status ≡ 1) ⊎ (status ≡ 4)
-refused_status bytes (Ok went) status is first = absurd first
-refused_status bytes (Err (fault.Read (read.Gr f))) status is first = inl is
-refused_status bytes (Err (fault.Read (read.Source line))) status is first = absurd first
-refused_status bytes (Err (fault.Read read.TooLong)) status is first = absurd first
-refused_status bytes (Err (fault.Read read.Memory)) status is first = inr is
-refused_status bytes (Err (fault.Cut why)) status is first = absurd first
-refused_status bytes (Err (fault.Rounds round)) status is first = absurd first
-refused_status bytes (Err (fault.Missed link)) status is first = absurd first
-refused_status bytes (Err fault.Memory) status is first = absurd first
-refused_status bytes (Err (fault.Write written)) status is first = absurd first
+refused_status a1 a2 a3 a4 a5 = search arith

@@ -32,9 +32,7 @@ adds_from s t old (Err why) (Err fault) is adds = rw is adds
 
 pub adds_file : (file : Option (List ℕ)) (was_read : Bool) (before after : SourceState) (old : PartsValue) (added : Result PartsValue JoinFault)
     → (file ≡ None → was_read ≡ false) → AddsFrom (source_of before file) (source_of after file) old added → AddsFile file was_read before after old added
-adds_file file was_read before after old (Ok new) unread adds = (unread, adds)
-adds_file file was_read before after old (Err Unopened) unread adds = absurd adds
-adds_file file was_read before after old (Err (Part why)) unread adds = (unread, adds)
+adds_file a1 a2 a3 a4 a5 a6 a7 a8 = search arith
 
 -- how often the input is among the files and one more
 inputs_more : (files : List (Option (List ℕ))) (file : Option (List ℕ)) → inputs (files ++ file ∷ []) ≡ inputs files + inputs (file ∷ [])
@@ -47,8 +45,7 @@ inputs_more (Some name ∷ files) file = inputs_more files file
 graphs_apart : (s t u : SourceState) (files : List (Option (List ℕ))) (graphs : List GraphValue) → inputs files ≡ 0 → GiveGraphs s t files graphs → GiveGraphs s u files graphs
 graphs_apart s t u [] [] none each = tt
 graphs_apart s t u (None ∷ files) (g ∷ graphs) none each = absurd (omega arith)
-graphs_apart s t u (Some name ∷ files) (g ∷ graphs) none (first, each) =
-    (record { bytes = first.bytes; read = first.read; means = first.means }, graphs_apart s t u files graphs none each)
+graphs_apart s t u (Some name ∷ files) (g ∷ graphs) none (first, each) = search (arith, graphs_apart s t u files graphs none each)
 graphs_apart s t u [] (g ∷ graphs) none each = absurd each
 graphs_apart s t u (f ∷ files) [] none each = absurd each
 
@@ -80,17 +77,13 @@ Keeps s before was_read parts left = (was_read ≡ false → left ≡ s) × AreJ
 -- the graphs before one more file, however the input is left behind it
 each_left : (s left new_left : SourceState) (before : List (Option (List ℕ))) (file : Option (List ℕ)) (was_read : Bool) (graphs : List GraphValue)
     → inputs before ≡ times was_read → (file ≡ None → was_read ≡ false) → GiveGraphs s left before graphs → GiveGraphs s (left_by file left new_left) before graphs
-each_left s left new_left before None was_read graphs count unread each =
-    let none : inputs before ≡ 0 = rw (unread refl) at count in
-    graphs_apart s left new_left before graphs none each
-each_left s left new_left before (Some name) was_read graphs count unread each = each
+each_left a1 a2 a3 a4 a5 a6 a7 a8 a9 a10 = search (arith, graphs_apart)
 
 -- what a file's source did it did from the first state of the input
 from_first : (R : SourceState → SourceState → Type 0) (s now new_left left : SourceState) (file : Option (List ℕ)) (was_read : Bool)
     → (file ≡ None → was_read ≡ false) → (was_read ≡ false → now ≡ s)
     → R (source_of now file) (source_of new_left file) → R (source_of s file) (source_of (left_by file left new_left) file)
-from_first R s now new_left left None was_read unread fresh did = subst (λ (u : SourceState). R u new_left) (fresh (unread refl)) did
-from_first R s now new_left left (Some name) was_read unread fresh did = did
+from_first a1 a2 a3 a4 a5 a6 a7 a8 a9 a10 = search arith
 
 -- a file that came to the parts
 step_ok : (s now new_left left : SourceState) (before : List (Option (List ℕ))) (file : Option (List ℕ)) (was_read : Bool) (old new : PartsValue)
@@ -106,9 +99,7 @@ step_ok s now new_left left before file was_read old new fresh count (same, (gra
     (graphs ++ added.graph ∷ [], graphs_more s (left_by file left new_left) before graphs file added.graph each_still graph, added.parts graphs parts)
 
 some_before : {X : Type 0} (xs : List X) (n : ℕ) → n ≡ length xs → 0 < n → xs ≢ []
-some_before xs n long some = λ none.
-    let zero : length xs ≡ 0 = ap length none in
-    absurd (omega arith)
+some_before xs n long some = search arith
 
 -- a file that isn't a part stops the run
 step_stops : (s now new_left left : SourceState) (before : List (Option (List ℕ))) (file : Option (List ℕ)) (was_read : Bool) (old : PartsValue) (why : PartFault)
@@ -125,26 +116,19 @@ step_stops s now new_left left before file was_read old (part.OtherVertices othe
     (adds.graph, graph, adds.vertices_are, adds.wanted_is, adds.differ, some_before before old.files long adds.some_before)
 
 once : (was_read : Bool) (n : ℕ) → n ≡ times was_read → n ≤ 1
-once true n is = omega arith
-once false n is = omega arith
+once a1 a2 a3 = search arith
 
 none_read : (was_read : Bool) → times was_read ≡ 0 → was_read ≡ false
-none_read true none = absurd (omega arith)
-none_read false none = refl
+none_read a1 a2 = search arith
 
 pub inputs_step : (before : List (Option (List ℕ))) (file : Option (List ℕ)) (was_read now_read : Bool) → now_read ≡ (was_read || not (is_some file))
     → inputs before ≡ times was_read → (file ≡ None → was_read ≡ false) → inputs (before ++ file ∷ []) ≡ times now_read
-inputs_step before None true now_read is count unread = absurd (let bad = unread refl in cc)
-inputs_step before None false now_read is count unread = rw is (omega (arith, inputs_more before None, count))
-inputs_step before (Some name) true now_read is count unread = rw is (omega (arith, inputs_more before (Some name), count))
-inputs_step before (Some name) false now_read is count unread = rw is (omega (arith, inputs_more before (Some name), count))
+inputs_step a1 a2 a3 a4 a5 a6 a7 = search (arith, inputs_more)
 
 -- how the input is left behind a file, where it was read or wasn't
 fresh_left : (was_read now_read : Bool) (file : Option (List ℕ)) (s left new_left : SourceState) → now_read ≡ (was_read || not (is_some file))
     → (was_read ≡ false → left ≡ s) → now_read ≡ false → left_by file left new_left ≡ s
-fresh_left true now_read file s left new_left is same unread = absurd cc
-fresh_left false now_read None s left new_left is same unread = absurd cc
-fresh_left false now_read (Some name) s left new_left is same unread = same refl
+fresh_left a1 a2 a3 a4 a5 a6 a7 a8 a9 = search arith
 
 -- how the input is left at a stop
 abbrev stop_left : Option (List ℕ) → JoinFault → SourceState → SourceState → SourceState
@@ -179,41 +163,33 @@ stops_at s now new_left left files before behind file was_read old (Part why) sp
 -- ---- where it is told how much was read, and where it isn't
 
 pub on_told : {S : Type 0} (told : Bool) (R : S → Type 0) (left s : S) → told ≡ true → R s → OnLeft told R left
-on_told true R left s is holds = (s, holds)
-on_told false R left s is holds = absurd cc
+on_told a1 a2 a3 a4 a5 a6 = search arith
 
 some_left : {S : Type 0} (told : Bool) (R : S → Type 0) (left : S) → OnLeft told R left → (s : S) × R s
-some_left true R left (s, holds) = (s, holds)
-some_left false R left holds = (left, holds)
+some_left a1 a2 a3 a4 = search arith
 
 untold_left : {S : Type 0} (told : Bool) (R : S → Type 0) (left : S) → told ≡ false → OnLeft told R left → R left
-untold_left true R left is holds = absurd cc
-untold_left false R left is holds = holds
+untold_left a1 a2 a3 a4 a5 = search arith
 
 pub map_left : (told : Bool) (R R' : SourceState → Type 0) (left : SourceState) → ((s : SourceState) → R s → R' s) → OnLeft told R left → OnLeft told R' left
-map_left true R R' left to (s, holds) = (s, to s holds)
-map_left false R R' left to holds = to left holds
+map_left a1 a2 a3 a4 a5 a6 = search arith
 
 -- the same of a stream's state
 pub state_left : {S : Type 0} (told : Bool) (state : S → SourceState) (R : SourceState → Type 0) (left : S) → OnLeft told (λ s. R (state s)) left → OnLeft told R (state left)
-state_left true state R left (s, holds) = (state s, holds)
-state_left false state R left holds = holds
+state_left a1 a2 a3 a4 a5 = search arith
 
 -- a FILE that was opened is a source of which nothing is known, and leaves the input alone
 pub adds_named : {S J : Type 0} (told : Bool) (file : Option (List ℕ)) (name : List ℕ) (was_read : Bool) (before : SourceState) (state : S → SourceState) (left : S)
     (old : PartsValue) (added : Result PartsValue JoinFault) (j : J) → file ≡ Some name → OnLeft told (λ (j : J). AddsFrom uncounted uncounted old added) j
     → OnLeft told (λ s. AddsFile file was_read before (state s) old added) left
-adds_named {J} told file name was_read before state left old added j is adds =
-    let (k, holds) = some_left told (λ (j : J). AddsFrom uncounted uncounted old added) j adds in
-    so_left told (λ s. AddsFile file was_read before (state s) old added) left (rw is (adds_file (Some name) was_read before (state left) old added (λ none. absurd cc) holds))
+adds_named {J} told file name was_read before state left old added j is adds = search (arith, some_left, so_left, adds_file)
 
 -- no file yet
 pub keeps_none : (tells : Bool) (s : SourceState) (parts : PartsValue) → ArePartsOf [] parts → OnLeft tells (Keeps s [] false parts) s
 keeps_none tells s parts are = so_left tells (Keeps s [] false parts) s ((λ unread. refl), ([], tt, are))
 
 left_real : (file : Option (List ℕ)) (now real : SourceState) → (IsSome file → real ≡ now) → left_by file now real ≡ real
-left_real None now real leaves = refl
-left_real (Some name) now real leaves = sym (leaves refl)
+left_real a1 a2 a3 a4 = search arith
 
 pub ok_left : (tells told : Bool) (s now real : SourceState) (before : List (Option (List ℕ))) (file : Option (List ℕ)) (was_read now_read : Bool) (old new : PartsValue)
     → (tells ≡ false → told ≡ false) → now_read ≡ (was_read || not (is_some file)) → (IsSome file → real ≡ now) → (was_read ≡ false → now ≡ s)
@@ -229,8 +205,7 @@ ok_left true told s now real before file was_read now_read old new off is leaves
 
 stop_real : (file : Option (List ℕ)) (was_read : Bool) (old : PartsValue) (why : JoinFault) (now real : SourceState) → (IsSome file → real ≡ now)
     → AddsFile file was_read now real old (Err why) → stop_left file why now real ≡ real
-stop_real file was_read old Unopened now real leaves (again, untouched) = sym untouched
-stop_real file was_read old (Part why) now real leaves adds = left_real file now real leaves
+stop_real a1 a2 a3 a4 a5 a6 a7 a8 = search (arith, left_real)
 
 pub stops_left : (tells told : Bool) (s now real : SourceState) (files before behind : List (Option (List ℕ))) (file : Option (List ℕ)) (was_read : Bool) (old : PartsValue)
     (why : JoinFault) → (tells ≡ false → told ≡ false) → files ≡ before ++ file ∷ behind → (IsSome file → real ≡ now) → (was_read ≡ false → now ≡ s)
@@ -247,27 +222,18 @@ stops_left true told s now real files before behind file was_read old why off sp
 -- once all files were read
 pub added_left : (tells : Bool) (s real : SourceState) (files : List (Option (List ℕ))) (was_read : Bool) (parts : PartsValue) → inputs files ≡ times was_read
     → OnLeft tells (Keeps s files was_read parts) real → OnLeft tells (AreAdded files parts s) real
-added_left tells s real files was_read parts count keeps =
-    map_left tells (Keeps s files was_read parts) (AreAdded files parts s) real
-    (λ left (same, (graphs, each, stand)). record {
-      graphs = graphs;
-      parts = record { each = each; one_number = stand.one_number; once = once was_read _ count };
-      unread = λ none. same (none_read was_read (omega (arith, none, count)));
-      stand = stand;
-    }) keeps
+added_left tells s real files was_read parts count keeps = search (arith, map_left, once, none_read)
 
 -- a file that came to the parts was the input for the first time
 pub added_unread : (told : Bool) (file : Option (List ℕ)) (was_read : Bool) (now real : SourceState) (old new : PartsValue)
     → OnLeft told (λ left. AddsFile file was_read now left old (Ok new)) real → file ≡ None → was_read ≡ false
-added_unread true file was_read now real old new (left, adds) = adds.0
-added_unread false file was_read now real old new adds = adds.0
+added_unread a1 a2 a3 a4 a5 a6 a7 a8 = search arith
 
 -- ---- place by place
 
 -- a file that has a name has it under a function
 pub is_some-under : {F Y : Type 0} (f : F → Y) (o : Option F) → is_some o ≡ is_some (option_map f o)
-is_some-under f None = refl
-is_some-under f (Some x) = refl
+is_some-under a1 a2 = search arith
 
 pub some_under : {F Y : Type 0} (f : F → Y) (o : Option F) → IsSome (option_map f o) → IsSome o
 some_under f o some = is_some-under f o ∙ some
@@ -300,15 +266,11 @@ module _ {X Y : Type 0} (f : X → Y) where
 -- the input behind one more file: as it was, where none of them is the input
 pub fresh_more : {F I : Type 0} (was_read now_read : Bool) (file : Option F) (s t u : I) → now_read ≡ (was_read || not (is_some file))
     → (was_read ≡ false → t ≡ s) → (IsSome file → u ≡ t) → now_read ≡ false → u ≡ s
-fresh_more true now_read file s t u is fresh leaves unread = absurd cc
-fresh_more false now_read (Some f) s t u is fresh leaves unread = leaves refl ∙ fresh refl
-fresh_more false now_read None s t u is fresh leaves unread = absurd cc
+fresh_more a1 a2 a3 a4 a5 a6 a7 a8 a9 a10 = search arith
 
 pub unread_more : {F : Type 0} (was_read now_read : Bool) (file : Option F) → now_read ≡ (was_read || not (is_some file)) → was_read ≡ false → IsSome file
     → now_read ≡ false
-unread_more true now_read file is unread some = absurd cc
-unread_more false now_read (Some f) is unread some = is
-unread_more false now_read None is unread some = absurd cc
+unread_more a1 a2 a3 a4 a5 a6 = search arith
 
 pub some_here : {F : Type 0} (files : List (Option F)) (i : ℕ) (file : Option F) → All IsSome files → i < length files → file ≡ get_or files i file → IsSome file
 some_here files i file all within here = subst IsSome (sym here) (all i file within)
@@ -317,20 +279,12 @@ some_here files i file all within here = subst IsSome (sym here) (all i file wit
 
 -- a stop has status 1, 3 or 4
 pub stop_bound : (why : JoinFault) → (1 ≤ status_for_stop why) × (status_for_stop why ≤ 4)
-stop_bound Unopened = (omega arith, omega arith)
-stop_bound (Part (part.Read why)) = (let bound = status_bound (fault.Read why) in (bound.some, bound.own (λ theirs. theirs)))
-stop_bound (Part (part.OtherVertices other wanted)) = (omega arith, omega arith)
+stop_bound a1 = search (arith, status_bound)
 
 -- so has the writing of a forest's text, or 0
 pub forest_bound : (graph : GraphValue) (result : Result Report RunFault) (status : ℕ) (a b : SinkState) → status ≡ status_of_run result
     → WritesForestOf graph result a b → status ≤ 4
-forest_bound graph (Ok report) status a b is written = omega arith
-forest_bound graph (Err (fault.Read why)) status a b is written = absurd written
-forest_bound graph (Err (fault.Cut why)) status a b is written = absurd written
-forest_bound graph (Err (fault.Rounds round)) status a b is written = absurd written
-forest_bound graph (Err (fault.Missed link)) status a b is written = absurd written
-forest_bound graph (Err fault.Memory) status a b is written = omega arith
-forest_bound graph (Err (fault.Write n)) status a b is written = omega arith
+forest_bound a1 a2 a3 a4 a5 a6 a7 = search arith
 
 pub forest_silent : (graph : GraphValue) (result : Result Report RunFault) (status : ℕ) (a b : SinkState) → status ≡ status_of_run result
     → WritesForestOf graph result a b → LeavesOutput status → IsUntouched a b
@@ -347,46 +301,22 @@ forest_silent graph (Err (fault.Write n)) status a b is written silent = absurd 
 ends_joined : (files : List (Option (List ℕ))) (wants : Bool) (status : ℕ) (before after : Standard) (parts : PartsValue) (result : Result Report RunFault) (left : SourceState)
     → status ≡ status_of_run result → ((graphs : List GraphValue) → ArePartsOf graphs parts → WritesForestOf (joined_graph parts.vertices graphs) result before.sink after.sink)
     → IsReported wants result before.errors after.errors → AreAdded files parts before.source left → EndsJoined files wants status before (with_source left after)
-ends_joined files wants status before after parts result left is written reported added = record {
-  vertices = parts.vertices;
-  graphs = added.graphs;
-  parts = added.parts;
-  unread = added.unread;
-  result = result;
-  status_is = is;
-  written = written added.graphs added.stand;
-  reported = reported;
-}
+ends_joined files wants status before after parts result left is written reported added = search arith
 
 pub joined_ends : (files : List (Option (List ℕ))) (tells wants : Bool) (status : ℕ) (before after : Standard) (parts : PartsValue) (result : Result Report RunFault)
     → OnLeft tells (AreAdded files parts before.source) after.source → status ≡ status_of_run result
     → ((graphs : List GraphValue) → ArePartsOf graphs parts → WritesForestOf (joined_graph parts.vertices graphs) result before.sink after.sink)
     → IsReported wants result before.errors after.errors → EndsOnSeveral files tells wants status before after
-joined_ends files tells wants status before after parts result added is written reported =
-    map_left tells (AreAdded files parts before.source)
-    (λ left. EndsJoined files wants status before (with_source left after) ⊎ EndsAtFile files status before (with_source left after)) after.source
-    (λ left here. inl (ends_joined files wants status before after parts result left is written reported here)) added
+joined_ends files tells wants status before after parts result added is written reported = search (arith, map_left, ends_joined)
 
 pub stop_ends : (files : List (Option (List ℕ))) (tells wants : Bool) (status : ℕ) (before after : Standard) (file : Option (List ℕ)) (why : JoinFault)
     → OnLeft tells (StopsAt files file why before.source) after.source → status ≡ status_for_stop why → after.sink ≡ before.sink
     → IsWritten (stop_line file why) before.errors after.errors → EndsOnSeveral files tells wants status before after
-stop_ends files tells wants status before after file why stops is same told =
-    map_left tells (StopsAt files file why before.source)
-    (λ left. EndsJoined files wants status before (with_source left after) ⊎ EndsAtFile files status before (with_source left after)) after.source
-    (λ left here. inr (record {
-      file = file;
-      why = why;
-      stops = here;
-      status_is = is;
-      nothing = subst (IsUntouched before.sink) (sym same) (took_nothing before.sink);
-      told = told;
-    })) stops
+stop_ends files tells wants status before after file why stops is same told = search (arith, map_left, took_nothing)
 
 -- the text was written of some graph's forest
 pub wrote : (tells : Bool) (input real : SourceState) (files : List (Option (List ℕ))) (a b : SinkState) (parts : PartsValue) (result : Result Report RunFault)
     → OnLeft tells (AreAdded files parts input) real
     → ((graphs : List GraphValue) → ArePartsOf graphs parts → WritesForestOf (joined_graph parts.vertices graphs) result a b)
     → (graph : GraphValue) × WritesForestOf graph result a b
-wrote tells input real files a b parts result added written =
-    let (left, all) = some_left tells (AreAdded files parts input) real added in
-    (joined_graph parts.vertices all.graphs, written all.graphs all.stand)
+wrote tells input real files a b parts result added written = search (arith, some_left)

@@ -31,12 +31,10 @@ pub owner_in_at : (row : List ℕ) (shard n : ℕ) → get_elem? row shard ≡ s
 owner_in_at row shard n e = owner_in_is row shard ∙ ap owner_of_word (index_at row shard n e)
 
 pub owner_of_some : (n : ℕ) → n ≢ 0 → Some (n - 1) ≡ owner_of_word n
-owner_of_some zero h = absurd (h refl)
-owner_of_some (suc n) h = let e : suc n - 1 ≡ n = omega arith in ap Some e
+owner_of_some a1 a2 = search arith
 
 pub owner_of_word_of : (now : Option ℕ) → owner_of_word (word_of now) ≡ now
-owner_of_word_of None = refl
-owner_of_word_of (Some seat) = refl
+owner_of_word_of a1 = search arith
 
 -- ---- what the last state says
 
@@ -90,7 +88,4 @@ owners_are seats by_shard came shard number = (there, back)
 -- the view of the token that all others were joined to
 pub kept_view : (kept token : Me (Unit {0}) View) (last : SeatState) (rest seats : List SeatState) → seats ≡ rest ++ last ∷ [] → token ≡ (lone token.0.size last.number last.events, []) → kept ≡ (several kept.0.size 0 (map (λ (seat : SeatState). seat.events) rest ++ token.0.lists), [])
     → kept.0 ≡ several kept.0.size 0 (map (λ (seat : SeatState). seat.events) seats)
-kept_view kept token last rest seats is token_is kept_is =
-    ap (λ (m : Me (Unit {0}) View). m.0) kept_is
-    ∙ ap (λ (ls : List (List Event)). several kept.0.size 0 (map (λ (seat : SeatState). seat.events) rest ++ ls)) (ap (λ (m : Me (Unit {0}) View). m.0.lists) token_is)
-    ∙ ap (several kept.0.size 0) (sym (map-append (λ (seat : SeatState). seat.events) rest (last ∷ [])) ∙ ap (map (λ (seat : SeatState). seat.events)) (sym is))
+kept_view kept token last rest seats is token_is kept_is = search (arith, map-append)

@@ -20,30 +20,22 @@ among_decides shard shards = (there, found)
     found h = list_any-from_Any (λ s. s == shard) shards (h.0, shard, h.1, h.2, eq-eqb shard shard refl)
 
 pub among-push : (shard new : ℕ) (shards : List ℕ) → among shard (shards ++ new ∷ []) ≡ (among shard shards || new == shard)
-among-push shard new shards = rw list_any-append (ap (λ b. among shard shards || b) (or_false (new == shard)))
-  where
-    or_false : (b : Bool) → (b || false) ≡ b
-    or_false true = refl
-    or_false false = refl
+among-push shard new shards = search (arith, list_any-append)
 
 and_false : (b : Bool) → (b && false) ≡ false
-and_false true = refl
-and_false false = refl
+and_false a1 = search arith
 
 -- the shard that is left out is not found, whatever stands there
 left_out : (shard gone : ℕ) (rest b : Bool) → (gone == shard) ≡ b → (not (shard == gone) && rest) ≡ (not (shard == gone) && (b || rest))
-left_out shard gone rest true e = rw (eq-eqb shard gone (sym (eqb-true gone shard e))) refl
-left_out shard gone rest false e = refl
+left_out a1 a2 a3 a4 a5 = search (arith, eq-eqb, eqb-true)
 
 -- another shard is found where it stands
 left_in : (shard gone s : ℕ) (rest b : Bool) → (s == gone) ≡ false → (s == shard) ≡ b → (b || (not (shard == gone) && rest)) ≡ (not (shard == gone) && (b || rest))
-left_in shard gone s rest true off e = rw (ap (λ n. n == gone) (sym (eqb-true s shard e)) ∙ off) refl
-left_in shard gone s rest false off e = refl
+left_in a1 a2 a3 a4 a5 a6 a7 = search (arith, eqb-true)
 
 filter_step : (shard gone s : ℕ) (ss : List ℕ) (b : Bool) → among shard (filter (λ x. not (x == gone)) ss) ≡ (not (shard == gone) && among shard ss) → (s == gone) ≡ b
     → among shard (cond (not b) (s ∷ filter (λ x. not (x == gone)) ss) (filter (λ x. not (x == gone)) ss)) ≡ (not (shard == gone) && ((s == shard) || among shard ss))
-filter_step shard gone s ss true rest is = rest ∙ rw (eqb-true s gone is) (left_out shard gone (among shard ss) (gone == shard) refl)
-filter_step shard gone s ss false rest is = rw rest (left_in shard gone s (among shard ss) (s == shard) is refl)
+filter_step a1 a2 a3 a4 a5 a6 a7 = search (arith, eqb-true, left_out, left_in)
 
 pub among-filter : (shard gone : ℕ) (shards : List ℕ) → among shard (filter (λ s. not (s == gone)) shards) ≡ (not (shard == gone) && among shard shards)
 among-filter shard gone [] = sym (and_false (not (shard == gone)))
@@ -58,10 +50,7 @@ filter_absent shard (s ∷ ss) absent =
 
 -- and a list with the shard behind it becomes that list again
 pub taken_out : (shard : ℕ) (before : List ℕ) → ¬ (Contains before shard) → filter (λ s. not (s == shard)) (before ++ shard ∷ []) ≡ before
-taken_out shard before absent =
-    filter-append (λ s. not (s == shard)) before (shard ∷ [])
-    ∙ ap₂ (λ xs ys. xs ++ ys) (filter_absent shard before absent) (ap (λ b. cond (not b) (shard ∷ []) []) (eq-eqb shard shard refl))
-    ∙ append-nil before
+taken_out shard before absent = search (arith, filter-append, not, ap₂, filter_absent, cond, eq-eqb, append-nil)
 
 -- ---- places
 

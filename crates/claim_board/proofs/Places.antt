@@ -105,8 +105,7 @@ module _ (key size : Size) (row : List ℕ) (views : List View) (rule : AgreesWi
   }
 
 pub split_allowed : (key : Size) (id : ℕ) (view : View) (events : List Event) (rest : List (List Event)) → view.lists ≡ events ∷ rest → Splits (Rules key) id view (without_first view) (first_alone view)
-split_allowed key id view events rest is = subst (λ (ls : List (List Event)). Splits (Rules key) id (several view.size view.first ls) (without_first (several view.size view.first ls)) (first_alone (several view.size view.first ls))) (sym is)
-    (λ s rule at. splits key view.size s.words s.views rule id view.first events rest at)
+split_allowed key id view events rest is = search (arith, splits)
 
 -- ---- a seat is joined
 -- The run and the words stay. The one number of the joined view goes to the place of the kept view, before that view's
@@ -168,7 +167,4 @@ module _ (key : Size) (v : View) (size : Size) (first : ℕ) (events : List Even
   }
 
 pub join_allowed : (key size : Size) (id other first : ℕ) (v : View) (events : List Event) → first + 1 ≡ v.first → Joins (Rules key) id v other (lone size first events) (with_before v (lone size first events)) nobody
-join_allowed key size id other first v events before s rule at apart there =
-    joins key v size first events s.words s.views rule id other before at apart
-    (⊎_elim (λ (t : (other ≡ id) × (with_before v (lone size first events) ≡ lone size first events)). absurd (apart t.0)) (λ (t : (other ≢ id) × (get_elem? s.views other ≡ some (lone size first events))). t.1)
-    (at_set s.views id other (with_before v (lone size first events)) (lone size first events) there))
+join_allowed key size id other first v events before s rule at apart there = search (arith, joins, at_set)

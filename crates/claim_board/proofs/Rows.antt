@@ -30,11 +30,7 @@ get_last [] a = refl
 get_last (x ∷ xs) a = get_last xs a
 
 pub InOrder-push : (board : BoardState) (seats new : List SeatState) (seat : SeatState) (number : ℕ) → new ≡ seats ++ seat ∷ [] → InOrder board seats → seat ≡ record { board = board; number = number; events = [] } → number ≡ length seats → InOrder board new
-InOrder-push board seats new seat number is old fresh here at other got =
-    ⊎_elim
-    (λ (h : slice_get seats at ≡ Some other). old at other h)
-    (λ (t : (at ≡ length seats) × (seat ≡ other)). let same = sym t.1 ∙ fresh in (ap (λ (s : SeatState). s.board) same, ap (λ (s : SeatState). s.number) same ∙ here ∙ sym t.0))
-    (get_end seats seat other at (sym (ap (λ l. slice_get l at) is) ∙ got))
+InOrder-push board seats new seat number is old fresh here at other got = search (arith, slice_get, get_end)
 
 pub no_events-push : (board : BoardState) (seats new : List SeatState) (seat : SeatState) (number : ℕ) → new ≡ seats ++ seat ∷ [] → All (λ (s : SeatState). s.events ≡ []) seats → seat ≡ record { board = board; number = number; events = [] } → All (λ (s : SeatState). s.events ≡ []) new
 no_events-push board seats new seat number is old fresh = subst (All (λ (s : SeatState). s.events ≡ [])) (sym is) (All-push (λ (s : SeatState). s.events ≡ []) seats seat old (ap (λ (s : SeatState). s.events) fresh))
@@ -48,21 +44,14 @@ InOrderAt-last table seats whole seat is old = old (length seats) seat (ap (λ l
 -- ---- the view as seats are dealt
 
 replicate-step : {A : Type 0} (n : ℕ) (a : A) → 0 < n → replicate n a ≡ a ∷ replicate (n - 1) a
-replicate-step zero a h = absurd (omega arith)
-replicate-step (suc n) a h = let e : suc n - 1 ≡ n = omega arith in rw e refl
+replicate-step a1 a2 a3 = search arith
 
 module _ (me : Me (Unit {0}) View) (n count : ℕ) (is : me ≡ (several me.0.size n (replicate count []), [])) (some : 0 < count) where
   pub lists_are : me.0.lists ≡ [] ∷ replicate (count - 1) []
   lists_are = ap (λ (m : Me (Unit {0}) View). m.0.lists) is ∙ replicate-step count [] some
 
   pub dealt : (after : Me (Unit {0}) View) (next : ℕ) → after ≡ (without_first me.0, me.1) → next ≡ n + 1 → after ≡ (several after.0.size next (replicate (count - 1) []), [])
-  dealt after next after_is next_is =
-      let cut : after ≡ (several me.0.size next (replicate (count - 1) []), []) =
-      after_is
-      ∙ ap (λ (m : Me (Unit {0}) View). (without_first m.0, m.1)) is
-      ∙ ap (λ (ls : List (List Event)). (several me.0.size (n + 1) ls, [])) (ap (λ (ls : List (List Event)). drop 1 ls) (replicate-step count [] some))
-      ∙ ap (λ k. (several me.0.size k (replicate (count - 1) []), [])) (sym next_is) in
-      subst (λ (m : Me (Unit {0}) View). m ≡ (several m.0.size next (replicate (count - 1) []), [])) (sym cut) refl
+  dealt after next after_is next_is = search (arith, replicate, replicate-step)
 
 -- ---- the view as seats are gathered
 
@@ -74,6 +63,4 @@ module _ (kept token : Me (Unit {0}) View) (number : ℕ) (events : List Event) 
   gathered after after_is = subst (λ (m : Me (Unit {0}) View). (m ≡ (several m.0.size number m.0.lists, [])) × (m.0.lists ≡ events ∷ kept.0.lists)) (sym (joined_view after after_is)) (refl, refl)
 
   pub join_required : (key : Size) (id other : ℕ) → number + 1 ≡ first → Joins (Rules key) id kept.0 other token.0 (with_before kept.0 token.0) nobody
-  join_required key id other before =
-      subst (λ (m : Me (Unit {0}) View). Joins (Rules key) id kept.0 other m.0 (with_before kept.0 m.0) nobody) (sym token_is)
-      (join_allowed key token.0.size id other number kept.0 events (before ∙ sym (ap (λ (m : Me (Unit {0}) View). m.0.first) kept_is)))
+  join_required key id other before = search (arith, join_allowed)

@@ -1,5 +1,5 @@
 -- Runs of the machine: one event more, and that the owner of a shard is the seat whose list has it.
-use Rattle.std.proofs.Common.{◌≡◌, ◌≢◌, ◌⊎◌, ℕ, ◌==◌, ◌&&◌, ◌||◌, not, cond, Bool, true, false, List, [], ◌∷◌, ◌++◌, Option, Some, None, refl, sym, ap, ◌∙◌, subst, inl, inr, ⊎_elim, append_assoc, append-nil}
+use Rattle.std.proofs.Common.{◌≡◌, ◌≢◌, ◌⊎◌, ℕ, ◌==◌, ◌&&◌, ◌||◌, not, cond, Bool, true, false, List, [], ◌∷◌, ◌++◌, Option, Some, None, refl, sym, ap, ◌∙◌, subst, inl, inr, ⊎_elim, append_assoc, append-nil, arith}
 use Rattle.std.proofs.lemmas.Bool.{eqb-true, eqb-false, eq-eqb, ne_eqb}
 use Rattle.std.proofs.lemmas.Grind.{fold-append}
 use Rattle.std.proofs.lemmas.List.Elements.{filter-append}
@@ -41,11 +41,7 @@ last_or_before (r ∷ rs) (b ∷ bs) later last event e =
     (last_or_before rs bs later last event rest)
 
 pub IsRun-push : (run : List Event) (last : Event) → IsRun run → IsAllowed run last → IsRun (run ++ last ∷ [])
-IsRun-push run last is_run allowed before event later e =
-    ⊎_elim
-    (λ (t : (before ≡ run) × (event ≡ last)). subst (λ (x : List Event). IsAllowed x event) (sym t.0) (subst (λ (x : Event). IsAllowed run x) (sym t.1) allowed))
-    (λ (t : (rest : List Event) × (run ≡ before ++ event ∷ rest)). is_run before event t.0 t.1)
-    (last_or_before run before later last event e)
+IsRun-push run last is_run allowed before event later e = search (arith, last_or_before)
 
 pub IsRun-none : IsRun []
 IsRun-none [] event later e = absurd (cc)
@@ -62,53 +58,36 @@ owns seat None = false
 owns seat (Some other) = other == seat
 
 pub Some-owns : (seat : ℕ) (now : Option ℕ) → owns seat now ≡ true → now ≡ Some seat
-Some-owns seat None h = absurd (cc)
-Some-owns seat (Some other) h = ap Some (eqb-true other seat h)
+Some-owns a1 a2 a3 = search (arith, eqb-true)
 
 -- Each event keeps owners and lists in agreement. The event is at hand as two tests: b, that it is the seat's, and c, that it is of the shard
 abbrev Agree : List Event → ℕ → ℕ → Type 0
 Agree run seat shard = owns seat (owner run shard) ≡ among shard (held (of_seat seat run))
 
 or_true : (b : Bool) → (b || true) ≡ true
-or_true true = refl
-or_true false = refl
+or_true a1 = search arith
 
 or_false : (b : Bool) → (b || false) ≡ b
-or_false true = refl
-or_false false = refl
+or_false a1 = search arith
 
 win_agrees : (run : List Event) (seat shard by of : ℕ) (b c : Bool) → (by == seat) ≡ b → (of == shard) ≡ c → owner run of ≡ None → Agree run seat shard
     → owns seat (cond c (Some by) (owner run shard)) ≡ among shard (held (of_seat seat run ++ cond b (Win by of ∷ []) []))
-win_agrees run seat shard by of true true mine here free old = mine ∙ sym (ap (among shard) (held-push (of_seat seat run) (Win by of)) ∙ among-push shard of (held (of_seat seat run)) ∙ ap (λ t. among shard (held (of_seat seat run)) || t) here ∙ or_true (among shard (held (of_seat seat run))))
-win_agrees run seat shard by of true false mine here free old = old ∙ sym (ap (among shard) (held-push (of_seat seat run) (Win by of)) ∙ among-push shard of (held (of_seat seat run)) ∙ ap (λ t. among shard (held (of_seat seat run)) || t) here ∙ or_false (among shard (held (of_seat seat run))))
-win_agrees run seat shard by of false true mine here free old =
-    mine ∙ sym (ap (λ es. among shard (held es)) (append-nil (of_seat seat run)) ∙ sym old ∙ ap (λ n. owns seat (owner run n)) (sym (eqb-true of shard here)) ∙ ap (owns seat) free)
-win_agrees run seat shard by of false false mine here free old = old ∙ sym (ap (λ es. among shard (held es)) (append-nil (of_seat seat run)))
+win_agrees a1 a2 a3 a4 a5 a6 a7 a8 a9 a10 a11 = search (arith, held-push, among-push, or_true, or_false, append-nil, eqb-true)
 
 turned_agrees : (run : List Event) (seat shard by of to : ℕ) (b : Bool) → Agree run seat shard
     → owns seat (owner run shard) ≡ among shard (held (of_seat seat run ++ cond b (Turned by of to ∷ []) []))
-turned_agrees run seat shard by of to true old = old ∙ sym (ap (among shard) (held-push (of_seat seat run) (Turned by of to)))
-turned_agrees run seat shard by of to false old = old ∙ sym (ap (λ es. among shard (held es)) (append-nil (of_seat seat run)))
+turned_agrees a1 a2 a3 a4 a5 a6 a7 a8 = search (arith, held-push, append-nil)
 
 back_agrees : (run : List Event) (seat shard by of : ℕ) (b c : Bool) → (by == seat) ≡ b → (of == shard) ≡ c → owner run of ≡ Some by → Agree run seat shard
     → owns seat (cond c None (owner run shard)) ≡ among shard (held (of_seat seat run ++ cond b (GiveBack by of ∷ []) []))
-back_agrees run seat shard by of true true mine here is old =
-    sym (ap (among shard) (held-push (of_seat seat run) (GiveBack by of)) ∙ among-filter shard of (held (of_seat seat run)) ∙ ap (λ t. not t && among shard (held (of_seat seat run))) (eq-eqb shard of (sym (eqb-true of shard here))))
-back_agrees run seat shard by of true false mine here is old =
-    old ∙ sym (ap (among shard) (held-push (of_seat seat run) (GiveBack by of)) ∙ among-filter shard of (held (of_seat seat run)) ∙ ap (λ t. not t && among shard (held (of_seat seat run))) (ne_eqb shard of (λ e. eqb-false of shard here (sym e))))
-back_agrees run seat shard by of false true mine here is old =
-    sym (ap (λ es. among shard (held es)) (append-nil (of_seat seat run)) ∙ sym old ∙ ap (λ n. owns seat (owner run n)) (sym (eqb-true of shard here)) ∙ ap (owns seat) is ∙ mine)
-back_agrees run seat shard by of false false mine here is old = old ∙ sym (ap (λ es. among shard (held es)) (append-nil (of_seat seat run)))
+back_agrees a1 a2 a3 a4 a5 a6 a7 a8 a9 a10 a11 = search (arith, held-push, among-filter, not, eq-eqb, eqb-true, ne_eqb, eqb-false, append-nil)
 
 next_agrees : (run : List Event) (event : Event) (seat shard : ℕ) → IsAllowed run event → Agree run seat shard
     → owns seat (owner_after shard (owner run shard) event) ≡ among shard (held (of_seat seat run ++ cond (seat_of event == seat) (event ∷ []) []))
-next_agrees run (Win by of) seat shard allowed old = win_agrees run seat shard by of (by == seat) (of == shard) refl refl allowed old
-next_agrees run (Turned by of to) seat shard allowed old = turned_agrees run seat shard by of to (by == seat) old
-next_agrees run (GiveBack by of) seat shard allowed old = back_agrees run seat shard by of (by == seat) (of == shard) refl refl allowed old
+next_agrees a1 a2 a3 a4 a5 a6 = search (arith, win_agrees, turned_agrees, back_agrees)
 
 agree-push : (run : List Event) (event : Event) → IsAllowed run event → ((seat shard : ℕ) → Agree run seat shard) → (seat shard : ℕ) → Agree (run ++ event ∷ []) seat shard
-agree-push run event allowed old seat shard =
-    ap (owns seat) (owner-push run event shard) ∙ next_agrees run event seat shard allowed (old seat shard) ∙ sym (ap (λ es. among shard (held es)) (of_seat-push seat run event))
+agree-push run event allowed old seat shard = search (arith, owner-push, next_agrees, of_seat-push)
 
 agree-append : (run later : List Event) → IsRun (run ++ later) → ((seat shard : ℕ) → Agree run seat shard) → (seat shard : ℕ) → Agree (run ++ later) seat shard
 agree-append run [] is old seat shard = subst (λ (r : List Event). Agree r seat shard) (sym (append-nil run)) (old seat shard)

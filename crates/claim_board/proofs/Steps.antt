@@ -30,17 +30,11 @@ shard_of (GiveBack seat shard) = shard
 
 -- an event changes the owner of no other shard
 owner_other : (event : Event) (shard : ℕ) (now : Option ℕ) → shard_of event ≢ shard → owner_after shard now event ≡ now
-owner_other (Win seat of) shard now apart = rw (ne_eqb of shard apart) refl
-owner_other (Turned seat of by) shard now apart = refl
-owner_other (GiveBack seat of) shard now apart = rw (ne_eqb of shard apart) refl
+owner_other a1 a2 a3 a4 = search (arith, ne_eqb)
 
 words_after : (run : List Event) (event : Event) (row : List ℕ) (shard new t : ℕ) → ((s : ℕ) → slice_index row s ≡ word_of (owner run s)) → shard_of event ≡ shard → shard < length row
     → new ≡ word_of (owner_after shard (owner run shard) event) → slice_index (set row shard new) t ≡ word_of (owner (run ++ event ∷ []) t)
-words_after run event row shard new t words of within is =
-    ⊎_elim
-    (λ (e : t ≡ shard). rw (e, get_or-set_same row shard new 0 within, owner-push run event shard) is)
-    (λ (apart : t ≢ shard). rw (get_or-set_other row shard t new 0 apart, owner-push run event t, owner_other event t (owner run t) (λ e. apart (sym e ∙ of))) (words t))
-    (cases_eq t shard)
+words_after run event row shard new t words of within is = search (arith, get_or-set_same, owner-push, get_or-set_other, owner_other, cases_eq)
 
 -- a seat without events is no owner, so an owner is a seat of the board
 pub not_owner : (run : List Event) (shard seat : ℕ) → IsRun run → of_seat seat run ≡ [] → owner run shard ≡ Some seat → ⊥
@@ -52,8 +46,7 @@ owner_below size row views rule shard other is =
 
 -- a view of one number has that number alone
 lone_knows : (size : Size) (seat number : ℕ) (events list : List Event) → Knows (lone size seat events) number list → (number ≡ seat) × (events ≡ list)
-lone_knows size seat number events list (zero, is, at) = (is ∙ add-zero seat, some-injective events list at)
-lone_knows size seat number events list (suc k, is, at) = absurd (some-ne-none list (sym at))
+lone_knows a1 a2 a3 a4 a5 a6 = search (arith, add-zero)
 
 module _ (key size : Size) (row : List ℕ) (views : List View) (rule : AgreesWithRun key row views) (id seat : ℕ) (events : List Event) (at : get_elem? views id ≡ some (lone size seat events)) where
   -- what the rule says of the seat that makes the step
@@ -158,19 +151,8 @@ give_back_allowed_as key slots id seat shard me alone seat_within shard_within h
 -- a seat after an event of its own, with the bits that go with it
 pub seat_after : (before after : Me (Unit {0}) View) (number : ℕ) (bits new : List ℕ) (event : Event) → IsSeat before number bits → after ≡ (with_event before.0 event, before.1)
     → ((shard : ℕ) → has_shard new shard ≡ among shard (held_after (held (first_events before.0.lists)) event)) → IsSeat after number new
-seat_after before after number bits new event is after_is agrees =
-    let events = first_events before.0.lists in
-    let whole : after ≡ (lone before.0.size number (events ++ event ∷ []), []) = after_is ∙ ap (λ (m : Me (Unit {0}) View). (lone before.0.size m.0.first (events ++ event ∷ []), m.1)) is.alone in
-    subst (λ m. IsSeat m number new) (sym whole) record {
-      alone = refl;
-      range = is.range;
-      number_of_board = is.number_of_board;
-      list = λ shard. agrees shard ∙ sym (ap (among shard) (held-push events event));
-    }
+seat_after before after number bits new event is after_is agrees = search (arith, held-push)
 
 -- the seat that held the shard is the caller's own where its list has it
 pub claimed_own : (s : Step (Unit {0})) (before after : Me (Unit {0}) View) (found : ℕ) → found ≢ 0 → Claimed s before found after → ◌≡◌ {A = Claim} (Held (found - 1)) (Held before.0.first) ↔ Contains (held (first_events before.0.lists)) s.word
-claimed_own s before after zero found claimed = absurd (found refl)
-claimed_own s before after (suc other) found claimed =
-    let is : suc other - 1 ≡ other = omega arith in
-    rw is ((λ e. claimed.2.0 (cc)), (λ has. ap Held (claimed.2.1 has)))
+claimed_own a1 a2 a3 a4 a5 a6 = search arith

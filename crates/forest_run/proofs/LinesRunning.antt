@@ -65,21 +65,7 @@ module _ {L A : Type 0} (over : Line.Ghosts L) (cutting : Cutting) (graph : Grap
   opened_all = open_all solved.lanes (λ i d b. (solved.new.each i d.port.client.line d (let e = solved.new.number in omega arith)).opened) ∙ solved.new.number
 
   reported : IsLinesReport (length before) graph (length shards) forest report
-  reported =
-      let went = solved.went in
-      let closed = went.closed in
-      let opened = opened_all in
-      record {
-        vertices = went.counts.vertices;
-        links = went.counts.links ∙ ap (λ (ls : List Link). length ls) is.whole;
-        shards_are = went.counts.shards;
-        in_time = went.in_time;
-        asked = went.counts.asked;
-        answered = went.counts.answered;
-        few_closed = omega (arith, closed, opened);
-        alone = λ some. (let none = went.went.rounds.closed some in omega (arith, closed, opened, none));
-        total = went.counts.total;
-      }
+  reported = search (arith, opened_all)
 
   least : AreServed over before → IsLeast graph forest × IsHonestReport graph report
   least served =
@@ -147,8 +133,7 @@ module _ (cutting : Cutting) (graph : GraphValue) (s t : SourceState) (a : SinkS
 -- a cut that is allowed is refused for want of memory alone
 pub cut_unhindered : (cutting : Cutting) (links others : ℕ) (why : CutFault) → IsCutFault (cut_refusal cutting links) why → links ≡ others → cut_refusal cutting others ≡ None
     → why ≡ cut.Memory
-cut_unhindered cutting links others why refused same allowed =
-    subst (λ o. IsCutFault o why) (ap (λ k. cut_refusal cutting k) same ∙ allowed) refused
+cut_unhindered cutting links others why refused same allowed = search arith
 
 -- a sink that took a part of the text and then had a setback isn't one that had none
 pub had_setback : (written : ℕ) (text : List ℕ) (a b : SinkState) → PrefixWentOut written text a b → ¬ HadNoSetback a b

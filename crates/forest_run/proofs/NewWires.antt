@@ -70,23 +70,20 @@ module _ {L : Type 0} (state : L → LineState) (cut : List (List Link)) (all : 
   next_room lanes left rest line e some = (All-pop (λ l. HasRoom (state l)) left rest (Some line) e some.room).1
 
   pub lanes_number : (lanes : List (LaneState (WireState L))) (left : List L) → SomeLanes lanes left → length lanes + length left ≡ length all
-  lanes_number lanes left some =
-      omega (arith, ap (λ zs. length zs) some.split, length-append (lines_of lanes) (reverse left), length-map lanes (λ (lane : LaneState (WireState L)). lane.port.client.line), length-reverse left)
+  lanes_number lanes left some = search (arith, length-append, length-map, length-reverse)
 
 -- ---- the lines out of the lanes
 
 module _ {L : Type 0} where
   pub line_out : (all : List L) (lines : List L) (left rest : List (LaneState (WireState L))) (lane : LaneState (WireState L)) → left ≡ rest ++ lane ∷ []
       → all ≡ lines ++ lines_of (reverse left) → all ≡ (lines ++ lane.port.client.line ∷ []) ++ lines_of (reverse rest)
-  line_out all lines left rest lane e split =
-      split ∙ (ap (λ zs. lines ++ lines_of zs) (popped rest left lane e) ∙ sym (append_assoc lines (lane.port.client.line ∷ []) (lines_of (reverse rest))))
+  line_out all lines left rest lane e split = search (arith, popped, append_assoc)
 
 -- ---- what new wires over new lines are
 
 module _ {L : Type 0} (over : Line.Ghosts L) where
   new_calm : (line : L) (cut : List (List Link)) (worker : ℕ) (wire : WireState L) → IsNewWire line cut worker wire → IsFresh (over.state line) → HasKnownBytes (over.state line) → IsFaultless over.state (over.state line).ends wire [] []
-  new_calm line cut worker wire new fresh known =
-      fresh_faultless over.state wire (over.state line).ends (subst (λ l. IsFresh (over.state l)) (sym new.line_is) fresh) (subst (λ l. HasKnownBytes (over.state l)) (sym new.line_is) known) (ap (λ l. (over.state l).ends) new.line_is) new.ungreeted new.nothing_sent new.asks new.failures new.wants new.last
+  new_calm line cut worker wire new fresh known = search (arith, fresh_faultless)
 
   pub new_sound : (line : L) (cut : List (List Link)) (worker : ℕ) (wire : WireState L) → IsNewWire line cut worker wire → IsFresh (over.state line) → HasKnownBytes (over.state line) → IsSoundWire over.state wire (over.state line).ends []
   new_sound line cut worker wire new fresh known = inl ([], new_calm line cut worker wire new fresh known)

@@ -53,8 +53,7 @@ exchange_with (e ∷ exchanges) t (zero, b, is) = (e, (0, omega arith, refl), is
 exchange_with (e ∷ exchanges) t (suc k, b, is) = (let r = exchange_with exchanges t (k, omega arith, is) in (r.0, (suc r.1.0, (let q = r.1.1 in omega arith), r.1.2), r.2))
 
 is_one : (b : Bool) → count_if b ≡ 1 → b ≡ true
-is_one true one = refl
-is_one false none = absurd (omega (arith, none))
+is_one a1 a2 = search arith
 
 -- where as many ports are open as there are, each is
 each_open : {P : Type 0} (is : P → Bool) (xs : List P) → length xs ≤ sum_by (λ x. count_if (is x)) xs → (i : ℕ) (d : P) → i < length xs → is (get_or xs i d) ≡ true

@@ -73,6 +73,4 @@ module _ (r s c k : ℕ) (x y z : SourceState) (came : Gave 0 0 (u32_text r ++ (
       -- pairs came that are no offers
       pub no_answer_came : IsU32 c → (AreOffers pairs → ⊥) → IsBodyRefused BadField 4 (12 + 8 * k) x z
       unfolding u32_text
-      no_answer_came wide_c never =
-          list_refused 4 (12 + 8 * k) (8 * k) (u32_text r ++ (u32_text s ++ u32_text c)) long x y z came BadField bytes count behind
-          (answer_unsorted r s c bytes pairs wide_r wide_s wide_c are.bytes_are are.fit never)
+      no_answer_came wide_c never = search (arith, list_refused, long, answer_unsorted)

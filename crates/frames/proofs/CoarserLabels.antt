@@ -17,26 +17,10 @@ label_front : (front more : List ℕ) (v : ℕ) → 1 ≤ v → v ≤ length fro
 label_front front more v one to = get_or-append front more 0 (v - 1) (omega arith)
 
 labelled_front : (front more : List ℕ) (v : ℕ) → 1 ≤ v → v ≤ length front → IsLabelled front v → IsLabelled (front ++ more) v
-labelled_front front more v one to is =
-    let here = label_front front more v one to in
-    let there = label_front front more (label_of front v) is.from_one (omega (arith, is.at_most_itself)) in
-    record {
-      from_one = omega (arith, here, is.from_one);
-      at_most_itself = omega (arith, here, is.at_most_itself);
-      own = ap (λ (c : ℕ). label_of (front ++ more) c) here ∙ there ∙ is.own ∙ sym here;
-    }
+labelled_front front more v one to is = search (arith, label_front)
 
 labelled_back : (front more : List ℕ) (v : ℕ) → 1 ≤ v → v ≤ length front → IsLabelled (front ++ more) v → IsLabelled front v
-labelled_back front more v one to is =
-    let here = label_front front more v one to in
-    let low : 1 ≤ label_of front v = omega (arith, here, is.from_one) in
-    let high : label_of front v ≤ v = omega (arith, here, is.at_most_itself) in
-    let there = label_front front more (label_of front v) low (omega (arith, high)) in
-    record {
-      from_one = low;
-      at_most_itself = high;
-      own = sym there ∙ ap (λ (c : ℕ). label_of (front ++ more) c) (sym here) ∙ is.own ∙ here;
-    }
+labelled_back front more v one to is = search (arith, label_front)
 
 -- behind so many numbers that came, so many more
 pub record CameMore {A : Type 0} (last : List ℕ) (came k : ℕ) (before after : Option (Vec ℕ A)) (more : List ℕ) : Type 0 where
@@ -48,23 +32,12 @@ pub record CameMore {A : Type 0} (last : List ℕ) (came k : ℕ) (before after 
 -- those of the bytes that were heard
 pub came_more : {A : Type 0} (last : List ℕ) (came k : ℕ) (piece : List ℕ) (before after : Option (Vec ℕ A)) → length piece ≡ 4 * k → came + k ≤ length last
     → length (numbers_of_ask (take came last) before) ≡ came → (heard : HearsMore last came piece before after) → CameMore last came k before after heard.more
-came_more last came k piece before after count within counted heard =
-    let items : length piece / 4 ≡ k = omega (arith, count) in
-    let is = subst (λ (n : ℕ). numbers_of_ask (take (came + n) last) after ≡ numbers_of_ask (take came last) before ++ heard.more) items heard.is in
-    record {
-      within = within;
-      counted = counted;
-      long = omega (arith, ap length is, length-append (numbers_of_ask (take came last) before) heard.more, ap length heard.spelled, bytes_of heard.more, count, counted);
-      is = is;
-    }
+came_more last came k piece before after count within counted heard = search (arith, length-append, bytes_of)
 
 module _ (last : List ℕ) (are : AreLabels last) where
   -- the same labels coarsen themselves
   pub same_coarser : (to : ℕ) → to ≤ length last → AreCoarserUpTo last last to
-  same_coarser to within = record {
-    labelled = λ v one most. are.labelled v one (omega arith);
-    coarser = λ v one most. sym (are.labelled v one (omega arith)).own;
-  }
+  same_coarser to within = search arith
 
   -- numbers with more behind them
   pub coarser_on : (front more : List ℕ) → length front ≤ length last → AreCoarserUpTo last front (length front) → AreCoarserUpTo last (front ++ more) (length front)
@@ -84,19 +57,12 @@ module _ (last : List ℕ) (are : AreLabels last) where
   }
 
   pub coarser_of : (numbers : List ℕ) → AreLabels numbers → Coarsens numbers last → AreCoarserUpTo last numbers (length last)
-  coarser_of numbers labels coarsens = record {
-    labelled = λ v one most. labels.labelled v one (omega (arith, coarsens.vertices, most));
-    coarser = λ v one most.
-        let finer = are.labelled v one most in
-        coarsens.together v (label_of last v) one most finer.from_one (omega (arith, finer.at_most_itself, most)) (sym finer.own);
-  }
+  coarser_of numbers labels coarsens = search arith
 
   -- labels that were seen not to
   pub others_dont : (numbers : List ℕ) → AreLabels numbers → (AreCoarserUpTo last numbers (length last) → ⊥) → (rd sh r s : ℕ) (labels : List ℕ)
       → AskFrame rd sh numbers ≡ AskFrame r s labels → ¬ Coarsens labels last
-  others_dont numbers of never rd sh r s labels is coarsens =
-      let same : numbers ≡ labels = cc in
-      never (coarser_of numbers of (subst (λ (ns : List ℕ). Coarsens ns last) (sym same) coarsens))
+  others_dont numbers of never rd sh r s labels is coarsens = search (arith, coarser_of)
 
   -- the first of the same labels
   same_front : (to : ℕ) → to ≤ length last → AreCoarserUpTo last (take to last) to
@@ -109,34 +75,14 @@ module _ (last : List ℕ) (are : AreLabels last) where
   -- the numbers that came so far, and so many more
   module _ {A : Type 0} (before after : Option (Vec ℕ A)) (came k : ℕ) (more : List ℕ) (heard : CameMore last came k before after more) where
     pub others_within : IfSome after (λ list. (came ≤ length list.items) × (length list.items ≤ length last))
-    others_within = go after heard.long
-      where
-        go : (o : Option (Vec ℕ A)) → length (numbers_of_ask (take (came + k) last) o) ≡ came + k → IfSome o (λ list. (came ≤ length list.items) × (length list.items ≤ length last))
-        go None all = tt
-        go (Some list) all = (omega (arith, all), omega (arith, all, heard.within))
+    others_within = search arith
 
     pub others_so_far : AreCoarserUpTo last (numbers_of_ask (take came last) before) came → IfSome after (λ list. AreCoarserUpTo last list.items came)
-    others_so_far so = go after (subst (λ (ns : List ℕ). AreCoarserUpTo last ns came) (sym heard.is) (on so))
-      where
-        on : AreCoarserUpTo last (numbers_of_ask (take came last) before) came → AreCoarserUpTo last (numbers_of_ask (take came last) before ++ more) came
-        on so =
-            subst (λ (n : ℕ). AreCoarserUpTo last (numbers_of_ask (take came last) before ++ more) n) heard.counted
-            (coarser_on (numbers_of_ask (take came last) before) more (omega (arith, heard.counted, heard.within))
-            (subst (λ (n : ℕ). AreCoarserUpTo last (numbers_of_ask (take came last) before) n) (sym heard.counted) so))
-
-        go : (o : Option (Vec ℕ A)) → AreCoarserUpTo last (numbers_of_ask (take (came + k) last) o) came → IfSome o (λ list. AreCoarserUpTo last list.items came)
-        go None all = tt
-        go (Some list) all = all
+    others_so_far so = search (arith, coarser_on)
 
     pub stayed : (b : Bool) → IfSome after (λ list. IsTrue b ↔ AreCoarserUpTo last list.items (length list.items)) → IfNone after (IsTrue b)
         → IsTrue b ↔ AreCoarserUpTo last (numbers_of_ask (take (came + k) last) after) (came + k)
-    stayed b = go after heard.long
-      where
-        go : (o : Option (Vec ℕ A)) → length (numbers_of_ask (take (came + k) last) o) ≡ came + k
-            → IfSome o (λ list. IsTrue b ↔ AreCoarserUpTo last list.items (length list.items)) → IfNone o (IsTrue b)
-            → IsTrue b ↔ AreCoarserUpTo last (numbers_of_ask (take (came + k) last) o) (came + k)
-        go None all others same = (λ t. same_front (came + k) heard.within, λ are. same)
-        go (Some list) all others same = subst (λ (n : ℕ). IsTrue b ↔ AreCoarserUpTo last list.items n) all others
+    stayed b = search (arith, same_front)
 
     pub not_again : (AreCoarserUpTo last (numbers_of_ask (take came last) before) came → ⊥) → AreCoarserUpTo last (numbers_of_ask (take (came + k) last) after) (came + k) → ⊥
     not_again never all =
@@ -150,18 +96,13 @@ module _ (last : List ℕ) (are : AreLabels last) where
 
 -- the numbers of an ask, once all came
 pub all_of_ask : {A : Type 0} (last : List ℕ) (came : ℕ) (numbers : Option (Vec ℕ A)) → length last ≤ came → numbers_of_ask (take came last) numbers ≡ numbers_of_ask last numbers
-all_of_ask last came None all = take_all came last all
-all_of_ask last came (Some numbers) all = refl
+all_of_ask a1 a2 a3 a4 = search (arith, take_all)
 
 -- and are others than the last ones
 pub all_others : {A : Type 0} (last : List ℕ) (came : ℕ) (numbers : Option (Vec ℕ A)) → length last ≤ came → AreOthers last came numbers → IfSome numbers (λ list. list.items ≢ last)
-all_others last came None all others = tt
-all_others last came (Some list) all others = λ same. others (same ∙ sym (take_all came last all))
+all_others a1 a2 a3 a4 a5 = search (arith, take_all)
 
 -- a frame of another length asks for as many other labels
 pub other_length : (v : FrameValue) (kind len : ℕ) (s t : SourceState) (last : List ℕ) → BodyCame v kind len s t → (kind ≡ 3 → len ≡ 12 + 4 * length last → ⊥)
     → (r sh : ℕ) (labels : List ℕ) → v ≡ AskFrame r sh labels → ¬ Coarsens labels last
-other_length v kind len s t last came never r sh labels is coarsens =
-    let kind-is : 3 ≡ kind = ap kind_of (sym is) ∙ came.is.kind in
-    let body-is : body_of (AskFrame r sh labels) ≡ came.body = ap body_of (sym is) ∙ came.is.body in
-    never (sym kind-is) (omega (arith, came.counted, ap length body-is, coarsens.vertices, three_length r sh (length labels) (flat_map u32_text labels), items_length u32_text 4 u32_length labels))
+other_length v kind len s t last came never r sh labels is coarsens = search (arith, three_length, items_length, u32_length)

@@ -27,51 +27,31 @@ hello_version version body value one other = other.1 (subst IsVersion value one)
 
 hello_unlike : (v : FrameValue) (version worker : ℕ) (body rest behind : List ℕ) → IsU32 worker → MAX_WORKERS ≤ worker → IsVersion version
     → body ≡ u16_text version ++ rest → rest ≡ u32_text worker ++ behind → length body ≡ 6 → IsFrameOf v 1 body → ⊥
-hello_unlike (HelloFrame v w) version worker body rest behind wide high one first second len is =
-    let none : behind ≡ [] = nil_from_length behind (omega (arith, ap length first, ap length second, length-append (u16_text version) rest, length-append (u32_text worker) behind, u16_length version, u32_length worker)) in
-    let fields = u16_prefix v version (u32_text w) rest (omega (arith, is.lawful.version.to_this)) (omega (arith, one.to_this)) (is.body ∙ first) in
-    let same = u32_prefix w worker [] behind (omega (arith, is.lawful.worker)) wide (append-nil (u32_text w) ∙ fields.1 ∙ second) in
-    omega (arith, same.0, is.lawful.worker)
-hello_unlike (ShardFrame n ls) version worker body rest behind wide high one first second len is = shard_kind 1 n ls (omega arith) (omega arith) is.kind
-hello_unlike v version worker body rest behind wide high one first second len is = omega (arith, is.kind)
+hello_unlike a1 a2 a3 a4 a5 a6 a7 a8 a9 a10 a11 a12 a13 = search (arith, nil_from_length, length-append, u16_length, u32_length, u16_prefix, u32_prefix, append-nil, shard_kind)
 
 pub hello_refused : (version worker : ℕ) (body rest behind : List ℕ) → IsU32 worker → MAX_WORKERS ≤ worker → IsVersion version → version ≡ from_be_bytes w16 (take 2 body)
     → body ≡ u16_text version ++ rest → rest ≡ u32_text worker ++ behind → length body ≡ 6 → BodyRefused BadField 1 body
-hello_refused version worker body rest behind wide high one value first second len =
-    (hello_version version body value one, λ v is. hello_unlike v version worker body rest behind wide high one first second len is)
+hello_refused version worker body rest behind wide high one value first second len = search (arith, hello_version, hello_unlike)
 
 pub hello_found : (version worker : ℕ) (body rest behind : List ℕ) → worker < MAX_WORKERS → IsVersion version
     → body ≡ u16_text version ++ rest → rest ≡ u32_text worker ++ behind → length body ≡ 6 → IsFrameOf (HelloFrame version worker) 1 body
-hello_found version worker body rest behind low one first second len =
-    let none : behind ≡ [] = nil_from_length behind (omega (arith, ap length first, ap length second, length-append (u16_text version) rest, length-append (u32_text worker) behind, u16_length version, u32_length worker)) in
-    let whole : rest ≡ u32_text worker = second ∙ ap (λ (t : List ℕ). u32_text worker ++ t) none ∙ append-nil (u32_text worker) in
-    record { lawful = record { version = one; worker = low }; kind = refl; body = sym (first ∙ ap (λ (t : List ℕ). u16_text version ++ t) whole) }
+hello_found version worker body rest behind low one first second len = search (arith, nil_from_length, length-append, u16_length, u32_length, append-nil)
 
 -- ---- a shard, in either spelling
 
 no_hello : (s : Spelling) (body : List ℕ) → IsOtherVersion (kind_in s) body → ⊥
-no_hello Narrow body other = omega (arith, other.0)
-no_hello Wide body other = omega (arith, other.0)
+no_hello a1 a2 a3 = search arith
 
 no_shard : (s : Spelling) (kind : ℕ) → kind ≤ 5 → kind ≢ 2 → kind ≡ kind_in s → ⊥
-no_shard Narrow kind to not_two is = not_two is
-no_shard Wide kind to not_two is = omega (arith, is)
+no_shard a1 a2 a3 a4 a5 = search arith
 
 list_begun : (s : Spelling) (body : List ℕ) → ShardBegun (size_in s) body → IsListBegun (kind_in s) body
-list_begun Narrow body begun = inl (refl, begun)
-list_begun Wide body begun = inr (inl (refl, begun))
+list_begun a1 a2 a3 = search arith
 
 module _ (s : Spelling) (n c : ℕ) (links : List ℕ) where
   shard_parts : (v : FrameValue) → IsU32 n → IsU32 c → IsFrameOf v (kind_in s) (u32_text n ++ (u32_text c ++ links))
       → (ls : List Link) × IsShard n ls × (length ls ≡ c) × (spelling_of ls ≡ s) × (flat_map (spelled_in s) ls ≡ links)
-  shard_parts (ShardFrame n' ls) wide wide' is =
-      let fields = two_prefix n' (length ls) n c (links_text ls) links (omega (arith, is.lawful.number)) (omega (arith, is.lawful.count)) wide wide' is.body in
-      let spelling : spelling_of ls ≡ s = spelling_by_kind s ls is.kind in
-      (ls, subst (λ (k : ℕ). IsShard k ls) fields.0 is.lawful, fields.1, spelling, sym (text_in s ls spelling) ∙ fields.2)
-  shard_parts (HelloFrame v w) wide wide' is = absurd (no_shard s 1 (omega arith) (omega arith) is.kind)
-  shard_parts (AskFrame r sh ls) wide wide' is = absurd (no_shard s 3 (omega arith) (omega arith) is.kind)
-  shard_parts (AnswerFrame a) wide wide' is = absurd (no_shard s 4 (omega arith) (omega arith) is.kind)
-  shard_parts (FaultFrame r sh code) wide wide' is = absurd (no_shard s 5 (omega arith) (omega arith) is.kind)
+  shard_parts a1 a2 a3 a4 = search (arith, two_prefix, spelling_by_kind, text_in, no_shard)
 
   pub shard_refused : (k : ℕ) → length links ≡ size_in s * k → IsU32 n → IsU32 c → (n < MAX_SHARDS → c ≡ k → ⊥) → BodyRefused BadField (kind_in s) (u32_text n ++ (u32_text c ++ links))
   shard_refused k long wide wide' never = (
@@ -84,12 +64,7 @@ module _ (s : Spelling) (n c : ℕ) (links : List ℕ) where
 
   -- bytes that are those of no links
   pub shard_unlinked : IsU32 n → IsU32 c → AreNoLinks (spelled_in s) links → BodyRefused BadField (kind_in s) (u32_text n ++ (u32_text c ++ links))
-  shard_unlinked wide wide' none = (
-    no_hello s (u32_text n ++ (u32_text c ++ links)),
-    λ v is.
-        let (ls, lawful, count, spelling, same) = shard_parts v wide wide' is in
-        none ls same,
-  )
+  shard_unlinked wide wide' none = search (arith, no_hello, shard_parts)
 
   -- links that are to go in the other spelling
   pub shard_of_another_kind : (ls : List Link) → IsU32 n → IsU32 c → Spells s ls links → spelling_of ls ≢ s → BodyRefused BadField (kind_in s) (u32_text n ++ (u32_text c ++ links))
@@ -106,38 +81,21 @@ module _ (s : Spelling) (n c : ℕ) (links : List ℕ) where
 
   pub shard_found : (ls : List Link) → n < MAX_SHARDS → c ≤ MAX_SHARD_LINKS → length links ≡ size_in s * c → flat_map (spelled_in s) ls ≡ links → spelling_of ls ≡ s
       → IsFrameOf (ShardFrame n ls) (kind_in s) (u32_text n ++ (u32_text c ++ links))
-  shard_found ls low few long same spelling =
-      let links-are : length links ≡ size_in s * length ls = sym (ap length same) ∙ length_in s ls in
-      let total : length ls ≡ c = sym (counted_in s (length links) (length ls) links-are) ∙ counted_in s (length links) c long in
-      record {
-        lawful = record { number = low; count = omega (arith, few, total) };
-        kind = kind_by_spelling s ls spelling;
-        body = ap (λ (k : ℕ). u32_text n ++ (u32_text k ++ links_text ls)) total ∙ ap (λ (t : List ℕ). u32_text n ++ (u32_text c ++ t)) (text_in s ls spelling ∙ same);
-      }
+  shard_found ls low few long same spelling = search (arith, length_in, counted_in, kind_by_spelling, text_in)
 
 -- ---- an ask
 
 module _ (r s c : ℕ) (labels : List ℕ) where
   ask_parts : (v : FrameValue) → IsU32 r → IsU32 s → IsU32 c → IsFrameOf v 3 (u32_text r ++ (u32_text s ++ (u32_text c ++ labels)))
       → (ls : List ℕ) × AreLabels ls × (length ls ≡ c) × (s < MAX_SHARDS) × (flat_map u32_text ls ≡ labels)
-  ask_parts (AskFrame r' s' ls) wide_r wide_s wide_c is =
-      let fields = two_prefix r' s' r s (u32_text (length ls) ++ flat_map u32_text ls) (u32_text c ++ labels) is.lawful.round (omega (arith, is.lawful.shard)) wide_r wide_s is.body in
-      let count = u32_prefix (length ls) c (flat_map u32_text ls) labels (omega (arith, is.lawful.labels.few_vertices)) wide_c fields.2 in
-      (ls, is.lawful.labels, count.0, omega (arith, fields.1, is.lawful.shard), count.1)
-  ask_parts (ShardFrame n ls) wide_r wide_s wide_c is = absurd (shard_kind 3 n ls (omega arith) (omega arith) is.kind)
-  ask_parts v wide_r wide_s wide_c is = absurd (omega (arith, is.kind))
+  ask_parts a1 a2 a3 a4 a5 = search (arith, two_prefix, u32_prefix, shard_kind)
 
   -- an ask's body, with these fields before its labels
   pub ask_begun : s < MAX_SHARDS → length labels ≡ 4 * c → IsListBegun 3 (u32_text r ++ (u32_text s ++ (u32_text c ++ labels)))
   ask_begun low long = inr (inr (inl (refl, record { round = r; shard = s; count = c; labels = labels; split = refl; in_range = low; counted = long })))
 
   pub ask_refused : IsU32 r → IsU32 s → IsU32 c → (s < MAX_SHARDS → length labels ≡ 4 * c → ⊥) → BodyRefused BadField 3 (u32_text r ++ (u32_text s ++ (u32_text c ++ labels)))
-  ask_refused wide_r wide_s wide_c never = (
-    λ other. omega (arith, other.0),
-    λ v is.
-        let (ls, lawful, count, low, same) = ask_parts v wide_r wide_s wide_c is in
-        never low (omega (arith, ap length same, count, items_length u32_text 4 u32_length ls)),
-  )
+  ask_refused wide_r wide_s wide_c never = search (arith, ask_parts, items_length, u32_length)
 
   pub ask_unlabelled : (ns : List ℕ) → IsU32 r → IsU32 s → IsU32 c → flat_map u32_text ns ≡ labels → All IsU32 ns → (AreLabels ns → ⊥)
       → BodyRefused BadField 3 (u32_text r ++ (u32_text s ++ (u32_text c ++ labels)))
@@ -151,35 +109,21 @@ module _ (r s c : ℕ) (labels : List ℕ) where
 
   pub ask_found : (ls : List ℕ) → IsU32 r → s < MAX_SHARDS → length ls ≡ c → flat_map u32_text ls ≡ labels → AreLabels ls
       → IsFrameOf (AskFrame r s ls) 3 (u32_text r ++ (u32_text s ++ (u32_text c ++ labels)))
-  ask_found ls wide low total same are = record {
-    lawful = record { round = wide; shard = low; labels = are };
-    kind = refl;
-    body = ap (λ (k : ℕ). u32_text r ++ (u32_text s ++ (u32_text k ++ flat_map u32_text ls))) total ∙ ap (λ (t : List ℕ). u32_text r ++ (u32_text s ++ (u32_text c ++ t))) same;
-  }
+  ask_found ls wide low total same are = search arith
 
 -- ---- an answer
 
 module _ (r s c : ℕ) (offers : List ℕ) where
   answer_parts : (v : FrameValue) → IsU32 r → IsU32 s → IsU32 c → IsFrameOf v 4 (u32_text r ++ (u32_text s ++ (u32_text c ++ offers)))
       → (os : List Offer) × AreOffers os × AllByRecursion FitsOffer os × (length os ≡ c) × (flat_map offer_text os ≡ offers)
-  answer_parts (AnswerFrame a) wide_r wide_s wide_c is =
-      let fields = two_prefix a.round a.shard r s (u32_text (length a.offers) ++ flat_map offer_text a.offers) (u32_text c ++ offers) is.lawful.round is.lawful.shard wide_r wide_s is.body in
-      let count = u32_prefix (length a.offers) c (flat_map offer_text a.offers) offers (omega (arith, is.lawful.count)) wide_c fields.2 in
-      (a.offers, is.lawful.ascending, recursion_from_All _ _ is.lawful.fit, count.0, count.1)
-  answer_parts (ShardFrame n ls) wide_r wide_s wide_c is = absurd (shard_kind 4 n ls (omega arith) (omega arith) is.kind)
-  answer_parts v wide_r wide_s wide_c is = absurd (omega (arith, is.kind))
+  answer_parts a1 a2 a3 a4 a5 = search (arith, two_prefix, u32_prefix, recursion_from_All, shard_kind)
 
   -- an answer's body, with these fields before its offers
   pub answer_begun : length offers ≡ 8 * c → IsListBegun 4 (u32_text r ++ (u32_text s ++ (u32_text c ++ offers)))
   answer_begun long = inr (inr (inr (refl, record { round = r; shard = s; count = c; offers = offers; split = refl; counted = long })))
 
   pub answer_refused : IsU32 r → IsU32 s → IsU32 c → (length offers ≡ 8 * c → ⊥) → BodyRefused BadField 4 (u32_text r ++ (u32_text s ++ (u32_text c ++ offers)))
-  answer_refused wide_r wide_s wide_c never = (
-    λ other. omega (arith, other.0),
-    λ v is.
-        let (os, ascending, fits, count, same) = answer_parts v wide_r wide_s wide_c is in
-        never (omega (arith, ap length same, count, items_length offer_text 8 offer_length os)),
-  )
+  answer_refused wide_r wide_s wide_c never = search (arith, answer_parts, items_length, offer_length)
 
   pub answer_unsorted : (ps : List Offer) → IsU32 r → IsU32 s → IsU32 c → flat_map offer_text ps ≡ offers → All FitsOffer ps → (AreOffers ps → ⊥)
       → BodyRefused BadField 4 (u32_text r ++ (u32_text s ++ (u32_text c ++ offers)))
@@ -193,24 +137,14 @@ module _ (r s c : ℕ) (offers : List ℕ) where
 
   pub answer_found : (os : List Offer) → IsU32 r → IsU32 s → c ≤ 2 * MAX_SHARD_LINKS → length os ≡ c → flat_map offer_text os ≡ offers → All FitsOffer os → AreOffers os
       → IsFrameOf (AnswerFrame (record { round = r; shard = s; offers = os })) 4 (u32_text r ++ (u32_text s ++ (u32_text c ++ offers)))
-  answer_found os wide wide' few total same fits ascending = record {
-    lawful = record { round = wide; shard = wide'; count = omega (arith, few, total); fit = fits; ascending = ascending };
-    kind = refl;
-    body = ap (λ (k : ℕ). u32_text r ++ (u32_text s ++ (u32_text k ++ flat_map offer_text os))) total ∙ ap (λ (t : List ℕ). u32_text r ++ (u32_text s ++ (u32_text c ++ t))) same;
-  }
+  answer_found os wide wide' few total same fits ascending = search arith
 
 -- ---- a fault
 
 fault_unlike : (v : FrameValue) (r s code : ℕ) (body rest rest' : List ℕ) → IsU32 r → IsU32 s → body ≡ u32_text r ++ rest → rest ≡ u32_text s ++ rest'
     → code ≡ get_or rest' 0 0 → (1 ≤ code → code ≤ 3 → ⊥) → IsFrameOf v 5 body → ⊥
-fault_unlike (FaultFrame r' s' c) r s code body rest rest' wide wide' first second here never is =
-    let fields = two_prefix r' s' r s (c ∷ []) rest' is.lawful.round is.lawful.shard wide wide' (is.body ∙ first ∙ ap (λ (t : List ℕ). u32_text r ++ t) second) in
-    let same : c ≡ code = ap (λ (l : List ℕ). get_or l 0 0) fields.2 ∙ sym here in
-    never (omega (arith, is.lawful.code_from_one)) (omega (arith, is.lawful.code_to_three))
-fault_unlike (ShardFrame n ls) r s code body rest rest' wide wide' first second here never is = shard_kind 5 n ls (omega arith) (omega arith) is.kind
-fault_unlike v r s code body rest rest' wide wide' first second here never is = omega (arith, is.kind)
+fault_unlike a1 a2 a3 a4 a5 a6 a7 a8 a9 a10 a11 a12 a13 a14 = search (arith, two_prefix, shard_kind)
 
 pub fault_refused : (r s code : ℕ) (body rest rest' : List ℕ) → IsU32 r → IsU32 s → body ≡ u32_text r ++ rest → rest ≡ u32_text s ++ rest'
     → code ≡ get_or rest' 0 0 → (1 ≤ code → code ≤ 3 → ⊥) → BodyRefused BadField 5 body
-fault_refused r s code body rest rest' wide wide' first second here never =
-    (λ other. omega (arith, other.0), λ v is. fault_unlike v r s code body rest rest' wide wide' first second here never is)
+fault_refused r s code body rest rest' wide wide' first second here never = search (arith, fault_unlike)

@@ -55,24 +55,19 @@ numbers_found bytes numbers whole fits fit spelled =
 -- ---- links, written
 
 pub three_joined : (all a b c x y z : List ℕ) → all ≡ a ++ (b ++ (c ++ [])) → a ≡ x → b ≡ y → c ≡ z → all ≡ x ++ (y ++ z)
-three_joined all a b c x y z is first second third =
-    is ∙ ap (λ (t : List ℕ). t ++ (b ++ (c ++ []))) first ∙ ap (λ (t : List ℕ). x ++ (t ++ (c ++ []))) second ∙ ap (λ (t : List ℕ). x ++ (y ++ t)) (append-nil c ∙ third)
+three_joined all a b c x y z is first second third = search (arith, append-nil)
 
 -- texts of three fields, put one behind the other
 pub three_put : (t0 t1 t2 t3 a b c x y z : List ℕ) → t1 ≡ t0 ++ a → t2 ≡ t1 ++ b → t3 ≡ t2 ++ c → a ≡ x → b ≡ y → c ≡ z → t3 ≡ t0 ++ (x ++ (y ++ z))
-three_put t0 t1 t2 t3 a b c x y z e1 e2 e3 first second third =
-    let all : t3 ≡ ((t0 ++ x) ++ y) ++ z = cc in
-    all ∙ append_assoc (t0 ++ x) y z ∙ append_assoc t0 x (y ++ z)
+three_put t0 t1 t2 t3 a b c x y z e1 e2 e3 first second third = search (arith, append_assoc)
 
 -- ---- weights of 32 bits
 
 and-assoc : (a b c : Bool) → (a && (b && c)) ≡ ((a && b) && c)
-and-assoc true b c = refl
-and-assoc false b c = refl
+and-assoc a1 a2 a3 = search arith
 
 and-true : (a : Bool) → (a && true) ≡ a
-and-true true = refl
-and-true false = refl
+and-true a1 = search arith
 
 pub narrow-append : (a b : List Link) → are_narrow (a ++ b) ≡ (are_narrow a && are_narrow b)
 narrow-append [] b = refl
@@ -91,25 +86,16 @@ narrow_at (l ∷ links) (suc i) d narrow within = narrow_at links i d (and_parts
 
 pub link_unlike : (weighed : ℤ → List ℕ) (low high : ℕ) (bytes rest rest' : List ℕ) → IsU32 low → IsU32 high → bytes ≡ u32_text low ++ rest → rest ≡ u32_text high ++ rest'
     → (1 ≤ low → low < high → high ≤ 2 ^ 26 → ⊥) → IsNoLink (λ l. u32_text l.low ++ (u32_text l.high ++ weighed l.weight)) bytes
-link_unlike weighed low high bytes rest rest' wide wide' first second never l same =
-    let ends = two_prefix l.low l.high low high (weighed l.weight) rest' (omega (arith, l.ascending, l.in_limit)) (omega (arith, l.in_limit)) wide wide' (same ∙ first ∙ ap (λ (t : List ℕ). u32_text low ++ t) second) in
-    never (omega (arith, ends.0, l.from_one)) (omega (arith, ends.0, ends.1, l.ascending)) (omega (arith, ends.1, l.in_limit))
+link_unlike weighed low high bytes rest rest' wide wide' first second never l same = search (arith, two_prefix)
 
 -- the weight is made of these bits
 pub link_back : (low high bits : ℕ) (z : ℤ) (bytes rest rest' rest'' : List ℕ) → IsU32 bits → z ≡ cast_signed w32 bits → length bytes ≡ 12
     → bytes ≡ u32_text low ++ rest → rest ≡ u32_text high ++ rest' → rest' ≡ u32_text bits ++ rest'' → u32_text low ++ (u32_text high ++ i32_text z) ≡ bytes
-link_back low high bits z bytes rest rest' rest'' wide is len first second third =
-    let none : rest'' ≡ [] = nil_from_length rest'' (omega (arith, ap length first, ap length second, ap length third, length-append (u32_text low) rest, length-append (u32_text high) rest', length-append (u32_text bits) rest'', u32_length low, u32_length high, u32_length bits)) in
-    let last : rest' ≡ u32_text bits = third ∙ ap (λ (t : List ℕ). u32_text bits ++ t) none ∙ append-nil (u32_text bits) in
-    ap (λ (k : ℕ). u32_text low ++ (u32_text high ++ u32_text k)) (ap (cast_unsigned w32) is ∙ of_z-to_z w32 bits wide)
-    ∙ ap (λ (t : List ℕ). u32_text low ++ (u32_text high ++ t)) (sym last) ∙ ap (λ (t : List ℕ). u32_text low ++ t) (sym second) ∙ sym first
+link_back low high bits z bytes rest rest' rest'' wide is len first second third = search (arith, nil_from_length, length-append, u32_length, append-nil, of_z-to_z)
 
 pub wide_link_back : (low high : ℕ) (z : ℤ) (bytes rest rest' rest'' : List ℕ) → length bytes ≡ 16
     → bytes ≡ u32_text low ++ rest → rest ≡ u32_text high ++ rest' → rest' ≡ i64_text z ++ rest'' → u32_text low ++ (u32_text high ++ i64_text z) ≡ bytes
-wide_link_back low high z bytes rest rest' rest'' len first second third =
-    let none : rest'' ≡ [] = nil_from_length rest'' (omega (arith, ap length first, ap length second, ap length third, length-append (u32_text low) rest, length-append (u32_text high) rest', length-append (i64_text z) rest'', u32_length low, u32_length high, i64_length z)) in
-    let last : rest' ≡ i64_text z = third ∙ ap (λ (t : List ℕ). i64_text z ++ t) none ∙ append-nil (i64_text z) in
-    ap (λ (t : List ℕ). u32_text low ++ (u32_text high ++ t)) (sym last) ∙ ap (λ (t : List ℕ). u32_text low ++ t) (sym second) ∙ sym first
+wide_link_back low high z bytes rest rest' rest'' len first second third = search (arith, nil_from_length, length-append, u32_length, i64_length, append-nil)
 
 module _ (spelled : Link → List ℕ) (size : ℕ) (some : 0 < size) (each : (l : Link) → length (spelled l) ≡ size) where
   -- behind links that were read, bytes that no link has
@@ -119,10 +105,7 @@ module _ (spelled : Link → List ℕ) (size : ℕ) (some : 0 < size) (each : (l
       omega (arith, some, ap length same, length-append (flat_map spelled read) (prefix ++ behind), length-append prefix behind)
   none_behind [] (l ∷ links) prefix behind len none same =
       none l (parts_same (spelled l) prefix (flat_map spelled links) behind (each l ∙ sym len) same).0
-  none_behind (r ∷ read) (l ∷ links) prefix behind len none same =
-      none_behind read links prefix behind len none
-      (parts_same (spelled l) (spelled r) (flat_map spelled links) (flat_map spelled read ++ (prefix ++ behind)) (each l ∙ sym (each r))
-      (same ∙ append_assoc (spelled r) (flat_map spelled read) (prefix ++ behind))).1
+  none_behind (r ∷ read) (l ∷ links) prefix behind len none same = search (arith, parts_same, append_assoc, none_behind read links prefix behind len none)
 
   pub no_links_behind : (read : List Link) (bytes rest prefix behind : List ℕ) → flat_map spelled read ++ rest ≡ bytes → prefix ≡ take size rest → behind ≡ drop size rest
       → length prefix ≡ size → IsNoLink spelled prefix → AreNoLinks spelled bytes
@@ -145,12 +128,7 @@ offer_put bytes cell offers i k d room more is so_far =
 
 pub offer_more : (new old : List Offer) (component place : ℕ) (bytes rest rest' rest'' : List ℕ) → flat_map offer_text old ++ rest ≡ bytes
     → rest ≡ u32_text component ++ rest' → rest' ≡ u32_text place ++ rest'' → new ≡ old ++ (component, place) ∷ [] → flat_map offer_text new ++ rest'' ≡ bytes
-offer_more new old component place bytes rest rest' rest'' so_far first second is =
-    let pushed : flat_map offer_text new ≡ flat_map offer_text old ++ (u32_text component ++ u32_text place) =
-    ap (flat_map offer_text) is ∙ flat_map-append offer_text old ((component, place) ∷ []) ∙ ap (λ (t : List ℕ). flat_map offer_text old ++ t) (append-nil (u32_text component ++ u32_text place)) in
-    let split : rest ≡ (u32_text component ++ u32_text place) ++ rest'' = first ∙ ap (λ (t : List ℕ). u32_text component ++ t) second ∙ sym (append_assoc (u32_text component) (u32_text place) rest'') in
-    ap (λ (t : List ℕ). t ++ rest'') pushed ∙ append_assoc (flat_map offer_text old) (u32_text component ++ u32_text place) rest''
-    ∙ ap (λ (t : List ℕ). flat_map offer_text old ++ t) (sym split) ∙ so_far
+offer_more new old component place bytes rest rest' rest'' so_far first second is = search (arith, flat_map-append, append-nil, append_assoc)
 
 pub fits_more : (new old : List Offer) (component place : ℕ) → All FitsOffer old → FitsOffer (component, place) → new ≡ old ++ (component, place) ∷ [] → All FitsOffer new
 fits_more new old component place before this is = subst (All FitsOffer) (sym is) (All-append FitsOffer old ((component, place) ∷ []) before (All-cons FitsOffer (component, place) [] this (All-nil FitsOffer)))

@@ -29,14 +29,11 @@ use Rattle.frames.proofs.Decoded.{ask_refused, ask_begun, ask_found, ask_unlabel
 
 pub frame_behind : (v : FrameValue) (kind len : ℕ) (s t u : SourceState) → Gave 0 0 (kind ∷ u32_text len) s t → BodyCame v kind len t u
     → IsLawful v × Gave 0 0 (text_of v) s u
-frame_behind v kind len s t u first came =
-    (came.is.lawful, frame_gave v kind len (kind ∷ u32_text len) came.body s t u first came.gave refl came.counted came.is)
+frame_behind v kind len s t u first came = search (arith, frame_gave)
 
 pub refused_behind : (fault : FrameFault) (kind len : ℕ) (s t u : SourceState) → IsU32 len → IsPossible kind len → Gave 0 0 (kind ∷ u32_text len) s t
     → IsBodyRefused fault kind len t u → IsReadRefused fault s u
-refused_behind fault kind len s t u wide possible first (inl cut) = cut_refused fault kind len (kind ∷ u32_text len) s t u wide possible refl first cut
-refused_behind fault kind len s t u wide possible first (inr whole) =
-    body_refused fault kind len (kind ∷ u32_text len) whole.body s t u wide possible whole.counted refl first whole.gave whole.refused
+refused_behind a1 a2 a3 a4 a5 a6 a7 a8 a9 a10 = search (arith, cut_refused, body_refused)
 
 -- ---- the numbers of an ask, a piece at a time
 
@@ -47,13 +44,11 @@ same_more last came k = take-add came k last
 -- where the next ones have other bytes than those of the last ask, they aren't either
 pub others_here : (last more new piece : List ℕ) (came k : ℕ) → flat_map u32_text more ≡ piece → flat_map u32_text (take k (drop came last)) ≢ piece
     → new ≡ take came last ++ more → new ≢ take (came + k) last
-others_here last more new piece came k spelled other is same =
-    other (ap (flat_map u32_text) (sym (append_cancel_left (take came last) more (take k (drop came last)) (sym is ∙ same ∙ same_more last came k))) ∙ spelled)
+others_here last more new piece came k spelled other is same = search (arith, append_cancel_left, same_more)
 
 -- the text of numbers and more of them
 pub more_text : (before more after piece : List ℕ) → after ≡ before ++ more → flat_map u32_text more ≡ piece → flat_map u32_text after ≡ flat_map u32_text before ++ piece
-more_text before more after piece is spelled =
-    ap (flat_map u32_text) is ∙ flat_map-append u32_text before more ∙ ap (λ (t : List ℕ). flat_map u32_text before ++ t) spelled
+more_text before more after piece is spelled = search (arith, flat_map-append)
 
 -- numbers of four bytes
 pub all_fit : (numbers : List ℕ) → ((i : ℕ) → get_or numbers i 0 < 2 ^ 32) → All IsU32 numbers
@@ -68,13 +63,11 @@ other_fit new old more is fits before = subst (All IsU32) (sym is) (All-append I
 
 pub pushed_fit : {T E : Type 0} (result : Result T E) (new old piece : List ℕ) → OnOk result ((more : List ℕ) × (new ≡ old ++ more) × (flat_map u32_text more ≡ piece) × All IsU32 more)
     → OnOk result (All IsU32 old → All IsU32 new)
-pushed_fit (Ok passed) new old piece (more, is, spelled, fits) = other_fit new old more is fits
-pushed_fit (Err fault) new old piece none = tt
+pushed_fit a1 a2 a3 a4 a5 = search (arith, other_fit)
 
 pub pushed : {T E : Type 0} (result : Result T E) (new old read numbers piece : List ℕ) → new ≡ (if is_ok result then old ++ read else old) → read ≡ numbers
     → (flat_map u32_text numbers ≡ piece) × All IsU32 numbers → OnOk result ((more : List ℕ) × (new ≡ old ++ more) × (flat_map u32_text more ≡ piece) × All IsU32 more)
-pushed (Ok passed) new old read numbers piece is same are = (numbers, is ∙ ap (λ (t : List ℕ). old ++ t) same, are.0, are.1)
-pushed (Err fault) new old read numbers piece is same are = tt
+pushed a1 a2 a3 a4 a5 a6 a7 a8 a9 = search arith
 
 -- how many bytes numbers have
 pub bytes_of : (numbers : List ℕ) → length (flat_map u32_text numbers) ≡ 4 * length numbers

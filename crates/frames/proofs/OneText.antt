@@ -25,10 +25,7 @@ hello_same v w v' w' fits fits' wide wide' same =
 -- two numbers, and what follows them
 pub two_prefix : (a b c d : ℕ) (x y : List ℕ) → IsU32 a → IsU32 b → IsU32 c → IsU32 d
     → u32_text a ++ (u32_text b ++ x) ≡ u32_text c ++ (u32_text d ++ y) → (a ≡ c) × (b ≡ d) × (x ≡ y)
-two_prefix a b c d x y fits_a fits_b fits_c fits_d same =
-    let first = u32_prefix a c (u32_text b ++ x) (u32_text d ++ y) fits_a fits_c same in
-    let second = u32_prefix b d x y fits_b fits_d first.1 in
-    (first.0, second.0, second.1)
+two_prefix a b c d x y fits_a fits_b fits_c fits_d same = search (arith, u32_prefix)
 
 -- labels of vertices are at most 2^26
 labels_below : (labels : List ℕ) → ((k : ℕ) → k < length labels → get_or labels k 0 < 2 ^ 32) → AllByRecursion IsU32 labels
@@ -47,10 +44,7 @@ abbrev pub kind_by : Bool → ℕ
 kind_by narrow = cond narrow 2 6
 
 pub alike : (a b : Bool) → kind_by a ≡ kind_by b → a ≡ b
-alike true true same = refl
-alike true false same = absurd (omega (arith, same))
-alike false true same = absurd (omega (arith, same))
-alike false false same = refl
+alike a1 a2 a3 = search arith
 
 pub narrow_same : (ls ls' : List Link) → are_narrow ls ≡ true → are_narrow ls' ≡ true → flat_map link_text ls ≡ flat_map link_text ls' → ls ≡ ls'
 narrow_same ls ls' narrow narrow' same = items_same link_text 12 FitsNarrow (omega arith) link_length link_prefix ls ls' (narrow_fit ls narrow) (narrow_fit ls' narrow') same
@@ -59,16 +53,11 @@ pub wide_same : (ls ls' : List Link) → flat_map wide_link_text ls ≡ flat_map
 wide_same ls ls' same = items_same wide_link_text 16 FitsWide (omega arith) wide_link_length wide_link_prefix ls ls' (wide_fit ls) (wide_fit ls') same
 
 links_same : (ls ls' : List Link) → are_narrow ls ≡ are_narrow ls' → links_text ls ≡ links_text ls' → ls ≡ ls'
-links_same ls ls' same_kind same = elim (cases_Bool (are_narrow ls)) [
-  | inl narrow ↦ narrow_same ls ls' narrow (sym same_kind ∙ narrow) (sym (narrow_text ls narrow) ∙ same ∙ narrow_text ls' (sym same_kind ∙ narrow))
-  | inr wide ↦ wide_same ls ls' (sym (wide_text ls wide) ∙ same ∙ wide_text ls' (sym same_kind ∙ wide))
-]
+links_same ls ls' same_kind same = search (arith, cases_Bool, narrow_same, narrow_text, wide_same, wide_text)
 
 pub shard_same : (n n' : ℕ) (ls ls' : List Link) → IsShard n ls → IsU32 n' → length ls' < 2 ^ 32 → kind_of (ShardFrame n ls) ≡ kind_of (ShardFrame n' ls')
     → body_of (ShardFrame n ls) ≡ body_of (ShardFrame n' ls') → (n ≡ n') × (ls ≡ ls')
-shard_same n n' ls ls' lawful wide short kind same =
-    let fields = two_prefix n (length ls) n' (length ls') (links_text ls) (links_text ls') (omega (arith, lawful.number)) (omega (arith, lawful.count)) wide short same in
-    (fields.0, links_same ls ls' (alike (are_narrow ls) (are_narrow ls') kind) fields.2)
+shard_same n n' ls ls' lawful wide short kind same = search (arith, two_prefix, links_same, alike)
 
 pub ask_same : (r r' s s' : ℕ) (ls ls' : List ℕ) → IsAsk r s ls → IsU32 r' → IsU32 s' → length ls' < 2 ^ 32 → AllByRecursion IsU32 ls'
     → body_of (AskFrame r s ls) ≡ body_of (AskFrame r' s' ls') → (r ≡ r') × (s ≡ s') × (ls ≡ ls')
@@ -86,9 +75,7 @@ answer_same a b lawful wide wide' short fits same =
     λ i. record { round = prefix.0 i; shard = prefix.1 i; offers = offers i }
 
 pub fault_same : (r r' s s' c c' : ℕ) → IsU32 r → IsU32 r' → IsU32 s → IsU32 s' → body_of (FaultFrame r s c) ≡ body_of (FaultFrame r' s' c') → (r ≡ r') × (s ≡ s') × (c ≡ c')
-fault_same r r' s s' c c' wide wide' wide_s wide_s' same =
-    let prefix = two_prefix r s r' s' (c ∷ []) (c' ∷ []) wide wide_s wide' wide_s' same in
-    (prefix.0, prefix.1, ap (λ (l : List ℕ). get_or l 0 0) prefix.2)
+fault_same r r' s s' c c' wide wide' wide_s wide_s' same = search (arith, two_prefix)
 
 -- ---- bodies of one kind
 
@@ -132,10 +119,4 @@ body_short (AnswerFrame a) lawful = omega (arith, three_length a.round a.shard (
 body_short (FaultFrame r s c) lawful = omega (arith, length-append (u32_text r) (u32_text s ++ c ∷ []), length-append (u32_text s) (c ∷ []), u32_length r, u32_length s)
 
 pub one_text : EachHasOneText
-one_text v w x y first second same =
-    let kind : kind_of v ≡ kind_of w = ap (λ (l : List ℕ). get_or l 0 0) same in
-    let behind : (u32_text (length (body_of v)) ++ body_of v) ++ x ≡ (u32_text (length (body_of w)) ++ body_of w) ++ y = cc in
-    let fields = u32_prefix (length (body_of v)) (length (body_of w)) (body_of v ++ x) (body_of w ++ y) (body_short v first) (body_short w second)
-    (sym (append_assoc (u32_text (length (body_of v))) (body_of v) x) ∙ behind ∙ append_assoc (u32_text (length (body_of w))) (body_of w) y) in
-    let parts = parts_same (body_of v) (body_of w) x y fields.0 fields.1 in
-    (bodies_same v w first second kind parts.0, parts.1)
+one_text v w x y first second same = search (arith, u32_prefix, body_short, append_assoc, parts_same, bodies_same)

@@ -38,9 +38,7 @@ stopped_so_many fault m n x y is stopped = subst (λ (k : ℕ). IsStopped fault 
 
 -- numbers that fill some bytes
 two_filled : (bytes rest none : List ℕ) (a b : ℕ) → length bytes ≡ 8 → bytes ≡ u32_text a ++ rest → rest ≡ u32_text b ++ none → bytes ≡ u32_text a ++ u32_text b
-two_filled bytes rest none a b eight first second =
-    let empty : none ≡ [] = nil_from_length none (omega (arith, eight, ap length first, ap length second, length-append (u32_text a) rest, length-append (u32_text b) none, u32_length a, u32_length b)) in
-    first ∙ ap (λ (t : List ℕ). u32_text a ++ t) (second ∙ ap (λ (t : List ℕ). u32_text b ++ t) empty ∙ append-nil (u32_text b))
+two_filled bytes rest none a b eight first second = search (arith, nil_from_length, length-append, u32_length, append-nil)
 
 pub two_came : (bytes rest none : List ℕ) (a b : ℕ) (x y : SourceState) → length bytes ≡ 8 → bytes ≡ u32_text a ++ rest → rest ≡ u32_text b ++ none
     → Gave 0 0 bytes x y → Gave 0 0 (u32_text a ++ u32_text b) x y
@@ -48,9 +46,7 @@ two_came bytes rest none a b x y eight first second came = subst (λ (t : List �
 
 pub three_came : (bytes rest rest' none : List ℕ) (a b c : ℕ) (x y : SourceState) → length bytes ≡ 12 → bytes ≡ u32_text a ++ rest → rest ≡ u32_text b ++ rest' → rest' ≡ u32_text c ++ none
     → Gave 0 0 bytes x y → Gave 0 0 (u32_text a ++ (u32_text b ++ u32_text c)) x y
-three_came bytes rest rest' none a b c x y twelve first second third came =
-    let eight : length rest ≡ 8 = omega (arith, twelve, ap length first, length-append (u32_text a) rest, u32_length a) in
-    subst (λ (t : List ℕ). Gave 0 0 t x y) (first ∙ ap (λ (t : List ℕ). u32_text a ++ t) (two_filled rest rest' none b c eight second third)) came
+three_came bytes rest rest' none a b c x y twelve first second third came = search (arith, length-append, u32_length, two_filled)
 
 module _ (kind len m : ℕ) (fields : List ℕ) (long : length fields + m ≡ len) (x y z : SourceState) (came : Gave 0 0 fields x y) where
   -- the list came, and the body is a frame's

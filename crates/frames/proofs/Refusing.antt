@@ -15,9 +15,7 @@ module _ (bytes rest : List ℕ) where
   kind_same head = get_or_append_left bytes rest 0 0 (omega arith)
 
   length_same : HasHead bytes → length_at (bytes ++ rest) ≡ length_at bytes
-  length_same head =
-      ap (λ (t : List ℕ). from_be_bytes w32 (take 4 t)) (drop-append-le 1 bytes rest (omega arith))
-      ∙ ap (from_be_bytes w32) (take-append-le 4 (drop 1 bytes) rest (omega (arith, length-drop 1 bytes)))
+  length_same head = search (arith, drop-append-le, take-append-le, length-drop)
 
   longer : HasHead bytes → HasHead (bytes ++ rest)
   longer head = omega (arith, length-append bytes rest)
@@ -26,21 +24,16 @@ module _ (bytes rest : List ℕ) where
   good_same good = (longer good.0, subst (IsPossible (kind_at (bytes ++ rest))) (sym (length_same good.0)) (subst (λ (k : ℕ). IsPossible k (length_at bytes)) (sym (kind_same good.0)) good.1))
 
   body_same : HasBody bytes → body_at (bytes ++ rest) ≡ body_at bytes
-  body_same body =
-      ap (λ (n : ℕ). take n (drop 5 (bytes ++ rest))) (length_same body.0.0)
-      ∙ ap (take (length_at bytes)) (drop-append-le 5 bytes rest body.0.0)
-      ∙ take-append-le (length_at bytes) (drop 5 bytes) rest (omega (arith, body.1, length-drop 5 bytes))
+  body_same body = search (arith, length_same, drop-append-le, take-append-le, length-drop)
 
   has_body : HasBody bytes → HasBody (bytes ++ rest)
   has_body body = (good_same body.0, omega (arith, body.1, length_same body.0.0, length-append bytes rest))
 
   head_more : (fault : FrameFault) → HasHead bytes → HeadRefused fault (kind_at bytes) (length_at bytes) → HeadRefused fault (kind_at (bytes ++ rest)) (length_at (bytes ++ rest))
-  head_more fault head refused =
-      subst (HeadRefused fault (kind_at (bytes ++ rest))) (sym (length_same head)) (subst (λ (k : ℕ). HeadRefused fault k (length_at bytes)) (sym (kind_same head)) refused)
+  head_more fault head refused = search (arith, length_same, kind_same)
 
   body_more : (fault : FrameFault) → HasBody bytes → BodyRefused fault (kind_at bytes) (body_at bytes) → BodyRefused fault (kind_at (bytes ++ rest)) (body_at (bytes ++ rest))
-  body_more fault body refused =
-      subst (BodyRefused fault (kind_at (bytes ++ rest))) (sym (body_same body)) (subst (λ (k : ℕ). BodyRefused fault k (body_at bytes)) (sym (kind_same body.0.0)) refused)
+  body_more fault body refused = search (arith, body_same, kind_same)
 
 -- a stream that begins with a refused head or frame is refused
 pub refused_more : (fault : FrameFault) (bytes rest : List ℕ) → IsOfStream fault → ends_of fault ≡ 0 → StreamRefused fault bytes → StreamRefused fault (bytes ++ rest)
@@ -55,12 +48,7 @@ refused_more Memory bytes rest of_stream whole refused = absurd of_stream
 
 of_the_stream : (fault : FrameFault) (a b : Option (List ℕ)) (bytes : List ℕ) → IsOfStream fault → Consumes a b bytes → (0 < ends_of fault → IfSome a (λ all. all ≡ bytes))
     → StreamRefused fault bytes → IfSome a (StreamRefused fault)
-of_the_stream fault None b bytes of_stream came at_end refused = tt
-of_the_stream fault (Some all) None bytes of_stream came at_end refused = absurd came
-of_the_stream fault (Some all) (Some rest) bytes of_stream came at_end refused = by_end (cases_lt 0 (ends_of fault)) where
-  by_end : (0 < ends_of fault) ⊎ (ends_of fault ≤ 0) → StreamRefused fault all
-  by_end (inl ended) = subst (StreamRefused fault) (sym (at_end ended)) refused
-  by_end (inr went_on) = subst (StreamRefused fault) (sym came) (refused_more fault bytes rest of_stream (omega arith) refused)
+of_the_stream a1 a2 a3 a4 a5 a6 a7 a8 = search (arith, cases_lt, refused_more)
 
 pub refusal_of_the_stream : RefusalIsOfTheStream
 refusal_of_the_stream fault before after of_stream is = of_the_stream fault before.left after.left is.bytes of_stream is.gave.left is.gave.at_end is.refused

@@ -30,8 +30,7 @@ pub record SaysLinks (s : Spelling) (len most : ℕ) : Type 0 where
   pub length_is : len ≡ 8 + size_in s * most
 
 pub says_links : (s : Spelling) (kind len most : ℕ) → kind_in s ≡ kind → IsPossible kind len → most ≡ (len - 8) / size_in s → SaysLinks s len most
-says_links Narrow kind len most is possible links = let (count, few, size) = possible.shard (sym is) in record { fields = omega arith; few = omega arith; length_is = omega arith }
-says_links Wide kind len most is possible links = let (count, few, size) = possible.wide (sym is) in record { fields = omega arith; few = omega arith; length_is = omega arith }
+says_links a1 a2 a3 a4 a5 a6 a7 = search arith
 
 module _ (s : Spelling) (kind len most : ℕ) (kind_is : kind_in s ≡ kind) (says : SaysLinks s len most) (x y : SourceState) where
   pub came_by_head : (v : FrameValue) → BodyCame v (kind_in s) (8 + size_in s * most) x y → BodyCame v kind len x y
@@ -46,12 +45,10 @@ module _ (s : Spelling) (kind len most : ℕ) (kind_is : kind_in s ≡ kind) (sa
 -- ---- links heard
 
 mul-add : (s : Spelling) (n k : ℕ) → size_in s * (n + k) ≡ size_in s * n + size_in s * k
-mul-add Narrow n k = omega arith
-mul-add Wide n k = omega arith
+mul-add a1 a2 a3 = search arith
 
 whole_pieces : (s : Spelling) (len : ℕ) → len % size_in s ≡ 0 → len ≡ size_in s * (len / size_in s)
-whole_pieces Narrow len whole = omega arith
-whole_pieces Wide len whole = omega arith
+whole_pieces a1 a2 a3 = search arith
 
 module _ {A : Type 0} (s : Spelling) (bytes piece : List ℕ) (whole : length piece % size_in s ≡ 0) where
   more : (before after : Option (Vec Link A)) (heard : HeardLinks s bytes before) → AreLinksIn s (bytes ++ piece) after → HeardLinks s (bytes ++ piece) after
@@ -85,9 +82,7 @@ module _ (s : Spelling) (n c k : ℕ) (x y z : SourceState) (came : Gave 0 0 (u3
   -- fields that no shard has
   pub shard_unlawful : IsU32 n → IsU32 c → BytesCame (size_in s * k) y z → (n < MAX_SHARDS → c ≡ k → ⊥) → IsBodyRefused BadField (kind_in s) (8 + size_in s * k) x z
   unfolding u32_text
-  shard_unlawful wide_n wide_c behind never =
-      list_refused (kind_in s) (8 + size_in s * k) (size_in s * k) (u32_text n ++ u32_text c) long x y z came BadField behind.bytes behind.counted behind.gave
-      (shard_refused s n c behind.bytes k behind.counted wide_n wide_c never)
+  shard_unlawful wide_n wide_c behind never = search (arith, list_refused, long, shard_refused)
 
   module _ (low : n < MAX_SHARDS) (counted : c ≡ k) where
     begun : (links : List ℕ) → length links ≡ size_in s * k → IsListBegun (kind_in s) ((u32_text n ++ u32_text c) ++ links)

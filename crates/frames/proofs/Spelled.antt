@@ -17,52 +17,40 @@ use Rattle.frames.proofs.OneText.{narrow_same, wide_same}
 -- ---- sizes
 
 pub size_some : (s : Spelling) → 0 < size_in s
-size_some Narrow = omega arith
-size_some Wide = omega arith
+size_some a1 = search arith
 
 pub spelled_length : (s : Spelling) (l : Link) → length (spelled_in s l) ≡ size_in s
-spelled_length Narrow l = link_length l
-spelled_length Wide l = wide_link_length l
+spelled_length a1 a2 = search (arith, link_length, wide_link_length)
 
 pub length_in : (s : Spelling) (links : List Link) → length (flat_map (spelled_in s) links) ≡ size_in s * length links
 length_in s links = items_length (spelled_in s) (size_in s) (spelled_length s) links
 
 -- so many bytes are of so many links
 pub counted_in : (s : Spelling) (len count : ℕ) → len ≡ size_in s * count → len / size_in s ≡ count
-counted_in Narrow len count is = omega (arith, is)
-counted_in Wide len count is = omega (arith, is)
+counted_in a1 a2 a3 a4 = search arith
 
 fewer : (s : Spelling) (k m n : ℕ) → size_in s * k + m ≡ size_in s * n → k ≤ n
-fewer Narrow k m n is = omega (arith, is)
-fewer Wide k m n is = omega (arith, is)
+fewer a1 a2 a3 a4 a5 = search arith
 
 -- ---- the spelling of a list
 
 cond_narrow : (b : Bool) → cond b Narrow Wide ≡ Narrow → b ≡ true
-cond_narrow true is = refl
-cond_narrow false is = cc
+cond_narrow a1 a2 = search arith
 
 cond_wide : (b : Bool) → cond b Narrow Wide ≡ Wide → b ≡ false
-cond_wide true is = cc
-cond_wide false is = refl
+cond_wide a1 a2 = search arith
 
 pub fit_of : (s : Spelling) (links : List Link) → spelling_of links ≡ s → FitIn s links
-fit_of Narrow links is = cond_narrow (are_narrow links) is
-fit_of Wide links is = tt
+fit_of a1 a2 a3 = search (arith, cond_narrow)
 
 pub text_in : (s : Spelling) (links : List Link) → spelling_of links ≡ s → links_text links ≡ flat_map (spelled_in s) links
-text_in Narrow links is = narrow_text links (cond_narrow (are_narrow links) is)
-text_in Wide links is = wide_text links (cond_wide (are_narrow links) is)
+text_in a1 a2 a3 = search (arith, narrow_text, cond_narrow, wide_text, cond_wide)
 
 kind_cond : (b : Bool) (s : Spelling) → cond b 2 6 ≡ kind_in s → cond b Narrow Wide ≡ s
-kind_cond true Narrow is = refl
-kind_cond true Wide is = absurd (omega (arith, is))
-kind_cond false Narrow is = absurd (omega (arith, is))
-kind_cond false Wide is = refl
+kind_cond a1 a2 a3 = search arith
 
 cond_kind : (b : Bool) (s : Spelling) → cond b Narrow Wide ≡ s → cond b 2 6 ≡ kind_in s
-cond_kind true s is = ap kind_in is
-cond_kind false s is = ap kind_in is
+cond_kind a1 a2 a3 = search arith
 
 pub spelling_by_kind : (s : Spelling) (links : List Link) → cond (are_narrow links) 2 6 ≡ kind_in s → spelling_of links ≡ s
 spelling_by_kind s links is = kind_cond (are_narrow links) s is
@@ -73,25 +61,19 @@ kind_by_spelling s links is = cond_kind (are_narrow links) s is
 -- ---- links that fit
 
 pub fit_append : (s : Spelling) (a b : List Link) → FitIn s a → FitIn s b → FitIn s (a ++ b)
-fit_append Narrow a b first second = narrow-append a b ∙ and_from (are_narrow a) (are_narrow b) first second
-fit_append Wide a b first second = tt
+fit_append a1 a2 a3 a4 a5 = search (arith, narrow-append, and_from)
 
 pub fit_parts : (s : Spelling) (a b : List Link) → FitIn s (a ++ b) → FitIn s a × FitIn s b
-fit_parts Narrow a b all = and_parts (are_narrow a) (are_narrow b) (sym (narrow-append a b) ∙ all)
-fit_parts Wide a b all = (tt, tt)
+fit_parts a1 a2 a3 a4 = search (arith, and_parts, narrow-append)
 
 -- links that fit a spelling and have one text are the same
 pub spelled_same : (s : Spelling) (a b : List Link) → FitIn s a → FitIn s b → flat_map (spelled_in s) a ≡ flat_map (spelled_in s) b → a ≡ b
-spelled_same Narrow a b first second same = narrow_same a b first second same
-spelled_same Wide a b first second same = wide_same a b same
+spelled_same a1 a2 a3 a4 a5 a6 = search (arith, narrow_same, wide_same)
 
 -- ---- links and more links
 
 pub spells_more : (s : Spelling) (a b : List Link) (x y : List ℕ) → Spells s a x → Spells s b y → Spells s (a ++ b) (x ++ y)
-spells_more s a b x y first second = record {
-  fit = fit_append s a b first.fit second.fit;
-  bytes_are = flat_map-append (spelled_in s) a b ∙ ap (λ (t : List ℕ). t ++ flat_map (spelled_in s) b) first.bytes_are ∙ ap (λ (t : List ℕ). x ++ t) second.bytes_are;
-}
+spells_more s a b x y first second = search (arith, fit_append, flat_map-append)
 
 -- bytes of so many links, and those behind them, part where the links do
 links_split : (s : Spelling) (links : List Link) (x y : List ℕ) (k : ℕ) → length x ≡ size_in s * k → flat_map (spelled_in s) links ≡ x ++ y
@@ -113,22 +95,14 @@ none_behind_them s x y k count none links same = none (drop k links) (links_spli
 -- ---- one link after another
 
 pub whole_behind : (s : Spelling) (m n : ℕ) → n % size_in s ≡ 0 → m + size_in s ≡ n → m % size_in s ≡ 0
-whole_behind Narrow m n whole is = omega (arith, whole, is)
-whole_behind Wide m n whole is = omega (arith, whole, is)
+whole_behind a1 a2 a3 a4 a5 = search arith
 
 -- a link that was pushed behind those of the bytes before its own
 pub pushed_one : (s : Spelling) (new old before more : List Link) (link : Link) (bytes rest first behind : List ℕ)
     → new ≡ old ++ link ∷ [] → old ≡ before ++ more → flat_map (spelled_in s) more ++ rest ≡ bytes → FitIn s more
     → first ≡ take (size_in s) rest → behind ≡ drop (size_in s) rest → spelled_in s link ≡ first → FitIn s (link ∷ [])
     → (new ≡ before ++ (more ++ link ∷ [])) × (flat_map (spelled_in s) (more ++ link ∷ []) ++ behind ≡ bytes) × FitIn s (more ++ link ∷ [])
-pushed_one s new old before more link bytes rest first behind pushed so_far read fits front back spelled fit =
-    let f = spelled_in s in
-    let split : rest ≡ f link ++ behind = sym (take-append-drop (size_in s) rest) ∙ ap (λ (t : List ℕ). t ++ drop (size_in s) rest) (sym front ∙ sym spelled) ∙ ap (λ (t : List ℕ). f link ++ t) (sym back) in (
-      pushed ∙ ap (λ (t : List Link). t ++ link ∷ []) so_far ∙ append_assoc before more (link ∷ []),
-      ap (λ (t : List ℕ). t ++ behind) (flat_map-append f more (link ∷ []) ∙ ap (λ (t : List ℕ). flat_map f more ++ t) (append-nil (f link)))
-          ∙ append_assoc (flat_map f more) (f link) behind ∙ ap (λ (t : List ℕ). flat_map f more ++ t) (sym split) ∙ read,
-      fit_append s more (link ∷ []) fits fit,
-    )
+pushed_one s new old before more link bytes rest first behind pushed so_far read fits front back spelled fit = search (arith, take-append-drop, append_assoc, flat_map-append, append-nil, fit_append)
 
 pub no_link_behind : (s : Spelling) (more : List Link) (bytes rest first behind : List ℕ) → flat_map (spelled_in s) more ++ rest ≡ bytes → first ≡ take (size_in s) rest → behind ≡ drop (size_in s) rest
     → length first ≡ size_in s → IsNoLink (spelled_in s) first → AreNoLinks (spelled_in s) bytes

@@ -16,11 +16,7 @@ use Rattle.frames.proofs.Texts.{u32_length, u32_again}
 -- ---- a head
 
 pub head_split : (bytes rest : List ℕ) (n : ℕ) → length bytes ≡ 5 → take 4 (drop 1 bytes) ≡ u32_text n ++ rest → bytes ≡ kind_at bytes ∷ u32_text n
-head_split [] rest n len split = absurd (omega (arith, len))
-head_split (kind ∷ bytes) rest n len split =
-    let all : bytes ≡ u32_text n ++ rest = sym (take_all 4 bytes (omega (arith, len))) ∙ split in
-    let none : rest ≡ [] = nil_from_length rest (omega (arith, len, ap length all, length-append (u32_text n) rest, u32_length n)) in
-    ap (λ (t : List ℕ). kind ∷ t) (all ∙ ap (λ (t : List ℕ). u32_text n ++ t) none ∙ append-nil (u32_text n))
+head_split a1 a2 a3 a4 a5 = search (arith, take_all, nil_from_length, length-append, u32_length, append-nil)
 
 -- what a stream says that begins with a head
 length_is : (kind len : ℕ) (rest : List ℕ) → IsU32 len → length_at ((kind ∷ u32_text len) ++ rest) ≡ len
@@ -39,12 +35,7 @@ good_head kind len stream rest wide possible is =
 -- ---- a frame's text is its head and its body
 
 pub frame_text : (v : FrameValue) (kind len : ℕ) (bytes body : List ℕ) → bytes ≡ kind ∷ u32_text len → length body ≡ len → IsFrameOf v kind body → text_of v ≡ bytes ++ body
-frame_text v kind len bytes body head count is =
-    let count-is : length (body_of v) ≡ len = ap length is.body ∙ count in
-    ap (λ (k : ℕ). k ∷ (u32_text (length (body_of v)) ++ body_of v)) is.kind
-    ∙ ap (λ (n : ℕ). kind ∷ (u32_text n ++ body_of v)) count-is
-    ∙ ap (λ (t : List ℕ). (kind ∷ u32_text len) ++ t) is.body
-    ∙ ap (λ (t : List ℕ). t ++ body) (sym head)
+frame_text v kind len bytes body head count is = search arith
 
 pub frame_gave : (v : FrameValue) (kind len : ℕ) (bytes body : List ℕ) (s t u : SourceState) → Gave 0 0 bytes s t → Gave 0 0 body t u
     → bytes ≡ kind ∷ u32_text len → length body ≡ len → IsFrameOf v kind body → Gave 0 0 (text_of v) s u
@@ -66,9 +57,7 @@ cut_more fault count len body s t u within first cut = record {
 }
 
 cut_cause : (fault : FrameFault) (all : List ℕ) → IsInBody all → CutsShort fault → StreamRefused fault all
-cut_cause fault all inside (inl torn) = subst (λ (f : FrameFault). StreamRefused f all) (sym torn) (inr inside)
-cut_cause fault all inside (inr (inl device)) = subst (λ (f : FrameFault). StreamRefused f all) (sym device) (inr (inr inside))
-cut_cause fault all inside (inr (inr memory)) = subst (λ (f : FrameFault). StreamRefused f all) (sym memory) (inl inside)
+cut_cause a1 a2 a3 a4 = search arith
 
 -- a head, and some of its body
 pub cut_refused : (fault : FrameFault) (kind len : ℕ) (bytes : List ℕ) (s t u : SourceState) → IsU32 len → IsPossible kind len → bytes ≡ kind ∷ u32_text len
@@ -99,10 +88,7 @@ whole_body kind len stream body rest wide possible count is =
 
 body_fault : (fault : FrameFault) (all : List ℕ) → HasBody all → BodyRefused fault (kind_at all) (body_at all)
     → StreamRefused fault all × (failures_of fault ≡ 0) × (ends_of fault ≡ 0)
-body_fault BadVersion all whole refused = ((whole, refused), refl, refl)
-body_fault BadField all whole refused = ((whole, refused), refl, refl)
-body_fault Memory all whole refused = (inr (whole, refused), refl, refl)
-body_fault _ all whole refused = absurd refused
+body_fault a1 a2 a3 a4 = search arith
 
 -- a head and its body
 pub body_refused : (fault : FrameFault) (kind len : ℕ) (bytes body : List ℕ) (s t u : SourceState) → IsU32 len → IsPossible kind len → length body ≡ len

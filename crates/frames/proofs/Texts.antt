@@ -69,9 +69,7 @@ pub bits_below : (z : ℤ) → FitsSigned w32 z → IsU32 (cast_unsigned w32 z)
 bits_below z fits = omega (arith, Fits-of_z {w = w32} {z = z} fits)
 
 pub i32_prefix : (m n : ℤ) (x y : List ℕ) → FitsSigned w32 m → FitsSigned w32 n → i32_text m ++ x ≡ i32_text n ++ y → (m ≡ n) × (x ≡ y)
-i32_prefix m n x y first second same =
-    let both = u32_prefix (cast_unsigned w32 m) (cast_unsigned w32 n) x y (bits_below m first) (bits_below n second) same in
-    (sym (to_z-of_z w32 m first) ∙ ap (cast_signed w32) both.0 ∙ to_z-of_z w32 n second, both.1)
+i32_prefix m n x y first second same = search (arith, u32_prefix, bits_below, to_z-of_z)
 
 pub i64_length : (z : ℤ) → length (i64_text z) ≡ 8
 unfolding i64_text
@@ -96,9 +94,7 @@ abbrev pub FitsWide : Link → Type 0
 FitsWide l = FitsSigned w64 l.weight
 
 pub fits_by_test : (z : ℤ) → (int_le (neg_ℤ (pos (2 ^ 31))) z && int_lt z (pos (2 ^ 31))) ≡ true → FitsSigned w32 z
-fits_by_test z test =
-    let parts = and_parts (int_le (neg_ℤ (pos (2 ^ 31))) z) (int_lt z (pos (2 ^ 31))) test in
-    grind (arith, ints, parts.0, parts.1)
+fits_by_test z test = search (arith, and_parts, int_le, neg_ℤ, int_lt, ints)
 
 pub narrow_fit : (links : List Link) → IsTrue (are_narrow links) → AllByRecursion FitsNarrow links
 narrow_fit [] narrow = tt
@@ -113,29 +109,16 @@ wide_fit (l ∷ links) = (l.weight_fits, wide_fit links)
 -- ---- items of lists
 
 pub link_prefix : (l m : Link) (x y : List ℕ) → FitsNarrow l → FitsNarrow m → link_text l ++ x ≡ link_text m ++ y → (l ≡ m) × (x ≡ y)
-link_prefix l m x y first second same =
-    let apart : (k : Link) (z : List ℕ) → link_text k ++ z ≡ u32_text k.low ++ (u32_text k.high ++ (i32_text k.weight ++ z)) = λ k z. simp append_assoc in
-    let low = u32_prefix l.low m.low _ _ (omega (arith, l.ascending, l.in_limit)) (omega (arith, m.ascending, m.in_limit)) (sym (apart l x) ∙ same ∙ apart m y) in
-    let high = u32_prefix l.high m.high _ _ (omega (arith, l.in_limit)) (omega (arith, m.in_limit)) low.1 in
-    let weight = i32_prefix l.weight m.weight x y first second high.1 in
-    (link_eq l m weight.0 low.0 high.0, weight.1)
+link_prefix l m x y first second same = search (arith, append_assoc, u32_prefix, i32_prefix, link_eq)
 
 pub wide_link_prefix : (l m : Link) (x y : List ℕ) → FitsWide l → FitsWide m → wide_link_text l ++ x ≡ wide_link_text m ++ y → (l ≡ m) × (x ≡ y)
-wide_link_prefix l m x y first second same =
-    let apart : (k : Link) (z : List ℕ) → wide_link_text k ++ z ≡ u32_text k.low ++ (u32_text k.high ++ (i64_text k.weight ++ z)) = λ k z. simp append_assoc in
-    let low = u32_prefix l.low m.low _ _ (omega (arith, l.ascending, l.in_limit)) (omega (arith, m.ascending, m.in_limit)) (sym (apart l x) ∙ same ∙ apart m y) in
-    let high = u32_prefix l.high m.high _ _ (omega (arith, l.in_limit)) (omega (arith, m.in_limit)) low.1 in
-    let weight = i64_prefix l.weight m.weight x y first second high.1 in
-    (link_eq l m weight.0 low.0 high.0, weight.1)
+wide_link_prefix l m x y first second same = search (arith, append_assoc, u32_prefix, i64_prefix, link_eq)
 
 abbrev pub FitsOffer : Offer → Type 0
 FitsOffer o = IsU32 o.0 × IsU32 o.1
 
 pub offer_prefix : (o p : Offer) (x y : List ℕ) → FitsOffer o → FitsOffer p → offer_text o ++ x ≡ offer_text p ++ y → (o ≡ p) × (x ≡ y)
-offer_prefix o p x y first second same =
-    let component = u32_prefix o.0 p.0 (u32_text o.1 ++ x) (u32_text p.1 ++ y) first.0 second.0 (sym (append_assoc (u32_text o.0) (u32_text o.1) x) ∙ same ∙ append_assoc (u32_text p.0) (u32_text p.1) y) in
-    let place = u32_prefix o.1 p.1 x y first.1 second.1 component.1 in
-    (λ i. (component.0 i, place.0 i), place.1)
+offer_prefix o p x y first second same = search (arith, u32_prefix, append_assoc)
 
 pub link_length : (l : Link) → length (link_text l) ≡ 12
 link_length l = omega (arith, length-append (u32_text l.low) (u32_text l.high ++ i32_text l.weight), length-append (u32_text l.high) (i32_text l.weight), u32_length l.low, u32_length l.high, u32_length (cast_unsigned w32 l.weight))
@@ -185,11 +168,7 @@ pub IsBytes-drop : (n : ℕ) (bytes : List ℕ) → IsBytes bytes → IsBytes (d
 IsBytes-drop n bytes fits i = rw get_or-drop (fits (n + i))
 
 pub IsBytes-take : (n : ℕ) (bytes : List ℕ) → IsBytes bytes → IsBytes (take n bytes)
-IsBytes-take n bytes fits i =
-    elim (cases_lt i n) [
-      | inl lt ↦ rw (get_or-take n bytes i 0 lt) (fits i)
-      | inr le ↦ rw (get_or_past (take n bytes) i 0 (omega (arith, length-take n bytes))) (omega arith)
-    ]
+IsBytes-take n bytes fits i = search (arith, cases_lt, get_or-take, get_or_past, length-take)
 
 pub u16_split : (bytes rest : List ℕ) → 2 ≤ length bytes → IsBytes bytes → rest ≡ drop 2 bytes → bytes ≡ u16_text (from_be_bytes w16 (take 2 bytes)) ++ rest
 u16_split bytes rest enough fits behind =
@@ -203,10 +182,4 @@ u32_split bytes rest enough fits behind =
 
 pub i64_split : (bytes rest : List ℕ) → 8 ≤ length bytes → IsBytes bytes → rest ≡ drop 8 bytes → bytes ≡ i64_text (cast_signed w64 (from_be_bytes w64 (take 8 bytes))) ++ rest
 unfolding i64_text
-i64_split bytes rest enough fits behind =
-    let front : List ℕ = take 8 bytes in
-    let within : IsBytes front = IsBytes-take 8 bytes fits in
-    let prefix : to_be_bytes w64 (cast_unsigned w64 (cast_signed w64 (from_be_bytes w64 front))) ≡ front =
-    ap (to_be_bytes w64) (of_z-to_z w64 (from_be_bytes w64 front) (omega (arith, within 0, within 1, within 2, within 3, within 4, within 5, within 6, within 7)))
-    ∙ be_bytes_8 front _ (omega (arith, length-take 8 bytes)) within refl in
-    sym (take-append-drop 8 bytes) ∙ ap (λ (t : List ℕ). front ++ t) (sym behind) ∙ ap (λ (t : List ℕ). t ++ rest) (sym prefix)
+i64_split bytes rest enough fits behind = search (arith, of_z-to_z, be_bytes_8, length-take, take-append-drop)

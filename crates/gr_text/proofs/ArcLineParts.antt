@@ -23,8 +23,7 @@ use Rattle.gr_text.proofs.Steps.{AreLinksOf-append}
 pub Say-append : (lines others : List (List ℕ)) (ss ts : List Statement) → Say lines ss → Say others ts → Say (lines ++ others) (ss ++ ts)
 Say-append [] others ss ts say also = subst (λ (xs : List Statement). Say others (xs ++ ts)) (sym say) also
 Say-append (line ∷ lines) others ss ts (inl (quiet, say)) also = inl (quiet, Say-append lines others ss ts say also)
-Say-append (line ∷ lines) others ss ts (inr (s, more, says, say, is)) also =
-    inr (s, more ++ ts, says, Say-append lines others more ts say also, ap (λ (xs : List Statement). xs ++ ts) is)
+Say-append (line ∷ lines) others ss ts (inr (s, more, says, say, is)) also = search (arith, Say-append lines others more ts say also)
 
 -- no bytes, one line, and one part behind another
 pub arcs_none : (n : ℕ) → AreArcLines n 0 [] []
@@ -104,14 +103,4 @@ within_more size count k old links bytes within are room = (
 pub appends_both : (n count : ℕ) (bytes xs ys : List ℕ) (found : ArcLines) (room old middle new : List Link) → bytes ≡ xs ++ ys
     → AppendsOrNot n xs (Some count) old middle → FillsRoom n ys found room → new ≡ middle ++ take found.links room
     → AppendsOrNot n bytes (Some (count + found.lines)) old new
-appends_both n count bytes xs ys found room old middle new whole first second more =
-    let others = take found.links room in
-    record {
-      more = first.more ++ others;
-      appended = more ∙ ap (λ links. links ++ others) first.appended ∙ append_assoc old first.more others;
-      found = (
-        omega (arith, ap length whole, length-append xs ys, first.found.0, second.few),
-        subst (λ zs. AreArcLines n (count + found.lines) zs (first.more ++ others)) (sym whole)
-            (arcs_append n count found.lines xs ys first.more others first.found.1 second.are),
-      );
-    }
+appends_both n count bytes xs ys found room old middle new whole first second more = search (arith, append_assoc, length-append, arcs_append)

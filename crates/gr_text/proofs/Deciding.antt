@@ -20,15 +20,10 @@ use Rattle.gr_text.proofs.Faulty.{first_faulty_at}
 
 -- whether an arc is one of the problem
 ends_or_not : (n : ℕ) (arc : Arc) → HasEnds n arc ⊎ ¬ (HasEnds n arc)
-ends_or_not n arc = elim (both_or_not (within_or_not 1 n arc.tail) (within_or_not 1 n arc.head)) [
-  | inl (tail, head) ↦ inl (record { tail_from_one = tail.0; tail_in_range = tail.1; head_from_one = head.0; head_in_range = head.1 })
-  | inr out ↦ inr (λ ends. out ((ends.tail_from_one, ends.tail_in_range), (ends.head_from_one, ends.head_in_range)))
-]
+ends_or_not n arc = search (arith, both_or_not, within_or_not)
 
 weight_or_not : (w : ℤ) → IsWeight w ⊎ ¬ (IsWeight w)
-weight_or_not w = by_lt_z w MIN_WEIGHT
-    (λ under. inr (λ weight. omega (arith, ints, weight.0)))
-    (λ low. by_lt_z MAX_WEIGHT w (λ over. inr (λ weight. omega (arith, ints, weight.1))) (λ high. inl (low, high)))
+weight_or_not w = search (arith, by_lt_z, ints)
 
 -- what a line is after lawful ones
 abbrev Goes : List (List ℕ) → List ℕ → Type 0

@@ -67,9 +67,7 @@ graph_of swap (Err fault.Memory) limit text lines number short are numbered no_s
 pub ends_whole : {swap : Swap} (outcome : Result GraphValue ReadFault) (limit : ℕ) (r : ReaderValue) (text : List ℕ) → length text ≤ limit → (stands : Stands swap r text)
     → is_begun stands.part ≡ false → MatchResult outcome (λ graph. IsGraphOfLinesBut swap stands.lines graph) (λ e. IsLack e r.number stands.lines)
     → IsReadBut swap limit text outcome
-ends_whole {swap} outcome limit r text short stands none gives =
-    graph_of swap outcome limit text stands.lines r.number short (stands.lines, stands.part, stands.cut, sym (with_last-none stands.lines stands.part none))
-    stands.numbered gives
+ends_whole {swap} outcome limit r text short stands none gives = search (arith, graph_of, with_last-none)
 
 -- the last line lacks its line feed, and is taken
 pub ends_within : {swap : Swap} (outcome : Result GraphValue ReadFault) (limit : ℕ) (r : ReaderValue) (text : List ℕ) → length text ≤ limit → (stands : Stands swap r text)
@@ -82,10 +80,7 @@ ends_within {swap} outcome limit r text short stands begun gives =
 
 -- what stopped the reader is why the whole text isn't read
 pub fails_of_stops : (e : ReadFault) (limit : ℕ) (text : List ℕ) → StopsBy e limit text → FailsBy e limit text
-fails_of_stops (fault.Gr f) limit text stops = elim (leb_tells (length text) limit) [
-  | inl (test, short) ↦ inl (short, first_of_ended text f.line f.kind (subst (λ (xs : List ℕ). IsEndedFault xs f.line f.kind) (take_all limit text short) stops))
-  | inr (test, long) ↦ inr (long, stops)
-]
+fails_of_stops (fault.Gr f) limit text stops = search (arith, leb_tells, first_of_ended, take_all)
 fails_of_stops (fault.Source k) limit text stops = stops
 fails_of_stops fault.TooLong limit text stops = stops
 fails_of_stops fault.Memory limit text stops = tt

@@ -18,16 +18,7 @@ use Rattle.gr_text.proofs.Standing.{lawful_of}
 
 -- more lines behind the first faulty one
 pub IsFirstFaulty-more : (lines more : List (List ℕ)) (number : ℕ) (kind : GrKind) → IsFirstFaulty lines number kind → IsFirstFaulty (lines ++ more) number kind
-IsFirstFaulty-more lines more number kind first = record {
-  before = first.before;
-  line = first.line;
-  after = first.after ++ more;
-  parted = ap (λ (xs : List (List ℕ)). xs ++ more) first.parted ∙ append_assoc first.before (first.line ∷ first.after) more;
-  counted = first.counted;
-  lawful = first.lawful;
-  faulty = first.faulty;
-  kind_fits = first.kind_fits;
-}
+IsFirstFaulty-more lines more number kind first = search (arith, append_assoc)
 
 pub IsEndedFault-more : (text more : List ℕ) (number : ℕ) (kind : GrKind) → IsEndedFault text number kind → IsEndedFault (text ++ more) number kind
 IsEndedFault-more text more number kind (lines, rest, cut, first) =
@@ -55,8 +46,7 @@ StopsBy-more fault.Memory limit text more stops = tt
 -- what the reader has read, by whether it has a fault
 pub read_on : {swap : Swap} (reader : ReaderValue) (text : List ℕ) → reader.fault ≡ None → HasReadBut swap reader text
     → (length text ≤ reader.limit) × (length text ≡ reader.fed) × Stands swap reader text
-read_on {swap} reader text is read =
-    subst (λ (f : Option ReadFault). MatchOption f ((length text ≤ reader.limit) × (length text ≡ reader.fed) × Stands swap reader text) (λ e. StopsBy e reader.limit text)) is read.outcome
+read_on {swap} reader text is read = search arith
 
 pub stopped_by : {swap : Swap} (reader : ReaderValue) (e : ReadFault) (text : List ℕ) → reader.fault ≡ Some e → HasReadBut swap reader text → StopsBy e reader.limit text
 stopped_by reader e text is read = rw is at read.outcome
@@ -70,17 +60,11 @@ HasRead-fault reader e text more is read = has_stopped reader e (text ++ more) i
 
 -- the part of a piece that fits the limit
 pub fitting : (limit fed len : ℕ) (text piece : List ℕ) → length text ≡ fed → fed ≤ limit → len ≡ min (limit - fed) (length piece) → take limit (text ++ piece) ≡ text ++ take len piece
-fitting limit fed len text piece counted within is =
-    take_of_more limit text piece ∙ ap (λ (xs : List ℕ). xs ++ take (limit - length text) piece) (take_all limit text (omega arith))
-    ∙ ap (λ (xs : List ℕ). text ++ xs) (elim (cases_lt (limit - length text) (length piece)) [
-      | inl short ↦ (let same : limit - length text ≡ len = omega arith in ap (λ (k : ℕ). take k piece) same)
-      | inr long ↦ (let same : len ≡ length piece = omega arith in take_all (limit - length text) piece long ∙ sym (ap (λ (k : ℕ). take k piece) same ∙ take_all (length piece) piece (omega arith)))
-    ])
+fitting limit fed len text piece counted within is = search (arith, take_of_more, take_all, cases_lt)
 
 -- the reader stops within a piece
 pub stops_within : (e : ReadFault) (limit fed len : ℕ) (text piece : List ℕ) → length text ≡ fed → fed ≤ limit → len ≡ min (limit - fed) (length piece) → StopsAt e (text ++ take len piece) → StopsBy e limit (text ++ piece)
-stops_within (fault.Gr f) limit fed len text piece counted within is stops =
-    subst (λ (xs : List ℕ). IsEndedFault xs f.line f.kind) (sym (fitting limit fed len text piece counted within is)) stops
+stops_within (fault.Gr f) limit fed len text piece counted within is stops = search (arith, fitting)
 stops_within (fault.Source number) limit fed len text piece counted within is stops = stops
 stops_within fault.TooLong limit fed len text piece counted within is stops = absurd stops
 stops_within fault.Memory limit fed len text piece counted within is stops = tt
@@ -88,8 +72,7 @@ stops_within fault.Memory limit fed len text piece counted within is stops = tt
 -- the piece goes past the limit
 pub too_long : (limit fed len : ℕ) (text piece : List ℕ) → length text ≡ fed → fed ≤ limit → len ≡ min (limit - fed) (length piece) → len < length piece
     → HasLawfulLines (text ++ take len piece) → StopsBy fault.TooLong limit (text ++ piece)
-too_long limit fed len text piece counted within is short lawful =
-    (omega (arith, length-append text piece), subst HasLawfulLines (sym (fitting limit fed len text piece counted within is)) lawful)
+too_long limit fed len text piece counted within is short lawful = search (arith, length-append, fitting)
 
 pub lawful_lines : {swap : Swap} (r : ReaderValue) (text : List ℕ) → Stands swap r text → HasLawfulLines text
 lawful_lines r text stands = (stands.lines, stands.part, stands.cut, lawful_of r.so_far stands.lines stands.give)
@@ -100,18 +83,11 @@ feeds-append xs ys = sum_by-append (λ (b : ℕ). cond (b == line_feed) 1 0) xs 
 
 no_feeds : (part : List ℕ) → IsLine part → count_by (λ b. b == line_feed) part ≡ 0
 no_feeds [] is_line = refl
-no_feeds (b ∷ part) is_line =
-    feeds-append (b ∷ []) part ∙ ap (λ (n : ℕ). count_by (λ b. b == line_feed) (b ∷ []) + n) (no_feeds part is_line.1)
-    ∙ elim (eqb_tells b line_feed) [ inl (test, same) ↦ absurd (is_line.0 same) | inr (test, other) ↦ ap (λ (t : Bool). 0 + cond t 1 0 + 0) test ]
+no_feeds (b ∷ part) is_line = search (arith, feeds-append, eqb_tells, cond, no_feeds part is_line.1)
 
 one_each : (lines : List (List ℕ)) → AllByRecursion IsLine lines → count_by (λ b. b == line_feed) (flat_map ended lines) ≡ length lines
 one_each [] each = refl
-one_each (line ∷ lines) each =
-    feeds-append (ended line) (flat_map ended lines)
-    ∙ ap (λ (n : ℕ). n + count_by (λ b. b == line_feed) (flat_map ended lines)) (feeds-append line (line_feed ∷ []) ∙ ap (λ (n : ℕ). n + 1) (no_feeds line each.0))
-    ∙ ap (λ (n : ℕ). 1 + n) (one_each lines each.1) ∙ omega arith
+one_each (line ∷ lines) each = search (arith, feeds-append, no_feeds, one_each lines each.1)
 
 pub feeds_of : (text : List ℕ) (lines : List (List ℕ)) (part : List ℕ) → EndsLines text lines part → count_by (λ b. b == line_feed) text ≡ length lines
-feeds_of text lines part cut =
-    ap (count_by (λ b. b == line_feed)) cut.whole ∙ feeds-append (flat_map ended lines) part
-    ∙ ap (λ (n : ℕ). count_by (λ b. b == line_feed) (flat_map ended lines) + n) (no_feeds part cut.last) ∙ omega (arith, one_each lines cut.each)
+feeds_of text lines part cut = search (arith, feeds-append, no_feeds, one_each)

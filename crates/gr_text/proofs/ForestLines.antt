@@ -36,9 +36,7 @@ went_out written text s t part = record { count = part.sent; within = part.withi
 -- a prefix of these lines, before a setback
 pub lines_prefix : (written after : ℕ) (text : List ℕ) (left : List Link) (s t u : SinkState) → GoesOut written text left s t
     → HandsPrefix written after (flat_map link_line left) t u → PrefixWentOut after text s u
-lines_prefix written after text left s t u so_far part =
-    subst (λ all. PrefixWentOut after all s u) so_far.whole
-    (went_out after (so_far.out ++ flat_map link_line left) s u (hands_then_prefix 0 written after so_far.out (flat_map link_line left) s t u so_far.handed part))
+lines_prefix written after text left s t u so_far part = search (arith, went_out, hands_then_prefix)
 
 -- the first line, or a prefix of it
 pub header_out : (written n : ℕ) (links forest : List Link) (s t : SinkState) → links ≡ forest → HandsOn 0 written (header_of n (length links)) s t
@@ -55,9 +53,7 @@ header_prefix after n links forest s t same part =
 pub lines_out : (written : ℕ) (text : List ℕ) (left : List Link) (s t : SinkState) → GoesOut written text left s t → length left ≡ 0
     → Took 0 text s t × (written ≡ written_count (length text))
 lines_out written text (link ∷ left) s t so_far none = absurd (omega (arith, none))
-lines_out written text [] s t so_far none =
-    let all : so_far.out ≡ text = sym (append-nil so_far.out) ∙ so_far.whole in
-    (subst (λ bytes. Took 0 bytes s t) all so_far.handed.took, so_far.handed.counted ∙ ap written_count {x = 0 + length so_far.out} {y = length text} (omega (arith, ap length all)))
+lines_out written text [] s t so_far none = search (arith, append-nil)
 
 -- and then a flush ended well, or failed
 pub lines_flushed : (written : ℕ) (text : List ℕ) (left : List Link) (s t u : SinkState) → GoesOut written text left s t → length left ≡ 0 → Took 0 [] t u
@@ -78,14 +74,7 @@ lines_unflushed written text left s t u so_far none failed =
 -- a writer that stopped there
 pub stopped : (after : ℕ) (text : List ℕ) (s t : SinkState) (unflushed : Option (List ℕ)) (ready : Type 0) → PrefixWentOut after text s t
     → WritesText text (Err (record { written = after })) s t unflushed ready
-stopped after text s t unflushed ready part = record {
-  whole = tt;
-  count = tt;
-  flushed = tt;
-  part = part;
-  ends_ok = λ none. absurd (omega (arith, took_unhindered 1 (take part.count text) s t none part.took));
-  again = tt;
-}
+stopped after text s t unflushed ready part = search (arith, took_unhindered)
 
 -- a call for lines that stopped within those of the first k links
 pub put_stopped : (count after k : ℕ) (links : List Link) (bytes : List ℕ) (s t : SinkState) (ready : Type 0) → bytes ≡ flat_map link_line (take k links)

@@ -69,10 +69,7 @@ decimal_line n small = each (decimal n) digit_in_line (writes_decimal n small).1
 
 signed_fields : (z : ℤ) → neg_ℤ (pos (2 ^ 63)) ≤ℤ z → z <ℤ pos (2 ^ 63) → AllByRecursion IsFieldByte (signed_decimal z)
 signed_fields (pos n) low high = decimal_fields n (omega (arith, ints, high))
-signed_fields (negsuc n) low high = (minus, decimal_fields (suc n) (omega (arith, ints, low)))
-  where
-    minus : IsFieldByte 45
-    minus blank = elim blank [ inl is ↦ omega (arith, is) | inr other ↦ elim other [ inl is ↦ omega (arith, is) | inr is ↦ omega (arith, is) ] ]
+signed_fields (negsuc n) low high = search (arith, decimal_fields, ints)
 
 signed_line : (z : ℤ) → neg_ℤ (pos (2 ^ 63)) ≤ℤ z → z <ℤ pos (2 ^ 63) → IsLine (signed_decimal z)
 signed_line (pos n) low high = decimal_line n (omega (arith, ints, high))
@@ -108,11 +105,7 @@ header_apart : (n k : ℕ) → header_line n k ≡ codes "p sp " ++ (decimal n +
 header_apart n k = append_assoc (codes "p sp " ++ decimal n) (codes " ") (decimal k) ∙ append_assoc (codes "p sp ") (decimal n) (codes " " ++ decimal k)
 
 body_apart : (l : Link) → body_line l ≡ codes "a " ++ (decimal l.low ++ (codes " " ++ (decimal l.high ++ (codes " " ++ signed_decimal l.weight))))
-body_apart l =
-    append_assoc (codes "a " ++ decimal l.low ++ codes " " ++ decimal l.high) (codes " ") (signed_decimal l.weight)
-    ∙ append_assoc (codes "a " ++ decimal l.low ++ codes " ") (decimal l.high) (codes " " ++ signed_decimal l.weight)
-    ∙ append_assoc (codes "a " ++ decimal l.low) (codes " ") (decimal l.high ++ (codes " " ++ signed_decimal l.weight))
-    ∙ append_assoc (codes "a ") (decimal l.low) (codes " " ++ (decimal l.high ++ (codes " " ++ signed_decimal l.weight)))
+body_apart l = search (arith, append_assoc, codes, decimal)
 
 abbrev arc_of : Link → Arc
 arc_of l = record { tail = l.low; head = l.high; weight = l.weight }
@@ -197,18 +190,7 @@ same_lines (l ∷ forest) = ap (λ rest. link_line l ++ rest) (same_lines forest
 
 each_arc : (n : ℕ) (forest : List Link) → AllByRecursion (λ l. l.high ≤ n) forest → AllByRecursion (IsArcOf n) (map arc_of forest)
 each_arc n [] ends = tt
-each_arc n (l ∷ forest) ends = (
-  (
-    record {
-      tail_from_one = l.from_one;
-      tail_in_range = omega (arith, l.ascending, ends.0);
-      head_from_one = omega (arith, l.ascending);
-      head_in_range = ends.0;
-    },
-    (let fits = l.weight_fits in omega (arith, ints, fits), let fits = l.weight_fits in omega (arith, ints, fits)),
-  ),
-  each_arc n forest ends.1,
-)
+each_arc n (l ∷ forest) ends = search (arith, ints, each_arc n forest ends.1)
 
 its_links : (forest : List Link) → AreLinksOf (map arc_of forest) forest
 its_links [] = refl

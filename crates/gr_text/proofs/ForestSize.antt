@@ -37,13 +37,7 @@ line_fits : (l : Link) → length (link_line l) ≤ 256
 line_fits l = simp length-append (omega (arith, decimal_fits l.low, decimal_fits l.high, signed_fits l.weight))
 
 text_fits : (n : ℕ) (links : List Link) → length (forest_text n links) ≤ 256 + length links * 256
-text_fits n links = omega (
-  arith,
-  length-append (header_of n (length links)) (flat_map link_line links),
-  header_fits n (length links),
-  length-flat_map link_line links,
-  sum_by-le (λ l. length (link_line l)) 256 links (λ k d within. line_fits (get_or links k d)),
-)
+text_fits n links = search (arith, length-append, header_fits, length-flat_map, sum_by-le, line_fits)
 
 -- the count that is given of the text of a forest that isn't huge is the number itself
 pub few_are_exact : (written n : ℕ) (forest : List Link) (s t : SinkState) → length forest ≤ 2 ^ 55

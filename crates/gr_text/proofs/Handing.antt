@@ -34,22 +34,12 @@ hands_then_prefix count middle after xs ys s t u hands part = record {
 
 -- it is a prefix of more bytes too
 pub prefix_of_more : (count after : ℕ) (xs more : List ℕ) (s t : SinkState) → HandsPrefix count after xs s t → HandsPrefix count after (xs ++ more) s t
-prefix_of_more count after xs more s t part = record {
-  sent = part.sent;
-  within = omega (arith, length-append xs more, part.within);
-  counted = part.counted;
-  took = subst (λ bytes. Took 1 bytes s t) (sym (take-append-le part.sent xs more part.within)) part.took;
-}
+prefix_of_more count after xs more s t part = search (arith, length-append, take-append-le)
 
 -- a call that stopped within these bytes
 pub out_stopped : (count after : ℕ) (bytes more : List ℕ) (s t : SinkState) (ready : Type 0) → HandsPrefix count after bytes s t
     → HandsOut count (bytes ++ more) (Err (record { written = after })) s t ready
-out_stopped count after bytes more s t ready part = record {
-  whole = tt;
-  part = prefix_of_more count after bytes more s t part;
-  ends_ok = λ none. absurd (omega (arith, took_unhindered 1 (take part.sent bytes) s t none part.took));
-  again = tt;
-}
+out_stopped count after bytes more s t ready part = search (arith, prefix_of_more, took_unhindered)
 
 -- a call behind bytes that went out
 pub out_then_out : (count middle : ℕ) (xs ys : List ℕ) (result : Result ℕ WriteFault) (s t u : SinkState) (ready : Type 0) → HandsOn count middle xs s t
@@ -60,18 +50,9 @@ out_then_out count middle xs ys (Ok total) s t u ready first second = record {
   ends_ok = λ none. search rules;
   again = second.again;
 }
-out_then_out count middle xs ys (Err fault) s t u ready first second =
-    let part = hands_then_prefix count middle fault.written xs ys s t u first second.part in
-    record {
-      whole = tt;
-      part = part;
-      ends_ok = λ none. absurd (omega (arith, took_unhindered 1 (take part.sent (xs ++ ys)) s u none part.took));
-      again = tt;
-    }
+out_then_out count middle xs ys (Err fault) s t u ready first second = search (arith, hands_then_prefix, took_unhindered)
 
 -- the count that is given of a text of fewer than 2^64 bytes is the number itself
 pub prefix_is_exact : (written : ℕ) (text : List ℕ) (s t : SinkState) → length text < 2 ^ 64 → PrefixWentOut written text s t
     → WentOut written text s t
-prefix_is_exact written text s t short part =
-    let same : part.count ≡ written = omega (arith, part.within, part.counted) in
-    record { within = omega (arith, part.within, same); took = subst (λ n. Took 1 (take n text) s t) same part.took }
+prefix_is_exact written text s t short part = search arith

@@ -21,21 +21,17 @@ said_of (Some size) count lines (arcs, lawful, counted) = (Stated size.vertices 
 -- a line of this sort has this fault behind lines without a problem, and behind lines with one
 pub fault_alone : (sort : LineSort) (kind : GrKind) (size : Option ProblemSize) (count : ℕ) (lines : List (List ℕ)) (bytes : List ℕ) → size ≡ None
     → AreTallied size count lines → IsOfSort bytes sort → IsWrong sort Unsaid kind → IsFaultAfter lines bytes kind
-fault_alone sort kind size count lines bytes none counts of_sort wrong =
-    record { so_far = Unsaid; sort = sort; said = (rw none at counts).0; of_sort = of_sort; wrong = wrong }
+fault_alone sort kind size count lines bytes none counts of_sort wrong = search arith
 
 pub fault_behind : (sort : LineSort) (kind : GrKind) (size : Option ProblemSize) (old : ProblemSize) (count : ℕ) (lines : List (List ℕ)) (bytes : List ℕ) → size ≡ Some old
     → AreTallied size count lines → IsOfSort bytes sort
     → ((arcs : List Arc) → AreLawfulLines lines old.vertices old.arcs arcs → length arcs ≡ count → IsWrong sort (Stated old.vertices old.arcs arcs) kind)
     → IsFaultAfter lines bytes kind
-fault_behind sort kind size old count lines bytes some counts of_sort wrong =
-    let (arcs, lawful, counted) = rw some at counts in
-    record { so_far = Stated _ _ arcs; sort = sort; said = lawful; of_sort = of_sort; wrong = wrong arcs lawful counted }
+fault_behind sort kind size old count lines bytes some counts of_sort wrong = search arith
 
 -- a problem line or an arc line of too few fields, or of another field than it may have
 short_problem : (fields others : List (List ℕ)) → fields ≡ codes "p" ∷ others → length others < 3 → AreOfSort fields NoProblem
-short_problem fields others is few =
-    ((others, is), λ n m (f, g, e, wf, wg). (let counted : length (codes "p" ∷ others) ≡ length (codes "p" ∷ codes "sp" ∷ f ∷ g ∷ []) = ap length (sym is ∙ e) in omega arith))
+short_problem fields others is few = search (arith, codes)
 
 pub no_problem : (l : LineFields) (fields : List (List ℕ)) → LineMeans l fields
     → (l ≡ line.Problem) ⊎ (l ≡ line.ProblemSp) ⊎ ((n : ℕ) × (l ≡ line.ProblemVertices n)) ⊎ (l ≡ line.BadProblem) → AreOfSort fields NoProblem
@@ -47,8 +43,7 @@ no_problem line.BadProblem fields (begins, never) which =
 no_problem l fields means which = absurd (grind arith)
 
 short_arc : (fields others : List (List ℕ)) → fields ≡ codes "a" ∷ others → length others < 3 → AreOfSort fields NoArc
-short_arc fields others is few =
-    ((others, is), λ arc (f, g, h, e, wf, wg, wh). (let counted : length (codes "a" ∷ others) ≡ length (codes "a" ∷ f ∷ g ∷ h ∷ []) = ap length (sym is ∙ e) in omega arith))
+short_arc fields others is few = search (arith, codes)
 
 pub no_arc : (l : LineFields) (fields : List (List ℕ)) → LineMeans l fields
     → (l ≡ line.Arc) ⊎ ((u : ℕ) × (l ≡ line.ArcTail u)) ⊎ ((u v : ℕ) × (l ≡ line.ArcEnds u v)) ⊎ (l ≡ line.BadArc) → AreOfSort fields NoArc
@@ -65,5 +60,4 @@ silent_alone [] others silent = silent
 silent_alone (b ∷ bytes) others silent = silent
 
 pub ends_of : (n u v : ℕ) (arc : Arc) → n ≤ MAX_VERTICES → IsCapped u arc.tail → IsCapped v arc.head → 1 ≤ u → u ≤ n → 1 ≤ v → v ≤ n → HasEnds n arc
-ends_of n u v arc small tail head u1 un v1 vn =
-    record { tail_from_one = omega arith; tail_in_range = omega arith; head_from_one = omega arith; head_in_range = omega arith }
+ends_of n u v arc small tail head u1 un v1 vn = search arith

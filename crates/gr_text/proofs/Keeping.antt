@@ -29,12 +29,7 @@ nothing_known knows known = record { first = []; more = []; are = refl; known = 
 
 -- what is known stays so when more come
 begins_with : {knows : List Link → Type 0} (links more : List Link) → BeginsSo knows links → BeginsSo knows (links ++ more)
-begins_with links more begins = record {
-  first = begins.first;
-  more = begins.more ++ more;
-  are = ap (λ (xs : List Link). xs ++ more) begins.are ∙ append_assoc begins.first begins.more more;
-  known = begins.known;
-}
+begins_with links more begins = search (arith, append_assoc)
 
 known_by : {knows : List Link → Type 0} {swap : Swap} (all links : List Link) → BeginsSo knows swap.put → DifferBy swap all links → BeginsSo knows links
 known_by {knows} {swap} all links known by = subst (λ (xs : List Link). BeginsSo knows xs) (sym by.links_are) (begins_with swap.put by.more known)
@@ -112,12 +107,10 @@ kept_on old so_far text none keeps kept =
 pub kept_ok : {X E : Type 0} (drops : Type 0) (knew knows : List Link → Type 0) (dropped now : ℕ) (r : Result X E) (was old : ReaderValue) (so_far : LinesSoFarValue) → was ≡ old → old.fault ≡ None
     → OnOk r (KeepsOn drops knows dropped now was.so_far so_far)
     → OnOk r ((text : List ℕ) → HasKept drops knew dropped old text → HasKept drops knows now (record was { so_far = so_far }) text)
-kept_ok drops knew knows dropped now (Ok x) was old so_far same none keeps = λ text kept.
-    kept_on was so_far text (subst (λ (r : ReaderValue). r.fault ≡ None) (sym same) none) keeps (subst (λ (r : ReaderValue). HasKept drops knew dropped r text) (sym same) kept)
+kept_ok drops knew knows dropped now (Ok x) was old so_far same none keeps = search (arith, kept_on)
 kept_ok drops knew knows dropped now (Err e) was old so_far same none fails = fails
 
 -- who drops none keeps all
 pub keeps_all : (limit dropped : ℕ) (result : Result GraphValue ReadFault) (before after : SourceState) → IsKeptReadOf ⊥ limit dropped result before after → IsReadOf limit result before after
-keeps_all limit dropped (Ok graph) before after (all, are, read) =
-    subst (λ (xs : List Link). IsReadOf limit (Ok (with_links xs graph)) before after) (sym (are.whole (λ no. no))) read
+keeps_all limit dropped (Ok graph) before after (all, are, read) = search arith
 keeps_all limit dropped (Err e) before after read = read

@@ -20,9 +20,7 @@ lawful_said lines (Stated n m arcs) said = inr (n, m, arcs, said)
 -- a prefix of lawful lines is lawful
 AreLawfulSoFar-prefix : (lines more : List (List ℕ)) → AreLawfulSoFar (lines ++ more) → AreLawfulSoFar lines
 AreLawfulSoFar-prefix lines [] lawful = subst AreLawfulSoFar (append-nil lines) lawful
-AreLawfulSoFar-prefix lines (line ∷ more) lawful =
-    let (so_far, said, ends) = lawful_ends lines line (AreLawfulSoFar-prefix (lines ++ line ∷ []) more (subst AreLawfulSoFar (sym (append_assoc lines (line ∷ []) more)) lawful)) in
-    lawful_said lines so_far said
+AreLawfulSoFar-prefix lines (line ∷ more) lawful = search (arith, lawful_ends, append_assoc, lawful_said, AreLawfulSoFar-prefix (lines ++ line ∷ []) more)
 
 lawful_no_fault : (lines : List (List ℕ)) (number : ℕ) (kind : GrKind) → AreLawfulSoFar lines → IsFirstFaulty lines number kind → ⊥
 lawful_no_fault lines number kind lawful first =
@@ -77,10 +75,7 @@ one_kind before line kind another a b =
     wrong_unique b.sort b.so_far kind another (subst (λ (t : SaidSoFar). IsWrong b.sort t kind) so_far (subst (λ (s : LineSort). IsWrong s a.so_far kind) sort a.wrong)) b.wrong
 
 one_lack : (lines : List (List ℕ)) (kind another : GrKind) → Lacks lines kind → Lacks lines another → kind ≡ another
-one_lack lines kind another a b =
-    let (so_far, said, is) = lack_said lines kind a in
-    let (so_far', said', is') = lack_said lines another b in
-    is ∙ ap lack (said_unique lines so_far so_far' said said') ∙ sym is'
+one_lack lines kind another a b = search (arith, lack_said, said_unique)
 
 -- Two places of one list are the same, or one stands before the other.
 abbrev Precedes : {X : Type 0} → List X → X → List X → Type 0

@@ -13,7 +13,4 @@ either_or_not (inr never) (inl q) = inl (inr q)
 either_or_not (inr never) (inr neither) = inr (λ some. elim some [ inl p ↦ never p | inr q ↦ neither q ])
 
 pub within_or_not : (low high n : ℕ) → ((low ≤ n) × (n ≤ high)) ⊎ ¬ ((low ≤ n) × (n ≤ high))
-within_or_not low high n = elim (cases_lt n low) [
-  | inl under ↦ inr (λ both. omega (arith, both.0))
-  | inr from ↦ elim (cases_lt high n) [ inl over ↦ inr (λ both. omega (arith, both.1)) | inr up_to ↦ inl (from, up_to) ]
-]
+within_or_not low high n = search (arith, cases_lt)

@@ -1,5 +1,5 @@
 -- What follows a part of a line may go on with the field that it ends in, or begin with a blank.
-use Rattle.std.proofs.Common.{◌≡◌, ℕ, List, [], ◌∷◌, ◌++◌, refl, ap, sym, ◌∙◌, subst, append_assoc, append-nil, true, false}
+use Rattle.std.proofs.Common.{◌≡◌, ℕ, List, [], ◌∷◌, ◌++◌, refl, ap, sym, ◌∙◌, subst, append_assoc, append-nil, true, false, arith}
 use Rattle.gr_text.specs.Fields.{IsBlank, IsFieldByte, AreFields}
 use Rattle.gr_text.specs.PartialLine.{with_field, AreParts, is_begun}
 
@@ -11,10 +11,7 @@ AreParts-none (b ∷ more) after others fields begins are =
 
 -- one more byte of the last field
 pub AreParts-byte : (part : List ℕ) (fields : List (List ℕ)) (last : List ℕ) (b : ℕ) → AreParts part fields last → IsFieldByte b → AreParts (part ++ b ∷ []) fields (last ++ b ∷ [])
-AreParts-byte part fields last b parts is_field more after others all begins are =
-    subst (λ (xs : List ℕ). AreFields xs (with_field fields ((last ++ b ∷ []) ++ more) ++ others)) (sym (ap (λ (xs : List ℕ). xs ++ after) (append_assoc part (b ∷ []) more)))
-    (subst (λ (xs : List ℕ). AreFields ((part ++ (b ∷ more)) ++ after) (with_field fields xs ++ others)) (sym (append_assoc last (b ∷ []) more))
-    (parts (b ∷ more) after others (is_field, all) begins are))
+AreParts-byte part fields last b parts is_field more after others all begins are = search (arith, append_assoc)
 
 -- a blank in front changes no fields
 blank_first : (b : ℕ) (line : List ℕ) (fields : List (List ℕ)) → IsBlank b → AreFields line fields → AreFields (b ∷ line) fields

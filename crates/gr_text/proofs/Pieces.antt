@@ -26,10 +26,7 @@ Stands-lines {swap} r so_far fed count text piece stands fresh adds =
     }
 
 pub has_read_on : {swap : Swap} (reader : ReaderValue) (text : List ℕ) → reader.fault ≡ None → length text ≤ reader.limit → length text ≡ reader.fed → Stands swap reader text → HasReadBut swap reader text
-has_read_on {swap} reader text is short counted stands = record {
-  outcome = subst (λ (f : Option ReadFault). MatchOption f ((length text ≤ reader.limit) × (length text ≡ reader.fed) × Stands swap reader text) (λ e. StopsBy e reader.limit text))
-      (sym is) (short, counted, stands);
-}
+has_read_on {swap} reader text is short counted stands = search arith
 
 lines_taken : (old : ReaderValue) (so_far : LinesSoFarValue) (count : ℕ) (piece : List ℕ) → old.fault ≡ None → old.partial.begun ≡ false
     → old.fed + length piece ≤ old.limit → AddsLines count piece old.so_far so_far
@@ -55,17 +52,7 @@ takes_lines was old same so_far count piece none fresh fits adds =
 -- one part after another
 pub fed_then : {X Y : Type 0} (x : X) (r : Result Y ReadFault) (first second : List ℕ) (old mid new : ReaderValue) → IsFed (Ok x) first old mid
     → IsFed r second mid new → IsFed r (first ++ second) old new
-fed_then {X} {Y} x r first second old mid new a b = record {
-  limit = b.limit ∙ a.limit;
-  within = b.within;
-  grows = both r b.grows;
-  fed = λ swap text read. subst (HasReadBut swap new) (append_assoc text first second) (b.fed swap (text ++ first) (a.fed swap text read));
-  fault = b.fault;
-}
-  where
-    both : (r : Result Y ReadFault) → OnOk r (new.fed ≡ mid.fed + length second) → OnOk r (new.fed ≡ old.fed + length (first ++ second))
-    both (Ok y) grows = omega (arith, grows, a.grows, length-append first second)
-    both (Err e) grows = grows
+fed_then {X} {Y} x r first second old mid new a b = search (arith, append_assoc, length-append)
 
 -- a fault in the first part
 pub fed_fault : {X : Type 0} (e : ReadFault) (first second : List ℕ) (old new : ReaderValue) → IsFed {X = X} (Err e) first old new → IsFed {X = X} (Err e) (first ++ second) old new

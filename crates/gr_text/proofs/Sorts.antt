@@ -27,10 +27,7 @@ parts_of (b ∷ rest) part fields last parts = elim (either_or_not (cases_eq b 3
 -- what a field is
 same_or_not : (xs ys : List ℕ) → (xs ≡ ys) ⊎ (xs ≢ ys)
 same_or_not [] [] = inl refl
-same_or_not (x ∷ xs) (y ∷ ys) = elim (both_or_not (cases_eq x y) (same_or_not xs ys)) [
-  | inl (head, tail) ↦ inl (cc)
-  | inr never ↦ inr (λ (e : x ∷ xs ≡ y ∷ ys). let head : x ≡ y = cc in let tail : xs ≡ ys = cc in never (head, tail))
-]
+same_or_not (x ∷ xs) (y ∷ ys) = search (arith, both_or_not, cases_eq, same_or_not xs ys)
 same_or_not xs ys = inr (λ (e : xs ≡ ys). cc)
 
 digits_or_not : (field : List ℕ) → AllByRecursion IsDigit field ⊎ ¬ (AllByRecursion IsDigit field)
@@ -148,9 +145,7 @@ sort_unique fields NoArc (Makes (ArcLine arc)) a b = absurd (a.1 arc b)
 sort_unique fields Nothing Unknown a b = absurd (b.1 a)
 sort_unique fields Unknown Nothing a b = absurd (a.1 b)
 sort_unique [] s t a b = none_is_silent s a ∙ sym (none_is_silent t b)
-sort_unique (first ∷ others) s t a b =
-    let x : Begins s first = begins_of first others s a in
-    let y : Begins t first = begins_of first others t b in grind arith
+sort_unique (first ∷ others) s t a b = search (arith, begins_of)
 
 pub IsOfSort-unique : (line : List ℕ) (s t : LineSort) → IsOfSort line s → IsOfSort line t → s ≡ t
 IsOfSort-unique line s t (fs, are, a) (gs, are', b) =

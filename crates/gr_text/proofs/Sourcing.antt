@@ -18,8 +18,7 @@ use Rattle.gr_text.proofs.Keeping.{kept_none, kept_by, nothing_known}
 
 -- a reader without a fault was fed no more than its limit, and nothing is wrong with the lines that have ended
 clean : {swap : Swap} (reader : ReaderValue) (text : List ℕ) → HasReadBut swap reader text → reader.fault ≡ None → (length text ≤ reader.limit) × HasLawfulLines text
-clean reader text read none =
-    let (short, counted, stands) = read_on reader text none read in (short, lawful_lines reader text stands)
+clean reader text read none = search (arith, read_on, lawful_lines)
 
 -- the source hasn't given anything yet
 pub nothing_kept : (drops : Type 0) (knows : List Link → Type 0) (dropped : ℕ) (reader : ReaderValue) → dropped ≡ 0 → knows [] → HasRead reader [] → HasKept drops knows dropped reader []
@@ -49,11 +48,7 @@ links_kept old new s t keeps so_far = record { text = so_far.text; kept = keeps 
 
 -- it ended behind what the reader has read
 pub ends_behind : {drops : Type 0} {knows : List Link → Type 0} {dropped : ℕ} (reader : ReaderValue) (s t u : SourceState) → HasFollowed drops knows dropped 0 reader s t → Gave 0 1 [] t u → HasFollowed drops knows dropped 1 reader s u
-ends_behind reader s t u so_far ended = record {
-  text = so_far.text;
-  kept = so_far.kept;
-  gave = subst (λ bytes. Gave 0 1 bytes s u) (append-nil so_far.text) (gave_more 0 1 so_far.text [] s t u so_far.gave ended);
-}
+ends_behind reader s t u so_far ended = search (arith, append-nil, gave_more)
 
 pub read_to_end : {drops : Type 0} {knows : List Link → Type 0} {dropped : ℕ} (limit : ℕ) (outcome : Result GraphValue ReadFault) (reader : ReaderValue) (s u : SourceState) → HasFollowed drops knows dropped 1 reader s u
     → reader.fault ≡ None → reader.limit ≡ limit → ((swap : Swap) (text : List ℕ) → HasReadBut swap reader text → IsReadBut swap reader.limit text outcome)
@@ -101,11 +96,7 @@ breaks_off limit line reader s t u so_far none is next failed = inr (inr (
 -- a fault was found in what the reader was fed
 pub read_up_to : {drops : Type 0} {knows : List Link → Type 0} {dropped : ℕ} (limit : ℕ) (why : ReadFault) (reader : ReaderValue) (s u : SourceState) → HasFollowed drops knows dropped 0 reader s u
     → reader.fault ≡ Some why → reader.limit ≡ limit → IsReadOf limit (Err why) s u
-read_up_to limit why reader s u so_far is at = inr (inl (record {
-  bytes = so_far.text;
-  gave = so_far.gave;
-  stops = subst (λ k. StopsBy why k so_far.text) at (stopped_by reader why so_far.text is so_far.kept.read);
-}))
+read_up_to limit why reader s u so_far is at = search (arith, stopped_by)
 
 -- memory was refused behind what the reader was fed
 pub memory_lacks : {drops : Type 0} {knows : List Link → Type 0} {dropped : ℕ} (limit : ℕ) (reader : ReaderValue) (s u : SourceState) → HasFollowed drops knows dropped 0 reader s u → IsReadOf limit (Err fault.Memory) s u

@@ -16,11 +16,7 @@ use Rattle.gr_text.proofs.Cuts.{EndsLines-bytes, EndsLines-line, EndsLines-more,
 use Rattle.gr_text.proofs.Faulty.{first_faulty_at}
 
 pub lawful_of : {swap : Swap} (kept : LinesSoFarValue) (lines : List (List ℕ)) → KeepsLinesBut swap kept lines → AreLawfulSoFar lines
-lawful_of kept lines (all, by, gives) = lawful_at kept.size kept.count all lines gives
-  where
-    lawful_at : (size : Option ProblemSize) (count : ℕ) (links : List Link) (lines : List (List ℕ)) → AreKept size count links lines → AreLawfulSoFar lines
-    lawful_at None count links lines (say, zero_count, none) = inl say
-    lawful_at (Some size) count links lines (arcs, lawful, counted, are) = inr (size.vertices, size.arcs, arcs, lawful)
+lawful_of kept lines (all, by, gives) = search arith
 
 pub first_faulty : (lines : List (List ℕ)) (part : List ℕ) (more : List (List ℕ)) (f : ReadFault) (number : ℕ) → AreLawfulSoFar lines → number ≡ length lines + 1 → IsLineFault f number lines part
     → (text : List ℕ) (r : List ℕ) → EndsLines text (lines ++ part ∷ [] ++ more) r → StopsAt f text
@@ -37,14 +33,7 @@ first_faulty lines part more fault.Memory number lawful numbered any text r cut 
 
 -- however much the reader was fed
 pub Stands-fed : {swap : Swap} (r : ReaderValue) (fed : ℕ) (text : List ℕ) → Stands swap r text → Stands swap (record r { fed = fed }) text
-Stands-fed r fed text stands = record {
-  lines = stands.lines;
-  part = stands.part;
-  cut = stands.cut;
-  give = stands.give;
-  kept = stands.kept;
-  numbered = stands.numbered;
-}
+Stands-fed r fed text stands = search arith
 
 -- more bytes of a line
 pub Stands-part : {swap : Swap} (r : ReaderValue) (partial : PartialLine) (text more : List ℕ) → (stands : Stands swap r text) → IsLine more → IsKeptAs partial (stands.part ++ more)
@@ -81,6 +70,4 @@ StopsAt-line e r text line rest stands is_line fault =
 
 -- a text and a piece of which a line and what is behind it is left
 pub piece_line : (text piece done rest line after : List ℕ) → piece ≡ done ++ rest → rest ≡ ended line ++ after → ((text ++ done) ++ ended line) ++ after ≡ text ++ piece
-piece_line text piece done rest line after is ends =
-    append_assoc (text ++ done) (ended line) after ∙ append_assoc text done (ended line ++ after)
-    ∙ ap (λ (xs : List ℕ). text ++ xs) (ap (λ (xs : List ℕ). done ++ xs) (sym ends) ∙ sym is)
+piece_line text piece done rest line after is ends = search (arith, append_assoc)

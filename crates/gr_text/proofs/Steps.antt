@@ -28,13 +28,11 @@ Say-silent (first ∷ lines) line ss (inr (s, others, says, say, is)) silent = i
 pub Say-more : (lines : List (List ℕ)) (line : List ℕ) (ss : List Statement) (s : Statement) → Say lines ss → Says line s → Say (lines ++ line ∷ []) (ss ++ s ∷ [])
 Say-more [] line ss s say says = inr (s, [], says, refl, ap (λ (xs : List Statement). xs ++ s ∷ []) say)
 Say-more (first ∷ lines) line ss s (inl (quiet, say)) says = inl (quiet, Say-more lines line ss s say says)
-Say-more (first ∷ lines) line ss s (inr (t, others, first_says, say, is)) says =
-    inr (t, others ++ s ∷ [], first_says, Say-more lines line others s say says, ap (λ (xs : List Statement). xs ++ s ∷ []) is)
+Say-more (first ∷ lines) line ss s (inr (t, others, first_says, say, is)) says = search (arith, Say-more lines line others s say says)
 
 -- lines that say the same as lawful ones, and a silent line after lawful ones
 pub AreLawfulLines-like : (lines others : List (List ℕ)) (n m : ℕ) (arcs : List Arc) → AreLawfulLines lines n m arcs → Say others (Problem n m ∷ map ArcLine arcs) → AreLawfulLines others n m arcs
-AreLawfulLines-like lines others n m arcs lawful say =
-    record { say = say; vertices = lawful.vertices; arc_lines = lawful.arc_lines; no_more = lawful.no_more; each = lawful.each }
+AreLawfulLines-like lines others n m arcs lawful say = search arith
 
 pub AreLawfulLines-silent : (lines : List (List ℕ)) (line : List ℕ) (n m : ℕ) (arcs : List Arc) → AreLawfulLines lines n m arcs → IsSilent line → AreLawfulLines (lines ++ line ∷ []) n m arcs
 AreLawfulLines-silent lines line n m arcs lawful silent = AreLawfulLines-like lines _ n m arcs lawful (Say-silent lines line _ lawful.say silent)
@@ -62,25 +60,13 @@ AreLawfulLines-arc lines line n m arcs arc lawful says is_arc room = record {
 
 -- the links with that of one more arc
 pub AreLinksOf-loop : (arcs : List Arc) (links : List Link) (arc : Arc) → AreLinksOf arcs links → is_no_loop arc ≡ false → AreLinksOf (arcs ++ arc ∷ []) links
-AreLinksOf-loop arcs links arc are loop =
-    are ∙ ap (map arc_key) (sym (append-nil (filter is_no_loop arcs)) ∙ ap (λ (b : Bool). filter is_no_loop arcs ++ cond b (arc ∷ []) []) (sym loop)
-    ∙ sym (filter-append is_no_loop arcs (arc ∷ [])))
+AreLinksOf-loop arcs links arc are loop = search (arith, append-nil, cond, filter-append)
 
 pub AreLinksOf-link : (arcs : List Arc) (links : List Link) (arc : Arc) (link : Link) → AreLinksOf arcs links → is_no_loop arc ≡ true → key_of link ≡ arc_key arc → AreLinksOf (arcs ++ arc ∷ []) (links ++ link ∷ [])
-AreLinksOf-link arcs links arc link are no_loop key =
-    map-append key_of links (link ∷ [])
-    ∙ ap (λ (ks : List Key). ks ++ key_of link ∷ []) are
-    ∙ ap (λ (k : Key). map arc_key (filter is_no_loop arcs) ++ k ∷ []) key
-    ∙ sym (map-append arc_key (filter is_no_loop arcs) (arc ∷ []))
-    ∙ ap (map arc_key) (ap (λ (b : Bool). filter is_no_loop arcs ++ cond b (arc ∷ []) []) (sym no_loop) ∙ sym (filter-append is_no_loop arcs (arc ∷ [])))
+AreLinksOf-link arcs links arc link are no_loop key = search (arith, map-append, cond, filter-append)
 
 pub AreLinksOf-append : (arcs more : List Arc) (links others : List Link) → AreLinksOf arcs links → AreLinksOf more others → AreLinksOf (arcs ++ more) (links ++ others)
-AreLinksOf-append arcs more links others are also =
-    map-append key_of links others
-    ∙ ap (λ (ks : List Key). ks ++ map key_of others) are
-    ∙ ap (λ (ks : List Key). map arc_key (filter is_no_loop arcs) ++ ks) also
-    ∙ sym (map-append arc_key (filter is_no_loop arcs) (filter is_no_loop more))
-    ∙ ap (map arc_key) (sym (filter-append is_no_loop arcs more))
+AreLinksOf-append arcs more links others are also = search (arith, map-append, filter-append)
 
 pub counts_of : (size : Option ProblemSize) (count : ℕ) (links : List Link) (lines : List (List ℕ)) → AreKept size count links lines → AreTallied size count lines
 counts_of None count links lines (say, zero_count, none) = (say, zero_count)

@@ -1,5 +1,5 @@
 -- Links of which some were swapped, when more come; and what is read where none were.
-use Rattle.std.proofs.Common.{◌≡◌, ℕ, List, [], ◌++◌, refl, ap, sym, ◌∙◌, subst, append_assoc, Result, Ok, Err}
+use Rattle.std.proofs.Common.{◌≡◌, ℕ, List, [], ◌++◌, refl, ap, sym, ◌∙◌, subst, append_assoc, Result, Ok, Err, arith}
 use Rattle.links.specs.declared.links.Link.{Link}
 use Rattle.gr_text.specs.Graph.{GraphValue, with_links}
 use Rattle.gr_text.specs.LinesSoFar.{Swap, no_swap, DifferBy}
@@ -12,15 +12,9 @@ differ_none = record { more = []; all_are = refl; links_are = refl }
 
 -- the same links follow
 pub differ_more : {swap : Swap} {all links : List Link} (more now : List Link) → DifferBy swap all links → now ≡ links ++ more → DifferBy swap (all ++ more) now
-differ_more {swap} {all} {links} more now by is = record {
-  more = by.more ++ more;
-  all_are = ap (λ (xs : List Link). xs ++ more) by.all_are ∙ append_assoc swap.gone by.more more;
-  links_are = is ∙ ap (λ (xs : List Link). xs ++ more) by.links_are ∙ append_assoc swap.put by.more more;
-}
+differ_more {swap} {all} {links} more now by is = search (arith, append_assoc)
 
 -- where none were swapped, all are there
 pub is_read : (limit : ℕ) (text : List ℕ) (result : Result GraphValue ReadFault) → IsReadBut no_swap limit text result → IsRead limit text result
-is_read limit text (Ok graph) (all, by, read) =
-    let same : all ≡ graph.links = by.all_are ∙ sym by.links_are in
-    subst (λ (xs : List Link). IsRead limit text (Ok (with_links xs graph))) same read
+is_read limit text (Ok graph) (all, by, read) = search arith
 is_read limit text (Err e) fails = fails

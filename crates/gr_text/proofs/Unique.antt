@@ -93,16 +93,10 @@ signed_unique : (field : List ℕ) (y z : ℤ) → WritesSigned field y → Writ
 signed_unique field y z (inl (n, w, e)) (inl (m, v, f)) = e ∙ ap pos (writes_unique field n m w v) ∙ sym f
 signed_unique field y z (inl (n, w, e)) (inr (ds, m, is, v, f)) = absurd (minus_writes_none field ds n is w)
 signed_unique field y z (inr (ds, n, is, w, e)) (inl (m, v, f)) = absurd (minus_writes_none field ds m is v)
-signed_unique field y z (inr (ds, n, is, w, e)) (inr (es, m, is', v, f)) =
-    let same : ds ≡ es = (let both : 45 ∷ ds ≡ 45 ∷ es = sym is ∙ is' in cc) in
-    e ∙ ap (λ (k : ℕ). neg_ℤ (pos k)) (writes_unique es n m (subst (λ (x : List ℕ). Writes x n) same w) v) ∙ sym f
+signed_unique field y z (inr (ds, n, is, w, e)) (inr (es, m, is', v, f)) = search (arith, neg_ℤ, writes_unique)
 
 pub arc_unique : (a b : Arc) → a.tail ≡ b.tail → a.head ≡ b.head → a.weight ≡ b.weight → a ≡ b
-arc_unique a b e f g =
-    let at_tail : ℕ → Arc = λ t. record { tail = t; head = a.head; weight = a.weight } in
-    let at_head : ℕ → Arc = λ h. record { tail = b.tail; head = h; weight = a.weight } in
-    let at_weight : ℤ → Arc = λ z. record { tail = b.tail; head = b.head; weight = z } in
-    ap at_tail e ∙ ap at_head f ∙ ap at_weight g
+arc_unique a b e f g = search arith
 
 -- Fields make one statement at the most.
 pub FieldsSay-unique : (fields : List (List ℕ)) (s t : Statement) → FieldsSay fields s → FieldsSay fields t → s ≡ t
@@ -116,14 +110,7 @@ FieldsSay-unique fields (Problem n m) (ArcLine arc) (f, g, e, wf, wg) (f', g', h
     absurd (let same : codes "p" ∷ codes "sp" ∷ f ∷ g ∷ [] ≡ codes "a" ∷ f' ∷ g' ∷ h' ∷ [] = sym e ∙ e' in let letters : codes "p" ≡ codes "a" = cc in omega (arith, head_is 112 97 [] [] letters))
 FieldsSay-unique fields (ArcLine arc) (Problem n m) (f', g', h', e', wf', wg', wh') (f, g, e, wf, wg) =
     absurd (let same : codes "a" ∷ f' ∷ g' ∷ h' ∷ [] ≡ codes "p" ∷ codes "sp" ∷ f ∷ g ∷ [] = sym e' ∙ e in let letters : codes "p" ≡ codes "a" = cc in omega (arith, head_is 112 97 [] [] letters))
-FieldsSay-unique fields (ArcLine a) (ArcLine b) (f, g, h, e, wf, wg, wh) (f', g', h', e', wf', wg', wh') =
-    let same : codes "a" ∷ f ∷ g ∷ h ∷ [] ≡ codes "a" ∷ f' ∷ g' ∷ h' ∷ [] = sym e ∙ e' in
-    let sf : f ≡ f' = cc in
-    let sg : g ≡ g' = cc in
-    let sh : h ≡ h' = cc in
-    ap ArcLine (arc_unique a b (writes_unique f' a.tail b.tail (subst (λ (x : List ℕ). Writes x a.tail) sf wf) wf')
-    (writes_unique g' a.head b.head (subst (λ (x : List ℕ). Writes x a.head) sg wg) wg')
-    (signed_unique h' a.weight b.weight (subst (λ (x : List ℕ). WritesSigned x a.weight) sh wh) wh'))
+FieldsSay-unique fields (ArcLine a) (ArcLine b) (f, g, h, e, wf, wg, wh) (f', g', h', e', wf', wg', wh') = search (arith, codes, arc_unique, writes_unique, signed_unique)
 
 pub silent_or_says : (fields : List (List ℕ)) (s : Statement) → AreSilent fields → FieldsSay fields s → ⊥
 silent_or_says [] (Problem n m) silent (f, g, e, wf, wg) = cc

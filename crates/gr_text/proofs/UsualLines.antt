@@ -40,8 +40,7 @@ inner_of_short field short = record { some = short.some; all = all_as IsDigit In
 
 inner_of_signed : (field : List ℕ) → IsShortSigned field → IsInner field
 inner_of_signed field (inl short) = inner_of_short field short
-inner_of_signed field (inr (digits, is, short)) =
-    subst IsInner (sym is) (record { some = λ (e : 45 ∷ digits ≡ []). cc; all = (omega arith, all_as IsDigit Inner inner_of_digit digits short.digits) })
+inner_of_signed field (inr (digits, is, short)) = search (arith, all_as, inner_of_digit)
 
 -- a field behind a space
 behind_space : (field after : List ℕ) (others : List (List ℕ)) → IsInner field → BeginsBlank after → AreFields after others → AreFields (32 ∷ (field ++ after)) (field ∷ others)
@@ -86,11 +85,7 @@ usual_is_line line usual =
 -- how it begins a text
 usual_spelled : (line rest tail head weight end : List ℕ) → line ≡ codes "a " ++ (tail ++ 32 ∷ (head ++ 32 ∷ (weight ++ end)))
     → ended line ++ rest ≡ codes "a " ++ (tail ++ 32 ∷ (head ++ 32 ∷ (weight ++ (end ++ line_feed ∷ rest))))
-usual_spelled line rest tail head weight end is =
-    append_assoc line (line_feed ∷ []) rest ∙ ap (λ (xs : List ℕ). xs ++ line_feed ∷ rest) is
-    ∙ ap (λ (xs : List ℕ). 97 ∷ 32 ∷ xs) (append_assoc tail (32 ∷ (head ++ 32 ∷ (weight ++ end))) (line_feed ∷ rest)
-    ∙ ap (λ (xs : List ℕ). tail ++ 32 ∷ xs) (append_assoc head (32 ∷ (weight ++ end)) (line_feed ∷ rest)
-    ∙ ap (λ (xs : List ℕ). head ++ 32 ∷ xs) (append_assoc weight end (line_feed ∷ rest))))
+usual_spelled line rest tail head weight end is = search (arith, append_assoc)
 
 -- What is read is such a line.
 pub usual_found : (bytes fields second third rest : List ℕ) (u v : ℕ) (w : Signed) → bytes ≡ 97 ∷ 32 ∷ fields → BeginsWithShort u 32 fields second → BeginsWithShort v 32 second third
@@ -140,10 +135,7 @@ never_feed kept bytes after begins other field rest short is = other rest (behin
 -- what follows the letter of a usual line
 behind_letter : (bytes fields line rest : List ℕ) → (usual : IsUsualArc line) → bytes ≡ 97 ∷ 32 ∷ fields → bytes ≡ ended line ++ rest
     → fields ≡ usual.tail ++ 32 ∷ (usual.head ++ 32 ∷ (usual.weight ++ (usual.end ++ line_feed ∷ rest)))
-behind_letter bytes fields line rest usual begins is =
-    let whole : 97 ∷ 32 ∷ fields ≡ 97 ∷ 32 ∷ (usual.tail ++ 32 ∷ (usual.head ++ 32 ∷ (usual.weight ++ (usual.end ++ line_feed ∷ rest)))) =
-    sym begins ∙ is ∙ usual_spelled line rest usual.tail usual.head usual.weight usual.end usual.spelled in
-    cc
+behind_letter bytes fields line rest usual begins is = search (arith, usual_spelled)
 
 -- No usual line begins bytes in which a field of it is missing.
 pub never_head : (bytes fields second : List ℕ) (u : ℕ) → bytes ≡ 97 ∷ 32 ∷ fields → BeginsWithShort u 32 fields second
@@ -174,18 +166,7 @@ at_place xs i within =
 pub short_before : (kept stop place : ℕ) (xs : List ℕ) → place < length xs → length xs ≤ 20 → 1 ≤ place → get_or xs place 0 ≡ stop
     → AllByRecursion IsDigit (take place xs) → kept ≡ number_written (take place xs) % 2 ^ 64 → number_written (take place xs) < 10 ^ place
     → HasShortBefore kept place stop xs
-short_before kept stop place xs within few some here digits is below =
-    let count : length (take place xs) ≡ place = length-take-le place xs (omega arith) in
-    let fits : 10 ^ place ≤ 10 ^ 19 = pow-le-pow_right (omega arith) {i = place} {j = 19} (omega arith) in
-    let not_empty : take place xs ≢ [] = λ none. (let zero : length (take place xs) ≡ 0 = ap length none in omega arith) in (
-      within,
-      (
-        take place xs,
-        record { some = not_empty; digits = digits; few = omega arith },
-        (number_written (take place xs), (not_empty, digits, refl), omega arith),
-        at_place xs place within ∙ ap (λ (b : ℕ). take place xs ++ b ∷ drop (place + 1) xs) here,
-      ),
-    )
+short_before kept stop place xs within few some here digits is below = search (arith, length-take-le, pow-le-pow_right, at_place)
 
 -- All are digits.
 pub never_all : (stop : ℕ) (xs : List ℕ) → ¬ (IsDigit stop) → AllByRecursion IsDigit xs → HasNoShort stop xs
@@ -219,8 +200,7 @@ never_minus bytes digits begins none field rest (inr (others, minus, short)) (en
 
 pub never_plus : (bytes : List ℕ) → ((digits : List ℕ) → bytes ≢ 45 ∷ digits) → HasNoLast bytes → HasNoShortSigned bytes
 never_plus bytes other none field rest (inl short) ends = none field rest short ends
-never_plus bytes other none field rest (inr (digits, minus, short)) (end, ends, is) =
-    absurd (other (digits ++ (end ++ line_feed ∷ rest)) (is ∙ ap (λ (xs : List ℕ). xs ++ (end ++ line_feed ∷ rest)) minus))
+never_plus bytes other none field rest (inr (digits, minus, short)) (end, ends, is) = search arith
 
 -- bytes by their first ones
 pub begins_one : (xs : List ℕ) (a : ℕ) → 1 ≤ length xs → get_or xs 0 0 ≡ a → xs ≡ a ∷ take (length xs - 1) (drop 1 xs)
@@ -230,8 +210,7 @@ begins_one (x ∷ xs) a some first = ap (λ (y : ℕ). y ∷ xs) first ∙ ap (�
 pub begins_two : (xs : List ℕ) (a b : ℕ) → 2 ≤ length xs → get_or xs 0 0 ≡ a → get_or xs 1 0 ≡ b → xs ≡ a ∷ b ∷ take (length xs - 2) (drop 2 xs)
 begins_two [] a b some first second = absurd (omega arith)
 begins_two (x ∷ []) a b some first second = absurd (omega arith)
-begins_two (x ∷ y ∷ xs) a b some first second =
-    ap (λ (z : ℕ). z ∷ y ∷ xs) first ∙ ap (λ (z : ℕ). a ∷ z ∷ xs) second ∙ ap (λ (zs : List ℕ). a ∷ b ∷ zs) (sym (take_rest (x ∷ y ∷ xs) 2))
+begins_two (x ∷ y ∷ xs) a b some first second = search (arith, take_rest)
 
 -- A number before `stop` stands in the text where it stands in its first twenty bytes.
 pub found_in_front : (kept stop place : ℕ) (xs : List ℕ) → HasShortBefore kept place stop (take 20 xs) → BeginsWithShort kept stop xs (drop (place + 1) xs)

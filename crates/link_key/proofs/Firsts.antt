@@ -16,28 +16,18 @@ IsFirstBefore numbers number bound first =
 
 -- one vertex more
 same_first : (numbers : List ℕ) (number v first : ℕ) → get_or numbers v 0 ≢ number → IsFirstBefore numbers number v first → IsFirstBefore numbers number (v + 1) first
-same_first numbers number v first other (inl (is, before)) = inl (is, omega (arith, before))
-same_first numbers number v first other (inr (none_is, none)) = inr (
-  none_is,
-  λ u from_one lt. elim (cases_eq u v) [
-    | inl here ↦ λ same. other (ap (λ k. get_or numbers k 0) (sym here) ∙ same)
-    | inr earlier ↦ none u from_one (omega (arith, lt, earlier))
-  ],
-)
+same_first a1 a2 a3 a4 a5 a6 = search (arith, cases_eq)
 
 -- the vertex that is the first
 new_first : (numbers : List ℕ) (v first : ℕ) → 1 ≤ v → v < length numbers → first ≡ 0 → IsFirstBefore numbers (get_or numbers v 0) v first
     → IsFirstWith numbers (get_or numbers v 0) v
-new_first numbers v first from_one v_in none_is (inl (is, before)) = let some = is.from_one in absurd (omega (arith, some, none_is))
-new_first numbers v first from_one v_in none_is (inr (is, none)) = record { from_one = from_one; in_range = v_in; has = refl; none_before = none }
+new_first a1 a2 a3 a4 a5 a6 a7 = search arith
 
 old_first : (numbers : List ℕ) (number v first : ℕ) → first ≢ 0 → IsFirstBefore numbers number v first → IsFirstWith numbers number first
-old_first numbers number v first some (inl (is, before)) = is
-old_first numbers number v first some (inr (none_is, none)) = absurd (some none_is)
+old_first a1 a2 a3 a4 a5 a6 = search arith
 
 found_before : (numbers : List ℕ) (number v first : ℕ) → first ≢ 0 → IsFirstBefore numbers number v first → first < v
-found_before numbers number v first some (inl (is, before)) = before
-found_before numbers number v first some (inr (none_is, none)) = absurd (some none_is)
+found_before a1 a2 a3 a4 a5 a6 = search arith
 
 -- the table of the first vertices, by their numbers
 abbrev pub AreFirsts : List ℕ → ℕ → ℕ → List ℕ → Type 0
@@ -47,52 +37,25 @@ AreFirsts numbers count bound firsts = (c : ℕ) → c ≤ count → IsFirstBefo
 pub first_now : (numbers firsts : List ℕ) (count v first : ℕ) → AreFirsts numbers count v firsts → 1 ≤ v → v < length numbers → get_or numbers v 0 ≤ count
     → (get_or firsts (get_or numbers v 0) 0 ≡ 0 → first ≡ v) → (get_or firsts (get_or numbers v 0) 0 ≢ 0 → first ≡ get_or firsts (get_or numbers v 0) 0)
     → IsFirstWith numbers (get_or numbers v 0) first × (first < v + 1)
-first_now numbers firsts count v first are from_one v_in few new old =
-    let number = get_or numbers v 0 in
-    let found = get_or firsts number 0 in
-    elim (cases_eq found 0) [
-      | inl none ↦ (subst (IsFirstWith numbers number) (sym (new none)) (new_first numbers v found from_one v_in none (are number few)), let is = new none in omega (arith, is))
-      | inr some ↦
-          let is = old some in
-          (subst (IsFirstWith numbers number) (sym is) (old_first numbers number v found some (are number few)), let lt = found_before numbers number v found some (are number few) in omega (arith, is, lt))
-    ]
+first_now numbers firsts count v first are from_one v_in few new old = search (arith, cases_eq, new_first, old_first, found_before)
 
 pub firsts_put : (numbers firsts : List ℕ) (count v first : ℕ) → AreFirsts numbers count v firsts → get_or numbers v 0 < length firsts
     → IsFirstWith numbers (get_or numbers v 0) first → first < v + 1 → AreFirsts numbers count (v + 1) (set firsts (get_or numbers v 0) first)
-firsts_put numbers firsts count v first are number_in is lt c c_in = elim (cases_eq (get_or numbers v 0) c) [
-  | inl here ↦ subst (λ k. IsFirstBefore numbers k (v + 1) (get_or (set firsts (get_or numbers v 0) first) k 0)) here
-      (subst (IsFirstBefore numbers (get_or numbers v 0) (v + 1)) (sym (get_or-set_same firsts (get_or numbers v 0) first 0 number_in)) (inl (is, lt)))
-  | inr other ↦ subst (IsFirstBefore numbers c (v + 1)) (sym (get_or-set_other firsts (get_or numbers v 0) c first 0 (λ same. other (sym same))))
-      (same_first numbers c v (get_or firsts c 0) other (are c c_in))
-]
+firsts_put numbers firsts count v first are number_in is lt c c_in = search (arith, cases_eq, set, get_or-set_same, get_or-set_other, same_first)
 
 -- one label more
 pub label_more : (numbers labels : List ℕ) (v label : ℕ) → length labels + 1 ≡ v → ((u : ℕ) → 1 ≤ u → u < v → IsFirstWith numbers (get_or numbers u 0) (label_of labels u))
     → IsFirstWith numbers (get_or numbers v 0) label → (u : ℕ) → 1 ≤ u → u < v + 1 → IsFirstWith numbers (get_or numbers u 0) (label_of (labels ++ label ∷ []) u)
-label_more numbers labels v label len are is u from_one lt = elim (cases_eq u v) [
-  | inl here ↦ subst (λ k. IsFirstWith numbers (get_or numbers k 0) (label_of (labels ++ label ∷ []) k)) (sym here)
-      (subst (IsFirstWith numbers (get_or numbers v 0)) (sym (get_or_push labels label 0 (v - 1) (omega (arith, len)))) is)
-  | inr earlier ↦ subst (IsFirstWith numbers (get_or numbers u 0)) (sym (get_or_append_left labels (label ∷ []) 0 (u - 1) (omega (arith, len, from_one, lt, earlier))))
-      (are u from_one (omega (arith, lt, earlier)))
-]
+label_more numbers labels v label len are is u from_one lt = search (arith, cases_eq, get_or_push, get_or_append_left)
 
 -- ---- labels by the first vertices
 
 -- of two first ones with one number
 one_first : {numbers : List ℕ} {c u v : ℕ} → IsFirstWith numbers c u → IsFirstWith numbers c v → u ≡ v
-one_first {numbers} {c} {u} {v} is is' = elim (cases_lt u v) [
-  | inl lt ↦ absurd (is'.none_before u is.from_one lt is.has)
-  | inr ge ↦ elim (cases_lt v u) [
-    | inl lt ↦ absurd (is.none_before v is'.from_one lt is'.has)
-    | inr le ↦ omega (arith, ge, le)
-  ]
-]
+one_first {numbers} {c} {u} {v} is is' = search (arith, cases_lt)
 
 first_at_most : {numbers : List ℕ} {c first : ℕ} → IsFirstWith numbers c first → (u : ℕ) → 1 ≤ u → get_or numbers u 0 ≡ c → first ≤ u
-first_at_most {numbers} {c} {first} is u from_one same = elim (cases_lt u first) [
-  | inl lt ↦ absurd (is.none_before u from_one lt same)
-  | inr ge ↦ ge
-]
+first_at_most {numbers} {c} {first} is u from_one same = search (arith, cases_lt)
 
 -- each vertex has the first vertex with its number for a label
 abbrev pub LabelFirsts : List ℕ → List ℕ → Type 0

@@ -18,10 +18,7 @@ apart a b other = grind (arith, nat_tests)
 
 -- where two numbers differ one more is counted
 pub counted : (a b n n' : ℕ) → n' ≡ n + bool_byte (not (a == b)) → ((n' ≡ n) × (not (a == b) ≡ false)) ⊎ ((n' ≡ n + 1) × (not (a == b) ≡ true))
-counted a b n n' is = elim (cases_eq a b) [
-  | inl same ↦ inl (grind (arith, nat_tests, is, same), closed a b same)
-  | inr differ ↦ inr (grind (arith, nat_tests, is, differ), apart a b differ)
-]
+counted a b n n' is = search (arith, cases_eq, nat_tests, closed, apart)
 
 -- What passes a test is written behind what was kept before it, and counted; what doesn't pass is written there too, and
 -- not counted.
@@ -67,8 +64,7 @@ module _ (numbers : List ℕ) (start : List Open) {i : ℕ} (x : Open) (i_in : i
 
   -- it is written behind those kept, and counted where it is kept
   pub kept_passed : {kept kept' : ℕ} (now : List Open) → kept < length now → take kept now ≡ kept_of numbers (take i start) → ((kept' ≡ kept) × (is_open (renumbered numbers x) ≡ false)) ⊎ ((kept' ≡ kept + 1) × (is_open (renumbered numbers x) ≡ true)) → take kept' (set now kept (renumbered numbers x)) ≡ kept_of numbers (take (i + 1) start)
-  kept_passed {kept} {kept'} now kept_in so_far (inl (same, shut)) = ap (λ n. take n (set now kept (renumbered numbers x))) same ∙ take-set now kept (renumbered numbers x) ∙ so_far ∙ sym (kept_closed shut)
-  kept_passed {kept} {kept'} now kept_in so_far (inr (more, apart)) = ap (λ n. take n (set now kept (renumbered numbers x))) more ∙ take_more_set now kept (renumbered numbers x) kept_in ∙ ap (λ xs. xs ++ renumbered numbers x ∷ []) so_far ∙ sym (kept_open apart)
+  kept_passed a1 a2 a3 a4 = search (arith, set, take-set, kept_closed, take_more_set, kept_open, apart)
 
 -- one more link whose labels have numbers
 pub given_more : (numbers : List ℕ) (start : List Open) {i : ℕ} (x : Open) → i < length start → x ≡ get_or start i x → (0 < get_or numbers x.low 0) × (0 < get_or numbers x.high 0) → HaveNumbers numbers (take i start) → HaveNumbers numbers (take (i + 1) start)

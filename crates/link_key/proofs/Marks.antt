@@ -39,19 +39,13 @@ marked_none (m ∷ links) (suc n) = marked_none links n
 -- One more place is marked: its link is added.
 module _ (links : List Link) (marks : List Bool) (r : ℕ) (x : Link) (r_in : r < length links) (len : length links ≡ length marks) (at : get_or links r x ≡ x) where
   still : (l : Link) → IsMarked links marks l → IsMarked links (set marks r true) l
-  still l (k, k_in, has, is) = elim (cases_eq k r) [
-    | inl same ↦ (k, k_in, subst (λ j. get_or (set marks r true) j false ≡ true) (sym same) (get_or-set_same marks r true false (omega (arith, r_in, len))), is)
-    | inr other ↦ (k, k_in, get_or-set_other marks r k true false other ∙ has, is)
-  ]
+  still l (k, k_in, has, is) = search (arith, cases_eq, set, get_or-set_same, get_or-set_other)
 
   new : IsMarked links (set marks r true) x
   new = (r, r_in, get_or-set_same marks r true false (omega (arith, r_in, len)), at)
 
   old : (l : Link) → IsMarked links (set marks r true) l → Contains (marked links marks) l ⊎ (x ≡ l)
-  old l (k, k_in, has, is) = elim (cases_eq k r) [
-    | inl same ↦ inr (sym at ∙ get_or_default links r x l r_in ∙ ap (λ j. get_or links j l) (sym same) ∙ is)
-    | inr other ↦ inl (marked_if links marks l (k, k_in, sym (get_or-set_other marks r k true false other) ∙ has, is))
-  ]
+  old l (k, k_in, has, is) = search (arith, cases_eq, get_or_default, marked_if, get_or-set_other)
 
   pub mark_one : (before : List Link) (l : Link) → Contains ((before ++ marked links marks) ++ x ∷ []) l ↔ Contains (before ++ marked links (set marks r true)) l
   mark_one before l = (to, back)

@@ -15,10 +15,7 @@ ascending_distinct links up i j d lt j_in same = below_irrefl (get_or links j d)
 
 -- distinct at any two places
 apart : (links : List Link) → AreDistinct links → (i j : ℕ) (d : Link) → i ≢ j → i < length links → j < length links → get_or links i d ≢ get_or links j d
-apart links distinct i j d differ i_in j_in same = elim (cases_order i j) [
-  | inl is ↦ differ is
-  | inr other ↦ elim other [ inl lt ↦ distinct i j d lt j_in same | inr gt ↦ distinct j i d gt i_in (sym same) ]
-]
+apart links distinct i j d differ i_in j_in same = search (arith, cases_order)
 
 swapped : (links : List Link) (a b : ℕ) → a < length links → b < length links → AreDistinct links → AreDistinct (swap links a b)
 swapped links a b a_in b_in distinct i j d lt j_in same =

@@ -133,13 +133,7 @@ module _ (numbers : List ℕ) (candidates : List Open) where
     at_ends o o_in = All-contains (λ (p : Open). IsLabelled labels (link_of d links p) p) candidates o labelled o_in
 
     new_ends : (o : Open) → IsLabelled labels (link_of d links o) o → (get_or (renamed numbers labels) (link_of d links o).low 0 ≡ get_or numbers o.low 0) × (get_or (renamed numbers labels) (link_of d links o).high 0 ≡ get_or numbers o.high 0)
-    new_ends o at =
-        let l = link_of d links o in
-        let high_in = at.0 in
-        let low_in : l.low < length labels = let ascending = l.ascending in omega (arith, ascending, high_in) in (
-          renamed_to numbers labels l.low low_in ∙ ap (λ c. get_or numbers c 0) at.1,
-          renamed_to numbers labels l.high high_in ∙ ap (λ c. get_or numbers c 0) at.2,
-        )
+    new_ends o at = search (arith, renamed_to)
 
     pub left_labelled : AreLabelled (renamed numbers labels) d links (filter is_open (map (renumbered numbers) candidates))
     left_labelled =
@@ -186,25 +180,14 @@ module _ (numbers : List ℕ) (candidates : List Open) where
 
 -- one renaming after the other is the renaming by the numbers of the numbers
 renamed_at : (numbers further : List ℕ) (c : ℕ) → get_or further 0 0 ≡ 0 → get_or (renamed further numbers) c 0 ≡ get_or further (get_or numbers c 0) 0
-renamed_at numbers further c none = elim (cases_lt c (length numbers)) [
-  | inl inside ↦ renamed_to further numbers c inside
-  | inr past ↦ get_or_past (renamed further numbers) c 0 (subst (λ n. n ≤ c) (sym (renamed_len further numbers)) past) ∙ sym none ∙ ap (λ k. get_or further k 0) (sym (get_or_past numbers c 0 past))
-]
+renamed_at numbers further c none = search (arith, cases_lt, renamed_to, get_or_past, renamed_len)
 
 pub renamed_twice : (numbers further labels : List ℕ) → get_or further 0 0 ≡ 0 → renamed (renamed further numbers) labels ≡ renamed further (renamed numbers labels)
 renamed_twice numbers further [] none = refl
 renamed_twice numbers further (c ∷ labels) none = ap₂ (λ (k : ℕ) (ks : List ℕ). k ∷ ks) (renamed_at numbers further c none) (renamed_twice numbers further labels none)
 
 pub renamed_numbers : {count last : ℕ} {numbers further : List ℕ} → AreAllNumbers count numbers → length further ≡ count + 1 → last ≤ count → AreAllNumbers last further → AreAllNumbers last (renamed further numbers)
-renamed_numbers {count} {last} {numbers} {further} are len few all = record {
-  at_most = λ c. subst (λ k. k ≤ last) (sym (renamed_at numbers further c all.none)) (all.at_most (get_or numbers c 0));
-  none = renamed_at numbers further 0 all.none ∙ ap (λ k. get_or further k 0) are.none ∙ all.none;
-  some = λ c from_one c_in.
-      let had = are.some c from_one (subst (λ n. c < n) (renamed_len further numbers) c_in) in
-      let most = are.at_most c in
-      subst (λ k. 0 < k) (sym (renamed_at numbers further c all.none)) (all.some (get_or numbers c 0) had (omega (arith, most, len)));
-  few = let many = are.few in let same = renamed_len further numbers in omega (arith, many, same, few);
-}
+renamed_numbers {count} {last} {numbers} {further} are len few all = search (arith, renamed_at, renamed_len)
 
 -- nothing is left
 pub none_left : {X : Type 0} (xs : List X) → length xs ≡ 0 → xs ≡ []

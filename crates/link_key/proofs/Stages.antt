@@ -46,8 +46,7 @@ crossing_ends labels S c l (inl (inside, outside)) joined = crossing labels S c 
 crossing_ends labels S c l (inr (outside, inside)) joined = crossing labels S c l.high l.low (joins_symm S l.low l.high joined) inside outside
 
 leaves_apart : (labels : List ℕ) (m : Link) (c : ℕ) → LeavesLabel labels m c → ¬ (HasOneLabel labels m)
-leaves_apart labels m c (inl (inside, outside)) same = outside (sym same ∙ inside)
-leaves_apart labels m c (inr (outside, inside)) same = outside (same ∙ inside)
+leaves_apart a1 a2 a3 a4 a5 = search arith
 
 -- The cut property. Were the ends of the least link left joined by smaller links of the list, one of those would leave
 -- the label too; it would be left, and so no smaller.
@@ -78,16 +77,7 @@ renamed_same numbers labels u v u_in v_in same = renamed_to numbers labels u u_i
 
 -- each label gets a number, so the new labels are up to the last
 pub renamed_labels : {count last : ℕ} {numbers labels : List ℕ} → length numbers ≡ count + 1 → AreAllNumbers last numbers → AreLabelsUpTo count labels → AreLabelsUpTo last (renamed numbers labels)
-renamed_labels {count} {last} {numbers} {labels} len all are = record {
-  in_range = λ v v_in. subst (λ k. k ≤ last) (sym (renamed_to numbers labels v (inside v v_in))) (all.at_most (get_or labels v 0));
-  some = λ v from_one v_in.
-      let v_in' = inside v v_in in
-      let most = are.in_range v v_in' in
-      subst (λ k. 0 < k) (sym (renamed_to numbers labels v v_in')) (all.some (get_or labels v 0) (are.some v from_one v_in') (omega (arith, most, len)));
-}
-  where
-    inside : (v : ℕ) → v < length (renamed numbers labels) → v < length labels
-    inside v v_in = subst (λ k. v < k) (renamed_len numbers labels) v_in
+renamed_labels {count} {last} {numbers} {labels} len all are = search (arith, renamed_to, renamed_len)
 
 -- A round: what is left is what its new labels leave apart.
 pub round_stage : {count last : ℕ} {links later rest rest' before after : List Link} {labels numbers filled : List ℕ} → AreLabelsUpTo count labels → AreTouched labels rest rest numbers before after → AreFilled numbers filled → length filled ≡ count + 1 → AreAllNumbers last filled → ((l : Link) → Contains rest' l → Contains rest l × ¬ (HasOneLabel (renamed filled labels) l)) → ((l : Link) → Contains rest l → ¬ (HasOneLabel (renamed filled labels) l) → Contains rest' l) → IsStage links rest later labels before → IsStage links rest' later (renamed filled labels) after
@@ -184,10 +174,7 @@ stage_start n links rest labels same ends len own = record {
         omega (arith, ascending, e)
 
 pub own_labels : (n : ℕ) (labels : List ℕ) → length labels ≡ n + 1 → ((v : ℕ) → v < length labels → get_or labels v 0 ≡ v) → AreLabelsUpTo n labels
-own_labels n labels len own = record {
-  in_range = λ v v_in. let is = own v v_in in omega (arith, is, v_in, len);
-  some = λ v from_one v_in. subst (λ k. 0 < k) (sym (own v v_in)) from_one;
-}
+own_labels n labels len own = search arith
 
 -- where nothing is left, what is taken is the forest
 pub stage_end : {links : List Link} {labels : List ℕ} {taken : List Link} → IsStage links [] [] labels taken → (l : Link) → Contains taken l ↔ IsForestLink links l

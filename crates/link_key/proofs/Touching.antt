@@ -19,10 +19,7 @@ use Rattle.links.proofs.Walks.{joins_link, joins_symm, joins_trans, joins_more}
 
 -- a table without numbers has none past its end either
 pub none_anywhere : (numbers : List ℕ) → ((c : ℕ) → c < length numbers → get_or numbers c 0 ≡ 0) → (c : ℕ) → get_or numbers c 0 ≡ 0
-none_anywhere numbers none c = elim (cases_lt c (length numbers)) [
-  | inl inside ↦ none c inside
-  | inr past ↦ get_or_past numbers c 0 past
-]
+none_anywhere numbers none c = search (arith, cases_lt, get_or_past)
 
 -- the labels that have no number are at most all
 zeros_few : (numbers : List ℕ) → zeros numbers ≤ length numbers
@@ -36,19 +33,10 @@ zeros_few numbers =
 
 -- before any link is seen
 pub numbers_none : (numbers : List ℕ) → ((c : ℕ) → c < length numbers → get_or numbers c 0 ≡ 0) → AreNumbers 0 numbers
-numbers_none numbers none = record {
-  at_most = λ c. let at = none_anywhere numbers none c in omega (arith, at);
-  none = none_anywhere numbers none 0;
-  few = let few = zeros_few numbers in omega (arith, few);
-}
+numbers_none numbers none = search (arith, none_anywhere, zeros_few)
 
 pub touched_none : (labels : List ℕ) (rest : List Link) (numbers : List ℕ) (before : List Link) → ((c : ℕ) → c < length numbers → get_or numbers c 0 ≡ 0) → AreTouched labels rest [] numbers before before
-touched_none labels rest numbers before none = record {
-  touched = λ l l_in. absurd (contains_none l l_in);
-  kept = λ l l_in. l_in;
-  least = λ l l_in. inl l_in;
-  joined = λ one u v u_in v_in some same. let at = none_anywhere numbers none (get_or labels u 0) in absurd (omega (arith, at, some));
-}
+touched_none labels rest numbers before none = search (arith, contains_none, none_anywhere)
 
 module _ {a b last last' : ℕ} {numbers numbers' : List ℕ} (share : ShareNumber a b last numbers last' numbers') where
   abbrev Choice : Type 0
@@ -56,70 +44,28 @@ module _ {a b last last' : ℕ} {numbers numbers' : List ℕ} (share : ShareNumb
 
   -- a number that was given stays
   pub number_stays : (c : ℕ) → 0 < get_or numbers c 0 → get_or numbers' c 0 ≡ get_or numbers c 0
-  number_stays c some = elim (cases_eq c a) [
-    | inl is_a ↦ subst (λ k. get_or numbers' k 0 ≡ get_or numbers k 0) (sym is_a) (share.first ∙ of_a share.old (subst (λ k. 0 < get_or numbers k 0) is_a some))
-    | inr not_a ↦ elim (cases_eq c b) [
-      | inl is_b ↦ subst (λ k. get_or numbers' k 0 ≡ get_or numbers k 0) (sym is_b) (share.second ∙ of_b share.old (subst (λ k. 0 < get_or numbers k 0) is_b some))
-      | inr not_b ↦ share.others c not_a not_b
-    ]
-  ]
-    where
-      of_a : Choice → 0 < get_or numbers a 0 → share.number ≡ get_or numbers a 0
-      of_a (inl (is, _, _)) some = is
-      of_a (inr (inl (is, some', _))) some = elim share.free [ inl none ↦ absurd (omega (arith, none, some)) | inr none ↦ absurd (omega (arith, none, is, some')) ]
-      of_a (inr (inr (_, _, none, _))) some = absurd (omega (arith, none, some))
-
-      of_b : Choice → 0 < get_or numbers b 0 → share.number ≡ get_or numbers b 0
-      of_b (inl (is, some', _)) some = elim share.free [ inl none ↦ absurd (omega (arith, none, is, some')) | inr none ↦ absurd (omega (arith, none, some)) ]
-      of_b (inr (inl (is, _, _))) some = is
-      of_b (inr (inr (_, _, _, none))) some = absurd (omega (arith, none, some))
+  number_stays c some = search (arith, cases_eq)
 
   -- the shared number is one, and at most the last
   pub shared_some : 0 < share.number
-  shared_some = elim share.old [
-    | inl given ↦ given.1
-    | inr rest ↦ elim rest [ inl given ↦ given.1 | inr new ↦ let is = new.0 in omega (arith, is) ]
-  ]
+  shared_some = search arith
 
   shared_most : AreNumbers last numbers → share.number ≤ last'
-  shared_most are = elim share.old [
-    | inl given ↦ let is = given.0 in let same = given.2 in let most = are.at_most a in omega (arith, is, same, most)
-    | inr rest ↦ elim rest [
-      | inl given ↦ let is = given.0 in let same = given.2 in let most = are.at_most b in omega (arith, is, same, most)
-      | inr new ↦ let is = new.0 in let more = new.1 in omega (arith, is, more)
-    ]
-  ]
+  shared_most are = search arith
 
   last_grows : last ≤ last'
-  last_grows = elim share.old [
-    | inl given ↦ let same = given.2 in omega (arith, same)
-    | inr rest ↦ elim rest [ inl given ↦ let same = given.2 in omega (arith, same) | inr new ↦ let more = new.1 in omega (arith, more) ]
-  ]
+  last_grows = search arith
 
   -- what had a number has one
   pub some_stays : (c : ℕ) → 0 < get_or numbers c 0 → 0 < get_or numbers' c 0
   some_stays c some = subst (λ k. 0 < k) (sym (number_stays c some)) some
 
   pub shared_numbers : 0 < a → 0 < b → last' + zeros numbers' ≤ last + zeros numbers → AreNumbers last numbers → AreNumbers last' numbers'
-  shared_numbers a_some b_some fewer are = record {
-    at_most = at_most;
-    none = share.others 0 (λ is. omega (arith, is, a_some)) (λ is. omega (arith, is, b_some)) ∙ are.none;
-    few = let few = are.few in let len = share.len in omega (arith, few, fewer, len);
-  }
-    where
-      at_most : (c : ℕ) → get_or numbers' c 0 ≤ last'
-      at_most c = elim (cases_eq c a) [
-        | inl is_a ↦ subst (λ k. k ≤ last') (sym (ap (λ k. get_or numbers' k 0) is_a ∙ share.first)) (shared_most are)
-        | inr not_a ↦ elim (cases_eq c b) [
-          | inl is_b ↦ subst (λ k. k ≤ last') (sym (ap (λ k. get_or numbers' k 0) is_b ∙ share.second)) (shared_most are)
-          | inr not_b ↦ let same = share.others c not_a not_b in let most = are.at_most c in let grows = last_grows in omega (arith, same, most, grows)
-        ]
-      ]
+  shared_numbers a_some b_some fewer are = search (arith, cases_eq, shared_most, last_grows)
 
 -- a label that a link leaves is that of one of its ends
 leaves_end : (labels : List ℕ) (m : Link) (c : ℕ) → LeavesLabel labels m c → (get_or labels m.low 0 ≡ c) ⊎ (get_or labels m.high 0 ≡ c)
-leaves_end labels m c (inl (at, _)) = inl at
-leaves_end labels m c (inr (_, at)) = inr at
+leaves_end a1 a2 a3 a4 = search arith
 
 -- The link that is looked at next, and its ends' labels.
 pub record Next (labels : List ℕ) (rest seen : List Link) (x : Link) : Type 0 where

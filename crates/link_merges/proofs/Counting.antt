@@ -114,9 +114,4 @@ module _ (n : ℕ) (links : List Link) (ends : EndsUpTo n links) (i : ℕ) (rows
   }
 
 pub all_merged : (n : ℕ) (links : List Link) (i : ℕ) (rows : List Merge) → length links ≤ i → AreMergesUpTo n links i rows → AreMerges n links rows
-all_merged n links i rows past are = record {
-  as_many = are.as_many;
-  each = λ j l merge link_at at.
-      let within = slice_get_within links j l link_at in
-      subst (IsMerge n links j l) (get_or_from_slice_get rows j merge no_row at) (are.before j l (omega (arith, within, past)) link_at);
-}
+all_merged n links i rows past are = search (arith, slice_get_within, get_or_from_slice_get)

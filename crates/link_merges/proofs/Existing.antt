@@ -33,10 +33,7 @@ module _ (n : ℕ) (links : List Link) (ends : EndsUpTo n links) (acyclic : IsAc
   }
 
   has : HasEnds n links k l row
-  has = record {
-    low = (cluster_for n links l.low l.from_one in_n.0 k).1;
-    high = (cluster_for n links l.high in_n.1 in_n.2 k).1;
-  }
+  has = search (arith, cluster_for)
 
   size : (c : ℕ) → c < n + k → HasSize (IsInCluster n links c) (points_in n before.merges c)
   size c there = size_of n links before.merges k c (omega (arith, lt))

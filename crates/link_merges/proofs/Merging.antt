@@ -23,11 +23,7 @@ link_there links k lt = elim (slice_get_cases links k).1 [
 ]
 
 pub ends_in : (n : ℕ) (links : List Link) (k : ℕ) (l : Link) → EndsUpTo n links → slice_get links k ≡ Some l → (l.low ≤ n) × (1 ≤ l.high) × (l.high ≤ n)
-ends_in n links k l ends link_at =
-    let most : l.high ≤ n = subst (λ (x : Link). x.high ≤ n) (get_or_from_slice_get links k l l link_at) (ends k l (slice_get_within links k l link_at)) in
-    let one = l.from_one in
-    let up = l.ascending in
-    (omega (arith, up, most), omega (arith, one, up), most)
+ends_in n links k l ends link_at = search (arith, get_or_from_slice_get, slice_get_within)
 
 -- the links up to place k are those before it and the link there
 first_more : (links : List Link) (k : ℕ) (l : Link) → slice_get links k ≡ Some l → take (k + 1) links ≡ take k links ++ l ∷ []

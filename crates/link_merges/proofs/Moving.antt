@@ -15,18 +15,7 @@ use Rattle.link_merges.proofs.Unique.{one_cluster}
 -- what stands for cluster c once something else stands for two clusters
 pub both_set : (now : List ℕ) (x y next : ℕ) → x < length now → y < length now → (c : ℕ)
     → (((c ≡ x) ⊎ (c ≡ y)) × (now_of (set (set now x next) y next) c ≡ next)) ⊎ ((c ≢ x) × (c ≢ y) × (now_of (set (set now x next) y next) c ≡ now_of now c))
-both_set now x y next x_in y_in c = elim (cases_eq c y) [
-  | inl same ↦ inl (
-    inr same,
-    ap (λ d. get_or (set (set now x next) y next) d c) same ∙ get_or-set_same (set now x next) y next c (let len = length-set now x next in omega (arith, len, y_in)),
-  )
-  | inr not_y ↦
-      let first : now_of (set (set now x next) y next) c ≡ now_of (set now x next) c = get_or-set_other (set now x next) y c next c not_y in
-      elim (cases_eq c x) [
-        | inl same ↦ inl (inl same, first ∙ ap (λ d. get_or (set now x next) d c) same ∙ get_or-set_same now x next c x_in)
-        | inr not_x ↦ inr (not_x, not_y, first ∙ get_or-set_other now x c next c not_x)
-      ]
-]
+both_set now x y next x_in y_in c = search (arith, cases_eq, set, get_or-set_same, length-set, get_or-set_other)
 
 -- what is joined has one cluster
 same_cluster : (n : ℕ) (links : List Link) (k u w c : ℕ) → IsClusterOf n links k u c → FirstJoin links k u w → IsClusterOf n links k w c

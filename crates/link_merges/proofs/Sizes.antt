@@ -61,9 +61,4 @@ size_both P Q R a b of_p of_q apart are = record {
 
 -- what has the same numbers has the same size
 pub size_same : (P Q : ℕ → Type 0) (size : ℕ) → HasSize P size → ((v : ℕ) → P v ↔ Q v) → HasSize Q size
-size_same P Q size has are = record {
-  numbers = has.numbers;
-  distinct = has.distinct;
-  exact = λ v. (λ v_in. (are v).0 ((has.exact v).0 v_in), λ v_is. (has.exact v).1 ((are v).1 v_is));
-  counted = has.counted;
-}
+size_same P Q size has are = search arith

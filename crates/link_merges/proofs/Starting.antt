@@ -25,9 +25,7 @@ module _ (n : ℕ) (links : List Link) (ends : EndsUpTo n links) (rows : List Me
   len = ap length are ∙ simp length-map
 
   row_is : (j : ℕ) (l : Link) → j < length rows → slice_get links j ≡ Some l → row_at rows j ≡ points_of l
-  row_is j l lt at =
-      let same = len in
-      ap (λ (rs : List Merge). row_at rs j) are ∙ get_or-map points_of links j l no_row (omega (arith, same, lt)) ∙ ap points_of (get_or_from_slice_get links j l l at)
+  row_is j l lt at = search (arith, len, get_or-map, get_or_from_slice_get)
 
   pub points_below : (end : ℕ) → end ≡ n + length links → AreBelow end rows
   points_below end end_is j lt =

@@ -22,9 +22,7 @@ module _ (n : ℕ) (links : List Link) (i : ℕ) (l : Link) (link_at : slice_get
   not_both v of_low of_high = two (joins_trans S l.low v l.high of_low (joins_symm S l.high v of_high))
 
   by_ends : (v : ℕ) → JoinsThrough S l l.low v → FirstJoin links i l.low v ⊎ FirstJoin links i l.high v
-  by_ends v (inl joined) = inl joined
-  by_ends v (inr (inl (to, from))) = inr from
-  by_ends v (inr (inr (to, from))) = inl from
+  by_ends a1 a2 = search arith
 
   -- the new cluster has what was joined to either end
   of_ends : (v : ℕ) → IsInCluster n links (n + i) v ↔ (FirstJoin links i l.low v ⊎ FirstJoin links i l.high v)
@@ -37,12 +35,7 @@ module _ (n : ℕ) (links : List Link) (i : ℕ) (l : Link) (link_at : slice_get
   -- by clusters of the one end p and of the other end q
   module _ (merge : Merge) (size : HasSize (IsInCluster n links (n + i)) merge.size) (apart : (v : ℕ) → IsInCluster n links merge.first v → ¬ (IsInCluster n links merge.second v)) (both : (v : ℕ) → IsInCluster n links (n + i) v ↔ (IsInCluster n links merge.first v ⊎ IsInCluster n links merge.second v)) where
     union : IsUnion n links i merge
-    union = record {
-      apart = apart;
-      both = both;
-      sizes = λ a b of_first of_second. one_size (IsInCluster n links (n + i)) merge.size (a + b) size
-          (size_both (IsInCluster n links merge.first) (IsInCluster n links merge.second) (IsInCluster n links (n + i)) a b of_first of_second apart both);
-    }
+    union = search (arith, one_size, size_both)
 
   united : (merge : Merge) → IsMerge n links i l merge → IsUnion n links i merge
   united merge is = elim is.ends [

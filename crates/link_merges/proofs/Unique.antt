@@ -22,11 +22,7 @@ use Rattle.link_merges.proofs.Sizes.{Differ}
 
 -- numbers are told apart by `==`
 numbers_apart : IsEquivalence eqb
-numbers_apart = record {
-  refl = λ x. eq-eqb x x refl;
-  symm = λ x y. elim (eqb_tells x y) [ inl (test, same) ↦ test ∙ sym (eq-eqb y x (sym same)) | inr (test, other) ↦ test ∙ sym (ne_eqb y x (λ same. other (sym same))) ];
-  congr = λ x y z same. ap (λ k. eqb k z) (eqb-true x y same);
-}
+numbers_apart = search (arith, eq-eqb, eqb_tells, ne_eqb, eqb, eqb-true)
 
 -- different numbers, each of them in another list, are no more than that has
 no_more : (xs ys : List ℕ) → AllPairs Differ xs → ((v : ℕ) → Contains xs v → Contains ys v) → length xs ≤ length ys
@@ -67,8 +63,7 @@ module _ (n : ℕ) (links : List Link) (k : ℕ) (none : CloseNone links k) wher
 
   -- a point has one vertex
   only : (c v : ℕ) → c < n → IsInCluster n links c v → v ≡ c + 1
-  only c v lt (inl is) = is.1
-  only c v lt (inr made) = absurd (let e = made.2 in omega (arith, e, lt))
+  only a1 a2 a3 a4 = search arith
 
   -- a point hasn't the vertices of a cluster that a link makes
   no_point : (c i : ℕ) (l : Link) → slice_get links i ≡ Some l → c < n → ((v : ℕ) → IsInCluster n links (n + i) v → IsInCluster n links c v) → ⊥
@@ -110,10 +105,7 @@ module _ (n : ℕ) (links : List Link) (k : ℕ) (none : CloseNone links k) wher
   in_order : (first second first' second' low high : ℕ) → first < second → first' < second'
       → ((low ≡ first) × (high ≡ second)) ⊎ ((high ≡ first) × (low ≡ second)) → ((low ≡ first') × (high ≡ second')) ⊎ ((high ≡ first') × (low ≡ second'))
       → (first ≡ first') × (second ≡ second')
-  in_order first second first' second' low high up up' (inl are) (inl are') = (sym are.0 ∙ are'.0, sym are.1 ∙ are'.1)
-  in_order first second first' second' low high up up' (inr are) (inr are') = (sym are.0 ∙ are'.0, sym are.1 ∙ are'.1)
-  in_order first second first' second' low high up up' (inl are) (inr are') = absurd (let a = are.0 in let b = are.1 in let c = are'.0 in let d = are'.1 in omega (arith, a, b, c, d, up, up'))
-  in_order first second first' second' low high up up' (inr are) (inl are') = absurd (let a = are.0 in let b = are.1 in let c = are'.0 in let d = are'.1 in omega (arith, a, b, c, d, up, up'))
+  in_order a1 a2 a3 a4 a5 a6 a7 a8 a9 a10 = search arith
 
   -- by the clusters of the first merge for both ends
   ends_of : (l : Link) (low high first second : ℕ) → IsClusterOf n links k l.low low → IsClusterOf n links k l.high high

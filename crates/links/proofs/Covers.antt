@@ -22,10 +22,7 @@ IsDownward P = (l m : Link) → P l → IsBelow m l → P m
 
 -- so is whatever isn't above one
 not_above_in : (P : LinkSet) → IsDownward P → (l m : Link) → P l → ¬ (IsBelow l m) → P m
-not_above_in P down l m l_in apart = elim (trichotomy m l) [
-  | inl below ↦ down l m l_in below
-  | inr rest ↦ elim rest [ inl same ↦ subst P (sym same) l_in | inr above ↦ absurd (apart above) ]
-]
+not_above_in P down l m l_in apart = search (arith, trichotomy)
 
 -- Of such a set the links of a cover join what the list's do: each of the list's has its ends joined by some that aren't
 -- above it, which are in the set with it.
@@ -100,8 +97,7 @@ covers_together first second a b of_first of_second = record {
 }
 
 pub forest_of_forests : ForestOfForests
-forest_of_forests first second a b forest is_a is_b =
-    cover_has_forest (first ++ second) (a ++ b) forest (covers_together first second a b (forest_covers_list first a is_a) (forest_covers_list second b is_b))
+forest_of_forests first second a b forest is_a is_b = search (arith, cover_has_forest, covers_together, forest_covers_list)
 
 pub forest_of_same_links : ForestOfSameLinks
 forest_of_same_links links other forest same = cover_has_forest other links forest (same_links_cover other links (λ l. ((same l).1, (same l).0)))

@@ -16,10 +16,7 @@ abbrev IsOnce : List Link → Type 0
 IsOnce xs = (i j : ℕ) (d : Link) → i < length xs → j < length xs → get_or xs i d ≡ get_or xs j d → i ≡ j
 
 once_from_pairs : (xs : List Link) → AllPairs (λ l m. l ≢ m) xs → IsOnce xs
-once_from_pairs xs pairs i j d i_in j_in same = elim (cases_lt i j) [
-  | inl lt ↦ absurd (pairs i j d lt j_in same)
-  | inr ge ↦ elim (cases_lt j i) [ inl lt ↦ absurd (pairs j i d lt i_in (sym same)) | inr le ↦ omega (arith, ge, le) ]
-]
+once_from_pairs xs pairs i j d i_in j_in same = search (arith, cases_lt)
 
 -- where a link stood before two links changed places
 abbrev IsBack : ℕ → ℕ → ℕ → ℕ → Type 0
@@ -43,15 +40,7 @@ stood_at xs ys a b i d a_in b_in is i_in =
     ]
 
 one_back : (a b i j k m : ℕ) → IsBack a b i k → IsBack a b j m → k ≡ m → i ≡ j
-one_back a b i j k m (inl (p, q)) (inl (r, s)) e = omega (arith, p, q, r, s, e)
-one_back a b i j k m (inl (p, q)) (inr (inl (r, s))) e = omega (arith, p, q, r, s, e)
-one_back a b i j k m (inl (p, q)) (inr (inr (r, s, t))) e = absurd (s (omega (arith, p, q, t, e)))
-one_back a b i j k m (inr (inl (p, q))) (inl (r, s)) e = omega (arith, p, q, r, s, e)
-one_back a b i j k m (inr (inl (p, q))) (inr (inl (r, s))) e = omega (arith, p, q, r, s, e)
-one_back a b i j k m (inr (inl (p, q))) (inr (inr (r, s, t))) e = absurd (r (omega (arith, p, q, t, e)))
-one_back a b i j k m (inr (inr (p, q, o))) (inl (r, s)) e = absurd (q (omega (arith, o, r, s, e)))
-one_back a b i j k m (inr (inr (p, q, o))) (inr (inl (r, s))) e = absurd (p (omega (arith, o, r, s, e)))
-one_back a b i j k m (inr (inr (p, q, o))) (inr (inr (r, s, t))) e = omega (arith, o, t, e)
+one_back a1 a2 a3 a4 a5 a6 a7 a8 a9 = search arith
 
 once_swapped : (xs : List Link) (a b : ℕ) → a < length xs → b < length xs → IsOnce xs → IsOnce (swap xs a b)
 once_swapped xs a b a_in b_in once i j d i_in j_in same =
@@ -71,10 +60,4 @@ ascending_once xs ys pairs moved sorted = (ascending_by_neighbours ys true (λ k
     once = once_permuted xs ys moved (once_from_pairs xs pairs)
 
     below_next : (k : ℕ) (d : Link) → k + 1 < length ys → is_below (get_or ys k d) (get_or ys (k + 1) d) ≡ true
-    below_next k d lt = elim (trichotomy (get_or ys k d) (get_or ys (k + 1) d)) [
-      | inl below ↦ ap is_lt below
-      | inr rest ↦ elim rest [
-        | inl same ↦ absurd (let one : k ≡ k + 1 = once k (k + 1) d (omega (arith, lt)) lt same in omega (arith, one))
-        | inr above ↦ let wrong : false ≡ true = sym (sorted k d (omega arith) lt) ∙ ap is_lt above in absurd (cc)
-      ]
-    ]
+    below_next k d lt = search (arith, trichotomy, once)

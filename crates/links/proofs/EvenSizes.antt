@@ -19,9 +19,7 @@ module _ (most count len : ℕ) (some : 0 < count) where
     | inl large ↦ inl (large.0, omega (arith, large.1), large.2)
     | inr few ↦ elim (cases_lt most (even_size len count k)) [
       | inl large ↦ inl (k, omega arith, large)
-      | inr small ↦ inr (
-          let next : suc k * len / count ≡ (k + 1) * len / count = ap (λ x. x * len / count) (omega arith) in
-          omega (arith, small, few, next, suc-mul k most))
+      | inr small ↦ search (arith, suc-mul)
     ]
   ]
 
@@ -34,22 +32,12 @@ module _ (most count len : ℕ) (some : 0 < count) where
 
   -- and where they do, none is
   pub none_is_large : len ≤ most * count → (i : ℕ) → even_size len count i ≤ most
-  none_is_large few i =
-      let before = i * len / count in
-      let next : (i + 1) * len ≡ i * len + len = add-mul i 1 len ∙ omega (arith, one-mul len) in
-      let room : (before + 1 + most) * count ≡ before * count + count + most * count =
-      add-mul (before + 1) most count ∙ omega (arith, add-mul before 1 count, one-mul count) in
-      let short : (i + 1) * len < (before + 1 + most) * count = omega (arith, next, room, few, lt-div-mul-add {a = i * len} some) in
-      let bound : (i + 1) * len / count < before + 1 + most = (div-lt_iff_lt-mul some).1 short in
-      omega (arith, bound)
+  none_is_large few i = search (arith, add-mul, one-mul, lt-div-mul-add, div-lt_iff_lt-mul)
 
 pub refused_for_a_large_shard : RefusedForALargeShard
 refused_for_a_large_shard len count some few = (to, from) where
   to : even_refusal len count ≡ Some ShardTooLarge → HasLargeShard len count
-  to refused = elim (cases_lt (MAX_SHARD_LINKS * count) len) [
-    | inl many ↦ one_is_large MAX_SHARD_LINKS count len some many
-    | inr fits ↦ grind (arith, nat_tests, refused, fits, some, few)
-  ]
+  to refused = search (arith, cases_lt, one_is_large, nat_tests)
 
   from : HasLargeShard len count → even_refusal len count ≡ Some ShardTooLarge
   from (i, within, large) = elim (cases_lt (MAX_SHARD_LINKS * count) len) [

@@ -1,5 +1,5 @@
 -- What passes a test, of a list.
-use Rattle.std.proofs.Common.{◌≡◌, Bool, true, false, cond, List, [], ◌∷◌, Contains, refl, sym, ap, ◌∙◌, subst, inl, inr}
+use Rattle.std.proofs.Common.{◌≡◌, Bool, true, false, cond, List, [], ◌∷◌, Contains, refl, sym, ap, ◌∙◌, subst, inl, inr, arith}
 use mathlib.Core.Bool.{false≢true}
 use Rattle.std.specs.Prelude.{filter}
 use Rattle.links.proofs.Members.{contains_cases, contains_head, contains_none, contains_tail}
@@ -7,14 +7,7 @@ use Rattle.links.proofs.Members.{contains_cases, contains_head, contains_none, c
 -- what a test keeps of a list
 pub kept_in : {X : Type 0} (p : X → Bool) (xs : List X) (x : X) → Contains (filter p xs) x → Contains xs x × (p x ≡ true)
 kept_in p [] x x_in = absurd (contains_none x x_in)
-kept_in {X} p (y ∷ xs) x x_in = by_test (p y) refl (kept_in p xs x)
-  where
-    by_test : (b : Bool) → p y ≡ b → (Contains (filter p xs) x → Contains xs x × (p x ≡ true)) → Contains (y ∷ xs) x × (p x ≡ true)
-    by_test true passes later = elim (contains_cases y x (filter p xs) (subst (λ b. Contains (cond b (y ∷ filter p xs) (filter p xs)) x) passes x_in)) [
-      | inl is ↦ (subst (Contains (y ∷ xs)) (sym is) (contains_head y xs), ap p is ∙ passes)
-      | inr x_in' ↦ let rest = later x_in' in (contains_tail y x xs rest.0, rest.1)
-    ]
-    by_test false fails later = let rest = later (subst (λ b. Contains (cond b (y ∷ filter p xs) (filter p xs)) x) fails x_in) in (contains_tail y x xs rest.0, rest.1)
+kept_in {X} p (y ∷ xs) x x_in = search (arith, contains_cases, cond, contains_head, contains_tail, kept_in p xs x)
 
 pub kept_if : {X : Type 0} (p : X → Bool) (xs : List X) (x : X) → Contains xs x → p x ≡ true → Contains (filter p xs) x
 kept_if p [] x x_in passes = absurd (contains_none x x_in)

@@ -35,17 +35,7 @@ key_cmp_total =
 
 -- links that compare as equal are one link
 pub equal_keys : (l m : Link) → key_cmp l m ≡ Equal → l ≡ m
-equal_keys l m tied =
-    let same =
-    exact_pairs
-    int_cmp
-    (λ x y. ordering_then (nat_cmp x.0 y.0) (nat_cmp x.1 y.1))
-    exact_signed
-    (exact_pairs nat_cmp nat_cmp exact_unsigned exact_unsigned)
-    (l.weight, (l.low, l.high))
-    (m.weight, (m.low, m.high))
-    tied in
-    link_eq l m (ap (λ key. key.0) same) (ap (λ key. key.1.0) same) (ap (λ key. key.1.1) same)
+equal_keys l m tied = search (arith, exact_pairs, int_cmp, nat_cmp, exact_signed, exact_unsigned, link_eq)
 
 pub below_trans : (k l m : Link) → IsBelow k l → IsBelow l m → IsBelow k m
 below_trans k l m = key_cmp_total.trans k l m
@@ -58,12 +48,7 @@ below_asymm l m below above = below_irrefl l (below_trans l m l below above)
 
 -- of two links one is below the other, or they are one
 pub trichotomy : (l m : Link) → IsBelow l m ⊎ (l ≡ m) ⊎ IsBelow m l
-trichotomy l m = by_order (key_cmp l m) refl
-  where
-    by_order : (o : Ordering) → key_cmp l m ≡ o → IsBelow l m ⊎ (l ≡ m) ⊎ IsBelow m l
-    by_order Less is = inl is
-    by_order Equal is = inr (inl (equal_keys l m is))
-    by_order Greater is = inr (inr (key_cmp_total.antisymm m l ∙ ap ordering_reverse is))
+trichotomy l m = search (arith, equal_keys)
 
 pub link_dec : (l m : Link) → (l ≡ m) ⊎ (¬ (l ≡ m))
 link_dec l m = elim (trichotomy l m) [
@@ -75,13 +60,7 @@ link_dec l m = elim (trichotomy l m) [
 ]
 
 pub below_dec : (l m : Link) → IsBelow l m ⊎ (¬ (IsBelow l m))
-below_dec l m = elim (trichotomy l m) [
-  | inl below ↦ inl below
-  | inr rest ↦ elim rest [
-    | inl same ↦ inr (λ below. below_irrefl m (subst (λ k. IsBelow k m) same below))
-    | inr above ↦ inr (λ below. below_asymm l m below above)
-  ]
-]
+below_dec l m = search (arith, trichotomy, below_irrefl, below_asymm)
 
 -- the first link of an ascending list is below each other
 pub ascending_head : (l : Link) (ls : List Link) → IsAscending (l ∷ ls) → (m : Link) → Contains ls m → IsBelow l m
@@ -98,9 +77,7 @@ abbrev pub is_below : Link → Link → Bool
 is_below l m = is_lt (key_cmp l m)
 
 is_below_true : (o : Ordering) → is_lt o ≡ true → o ≡ Less
-is_below_true Less is = refl
-is_below_true Equal is = absurd (cc)
-is_below_true Greater is = absurd (cc)
+is_below_true a1 a2 = search arith
 
 -- what a look at each pair of neighbours answers
 pub ascending_by_neighbours : (links : List Link) (r : Bool) → IsAllAdjacentAnswer (λ l m b. b ≡ is_below l m) links r → IsTrue r ↔ IsAscending links
@@ -108,12 +85,4 @@ ascending_by_neighbours links r answer = all_pairs_by_neighbours IsBelow below_t
 
 -- A list that ascends is sorted.
 pub ascending_sorted : (links : List Link) → IsAscending links → IsSorted key_cmp links
-ascending_sorted links up k d _ lt =
-    let l = get_or links k d in
-    let m = get_or links (k + 1) d in
-    not_less (key_cmp m l) (λ below. below_asymm l m (up k (k + 1) d (omega arith) lt) below)
-  where
-    not_less : (o : Ordering) → (o ≡ Less → ⊥) → is_lt o ≡ false
-    not_less Less less = absurd (less refl)
-    not_less Equal less = refl
-    not_less Greater less = refl
+ascending_sorted links up k d _ lt = search (arith, below_asymm, is_lt)

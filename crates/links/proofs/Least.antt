@@ -28,21 +28,12 @@ use Rattle.links.proofs.ForestSpans.{forest_no_cycle, forest_spans}
 
 -- a link that is below another weighs no more
 pub below_weighs : (l m : Link) → IsBelow l m → l.weight ≤ℤ m.weight
-below_weighs l m below = by_rank (int_cmp l.weight m.weight) (int_ranks l.weight m.weight) below
-  where
-    by_rank : (r : Ordering) → MatchOrdering r (l.weight <ℤ m.weight) (l.weight ≡ m.weight) (m.weight <ℤ l.weight)
-        → ordering_then r (ordering_then (nat_cmp l.low m.low) (nat_cmp l.high m.high)) ≡ Less → l.weight ≤ℤ m.weight
-    by_rank Less rank is = omega (arith, ints, rank)
-    by_rank Equal rank is = omega (arith, ints, rank)
-    by_rank Greater rank is = absurd (search rules)
+below_weighs l m below = search (arith, int_cmp, int_ranks, nat_cmp, ints)
 
 -- the first link's weight, then the others'
 sum_from : (start : ℤ) (links : List Link) → fold (λ sum l. sum +ℤ l.weight) start links ≡ start +ℤ sum_of_weights links
 sum_from start [] = omega (arith, ints)
-sum_from start (l ∷ links) =
-    let whole = sum_from (start +ℤ l.weight) links in
-    let own = sum_from (pos 0 +ℤ l.weight) links in
-    omega (arith, ints, whole, own)
+sum_from start (l ∷ links) = search (arith, ints, sum_from (start +ℤ l.weight) links, sum_from (pos 0 +ℤ l.weight) links)
 
 pub sum_cons : (l : Link) (links : List Link) → sum_of_weights (l ∷ links) ≡ l.weight +ℤ sum_of_weights links
 sum_cons l links = let own = sum_from (pos 0 +ℤ l.weight) links in omega (arith, ints, own)
@@ -54,11 +45,7 @@ pub record AddsUpWithin (n : ℕ) (sum : ℤ) : Type 0 where
 
 pub sum_within : (links : List Link) → AddsUpWithin (length links) (sum_of_weights links)
 sum_within [] = record { above = omega (arith, ints); below = omega (arith, ints) }
-sum_within (l ∷ links) =
-    let rest = sum_within links in
-    let whole = sum_cons l links in
-    let fits = l.weight_fits in
-    record { above = omega (arith, ints, whole, fits, rest.above); below = omega (arith, ints, whole, fits, rest.below) }
+sum_within (l ∷ links) = search (arith, sum_cons, ints, sum_within links)
 
 -- ---- lists without one of their links
 
@@ -217,16 +204,7 @@ needed links l is S none part lacks joined = elim (find S l S) [
 ]
   where
     left : (above : Above l S) → (m : Link) → Beside (Contains S) above.part m → LinksBelow links l m
-    left above m m_in = (
-      part m m_in.0,
-      elim (trichotomy m l) [
-        | inl below ↦ below
-        | inr rest ↦ elim rest [
-          | inl same ↦ absurd (lacks (subst (Contains S) same m_in.0))
-          | inr over ↦ absurd (m_in.1 (above.covers m m_in.0 over))
-        ]
-      ],
-    )
+    left above m m_in = search (arith, trichotomy)
 
 -- the forest's links are in two lists, those that are taken and those that aren't yet
 record Taking (links taken left : List Link) : Type 0 where

@@ -4,8 +4,7 @@ use Rattle.std.specs.Prelude.{AllPairs}
 
 -- what a list with one more element at its front contains
 pub contains_cases : {X : Type 0} (y x : X) (ys : List X) → Contains (y ∷ ys) x → (x ≡ y) ⊎ Contains ys x
-contains_cases y x ys (zero, lt, e) = inl (sym e)
-contains_cases y x ys (suc k, lt, e) = inr (k, omega arith, e)
+contains_cases a1 a2 a3 a4 = search arith
 
 pub contains_head : {X : Type 0} (y : X) (ys : List X) → Contains (y ∷ ys) y
 contains_head y ys = (0, omega arith, refl)

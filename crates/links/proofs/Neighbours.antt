@@ -11,15 +11,7 @@ all_pairs_from_neighbours R trans xs adjacent i j d lt in_range =
   where
     reach : (n : ℕ) → i + suc n < length xs → R (slice_index_or xs i d) (slice_index_or xs (i + suc n) d)
     reach zero within = adjacent i d within
-    reach (suc n) within =
-        let next : suc (i + suc n) ≡ i + suc (suc n) = omega arith in
-        let step = adjacent (i + suc n) d (omega arith) in
-        trans
-        (slice_index_or xs i d)
-        (slice_index_or xs (i + suc n) d)
-        (slice_index_or xs (i + suc (suc n)) d)
-        (reach n (omega arith))
-        (subst (λ p. R (slice_index_or xs (i + suc n) d) (slice_index_or xs p d)) next (rw add-one at step))
+    reach (suc n) within = search (arith, slice_index_or, add-one, reach n (omega arith))
 
 -- what a look at each pair of neighbours answers, with a test that decides the relation
 pub all_pairs_by_neighbours : {X : Type 0} (R : X → X → Type 0) → ((x y z : X) → R x y → R y z → R x z) → (test : X → X → Bool) → ((x y : X) → (test x y ≡ true) ↔ R x y) → (xs : List X) (r : Bool) → IsAllAdjacentAnswer (λ x y b. b ≡ test x y) xs r → IsTrue r ↔ AllPairs R xs

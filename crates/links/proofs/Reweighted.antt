@@ -21,20 +21,10 @@ abbrev key_order : Key → Key → Ordering
 key_order k j = ordering_then (int_cmp k.0 j.0) (ordering_then (nat_cmp k.1 j.1) (nat_cmp k.2 j.2))
 
 ranks_less : (x y : ℤ) → x <ℤ y → int_cmp x y ≡ Less
-ranks_less x y less = by_rank (int_cmp x y) (int_ranks x y)
-  where
-    by_rank : (r : Ordering) → MatchOrdering r (x <ℤ y) (x ≡ y) (y <ℤ x) → r ≡ Less
-    by_rank Less rank = refl
-    by_rank Equal rank = absurd (omega (arith, ints, less, rank))
-    by_rank Greater rank = absurd (omega (arith, ints, less, rank))
+ranks_less x y less = search (arith, int_cmp, int_ranks, ints)
 
 ranks_equal : (x : ℤ) → int_cmp x x ≡ Equal
-ranks_equal x = by_rank (int_cmp x x) (int_ranks x x)
-  where
-    by_rank : (r : Ordering) → MatchOrdering r (x <ℤ x) (x ≡ x) (x <ℤ x) → r ≡ Equal
-    by_rank Less rank = absurd (omega (arith, ints, rank))
-    by_rank Equal rank = refl
-    by_rank Greater rank = absurd (omega (arith, ints, rank))
+ranks_equal x = search (arith, int_cmp, int_ranks, ints)
 
 -- links with one key are one
 one_key : (l m : Link) → key_of l ≡ key_of m → l ≡ m
@@ -77,17 +67,7 @@ module _ (f : ℤ → ℤ) (links changed : List Link) (keeps : KeepsOrder f lin
   -- ---- their order
 
   keys_below : (l m : Link) → Contains links l → Contains links m → IsBelow l m → key_order (reweighted_key f l) (reweighted_key f m) ≡ Less
-  keys_below l m l_in m_in below = by_rank (int_cmp l.weight m.weight) (int_ranks l.weight m.weight) below
-    where
-      ends : Ordering
-      ends = ordering_then (nat_cmp l.low m.low) (nat_cmp l.high m.high)
-
-      by_rank : (r : Ordering) → MatchOrdering r (l.weight <ℤ m.weight) (l.weight ≡ m.weight) (m.weight <ℤ l.weight)
-          → ordering_then r (ordering_then (nat_cmp l.low m.low) (nat_cmp l.high m.high)) ≡ Less → key_order (reweighted_key f l) (reweighted_key f m) ≡ Less
-      by_rank Less rank is = ap (λ r. ordering_then r (ordering_then (nat_cmp l.low m.low) (nat_cmp l.high m.high))) (ranks_less (f l.weight) (f m.weight) (keeps l m l_in m_in rank))
-      by_rank Equal rank is =
-          ap (λ r. ordering_then r (ordering_then (nat_cmp l.low m.low) (nat_cmp l.high m.high))) (ap (λ x. int_cmp (f l.weight) (f x)) (sym rank) ∙ ranks_equal (f l.weight)) ∙ is
-      by_rank Greater rank is = absurd (cc)
+  keys_below l m l_in m_in below = search (arith, int_cmp, int_ranks, nat_cmp, ranks_less, ranks_equal)
 
   below_changed : (l m l' m' : Link) → Contains links l → Contains links m → IsReweighted f l l' → IsReweighted f m m' → IsBelow l m → IsBelow l' m'
   below_changed l m l' m' l_in m_in l_is m_is below = ap₂ key_order l_is m_is ∙ keys_below l m l_in m_in below
@@ -96,13 +76,7 @@ module _ (f : ℤ → ℤ) (links changed : List Link) (keeps : KeepsOrder f lin
   one_changed l m l' m' l_is m_is same = one_key l' m' (l_is ∙ ap (reweighted_key f) same ∙ sym m_is)
 
   below_own : (l m l' m' : Link) → Contains links l → Contains links m → IsReweighted f l l' → IsReweighted f m m' → IsBelow l' m' → IsBelow l m
-  below_own l m l' m' l_in m_in l_is m_is below = elim (trichotomy l m) [
-    | inl is ↦ is
-    | inr rest ↦ elim rest [
-      | inl same ↦ absurd (below_irrefl m' (subst (λ k. IsBelow k m') (one_changed l m l' m' l_is m_is same) below))
-      | inr above ↦ absurd (below_asymm l' m' below (below_changed m l m' l' m_in l_in m_is l_is above))
-    ]
-  ]
+  below_own l m l' m' l_in m_in l_is m_is below = search (arith, trichotomy, below_irrefl, one_changed, below_asymm, below_changed)
 
   one_own : (l m l' m' : Link) → Contains links l → Contains links m → IsReweighted f l l' → IsReweighted f m m' → l' ≡ m' → l ≡ m
   one_own l m l' m' l_in m_in l_is m_is same = elim (trichotomy l m) [

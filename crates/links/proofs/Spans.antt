@@ -18,12 +18,10 @@ use Rattle.links.specs.declared.cuts.CutFault.TheVariants.{NoShards, TooManyShar
 
 -- both tests hold where their conjunction does
 pub both_first : (a b : Bool) → (a && b) ≡ true → a ≡ true
-both_first true b h = refl
-both_first false b h = h
+both_first a1 a2 a3 = search arith
 
 pub both_second : (a b : Bool) → (a && b) ≡ true → b ≡ true
-both_second true b h = h
-both_second false b h = absurd (cc)
+both_second a1 a2 a3 = search arith
 
 -- a test that each span passes holds of each
 pub test_at : (p : (ℕ × ℕ) → Bool) (from len : ℕ) (places : List ℕ) (i : ℕ) → i ≤ length places
@@ -99,24 +97,13 @@ pub record IsAllowed (len : ℕ) (places : List ℕ) : Type 0 where
 
 unrefused : (a b c : Bool) → (if a then Some TooManyShards else (if b then (if c then None else Some ShardTooLarge) else Some BadPlaces)) ≡ None
     → (a ≡ false) × (b ≡ true) × (c ≡ true)
-unrefused false true true e = (refl, refl, refl)
-unrefused false true false e = absurd (cc)
-unrefused false false c e = absurd (cc)
-unrefused true b c e = absurd (cc)
+unrefused a1 a2 a3 a4 = search arith
 
 pub allowed : (len : ℕ) (places : List ℕ) → places_refusal len places ≡ None → IsAllowed len places
-allowed len places e =
-    let all : (nat_le MAX_SHARDS (length places) ≡ false) × (list_all is_in_order (spans_from 0 len places) ≡ true) × (list_all is_small (spans_from 0 len places) ≡ true) = unrefused (nat_le MAX_SHARDS (length places)) (list_all is_in_order (spans_from 0 len places)) (list_all is_small (spans_from 0 len places)) e in
-    record {
-      few = let h : leb MAX_SHARDS (length places) ≡ false = all.0 in grind (arith, nat_tests);
-      in_order = all.1;
-      small = all.2;
-    }
+allowed len places e = search (arith, unrefused, nat_tests)
 
 pub not_refused : (len : ℕ) (places : List ℕ) → IsAllowed len places → places_refusal len places ≡ None
-not_refused len places is =
-    let few : nat_le MAX_SHARDS (length places) ≡ false = let h : length places < MAX_SHARDS = is.few in grind (arith, nat_tests) in
-    rw (few, is.in_order, is.small) refl
+not_refused len places is = search (arith, nat_tests)
 
 -- ---- even shards
 
@@ -128,12 +115,7 @@ pub record AreEven (len count : ℕ) (places : List ℕ) : Type 0 where
 
 pub even_begins : (len count : ℕ) (places : List ℕ) → AreEven len count places → (i : ℕ) → i ≤ length places
     → get_or (0 ∷ places) i 0 ≡ i * len / count
-even_begins len count places are zero h =
-    let z : 0 * len ≡ 0 = omega arith in
-    rw z (sym (zero-div count))
-even_begins len count places are (suc i) h =
-    let s : i + 1 ≡ suc i = omega arith in
-    subst (λ (k : ℕ). get_or places i 0 ≡ k * len / count) s (are.each i (omega (arith, h)))
+even_begins a1 a2 a3 a4 a5 a6 = search (arith, zero-div)
 
 pub even_ends : (len count : ℕ) (places : List ℕ) → AreEven len count places → (i : ℕ) → i ≤ length places
     → get_or (places ++ len ∷ []) i 0 ≡ (i + 1) * len / count
@@ -178,28 +160,14 @@ even_allowed len count places are few fits = record {
 }
 
 pub even_cut : (links : List Link) (count : ℕ) (places : List ℕ) → AreEven (length links) count places → IsEvenCut links count (shards_at links places)
-even_cut links count places are = record {
-  number = shards_length links places ∙ are.number;
-  each = λ i h.
-      let in_range : i ≤ length places = omega (arith, h, are.number) in
-      shard_from links 0 places i in_range
-      ∙ ap₂ (slice_range links) (even_begins (length links) count places are i in_range) (even_ends (length links) count places are i in_range);
-}
+even_cut links count places are = search (arith, shards_length, shard_from, ap₂, even_begins, even_ends)
 
 even_unrefused : (a b c : Bool) → (if a then Some NoShards else (if b then Some TooManyShards else (if c then Some ShardTooLarge else None))) ≡ None
     → (a ≡ false) × (b ≡ false) × (c ≡ false)
-even_unrefused false false false e = (refl, refl, refl)
-even_unrefused false false true e = absurd (cc)
-even_unrefused false true c e = absurd (cc)
-even_unrefused true b c e = absurd (cc)
+even_unrefused a1 a2 a3 a4 = search arith
 
 pub even_limits : (len count : ℕ) → even_refusal len count ≡ None → (0 < count) × (count ≤ MAX_SHARDS) × (len ≤ MAX_SHARD_LINKS * count)
-even_limits len count e =
-    let all : (eqb count 0 ≡ false) × (ltb MAX_SHARDS count ≡ false) × (ltb (MAX_SHARD_LINKS * count) len ≡ false) = even_unrefused (eqb count 0) (ltb MAX_SHARDS count) (ltb (MAX_SHARD_LINKS * count) len) e in
-    let some : eqb count 0 ≡ false = all.0 in
-    let few : ltb MAX_SHARDS count ≡ false = all.1 in
-    let fits : ltb (MAX_SHARD_LINKS * count) len ≡ false = all.2 in
-    (grind (arith, nat_tests), grind (arith, nat_tests), grind (arith, nat_tests))
+even_limits len count e = search (arith, even_unrefused, nat_tests)
 
 -- a span's links are no more than its places
 pub part_few : (links : List Link) (from to : ℕ) → length (slice_range links from to) ≤ to - from

@@ -21,10 +21,7 @@ without_one (k ∷ links) l is_in = elim (contains_cases k l links is_in) [
   | inr in_links ↦ let fewer = without_one links l in_links in record {
     rest = k ∷ fewer.rest;
     shorter = omega (arith, fewer.shorter);
-    keeps = λ m m_in other. elim (contains_cases k m links m_in) [
-      | inl same ↦ subst (λ x. Contains (k ∷ fewer.rest) x) (sym same) (contains_head k fewer.rest)
-      | inr m_in' ↦ contains_tail k m fewer.rest (fewer.keeps m m_in' other)
-    ];
+    keeps = search (arith, contains_cases, contains_head, contains_tail);
   }
 ]
 

@@ -22,10 +22,7 @@ ends_of_cover n links kept ends cover i d b = All-contains (λ (l : Link). l.hig
 
 -- a file has at most 2^30 arc lines, whose links were dropped or are kept
 pub few_read : (drops : Type 0) (dropped : ℕ) (graph : GraphValue) (s t : SourceState) → IsKeptReadOf drops MAX_BYTES dropped (Ok graph) s t → dropped + length graph.links ≤ MAX_ARCS
-few_read drops dropped graph s t (all, kept, read) =
-    let (bytes, gave, file) = whole_file (with_links all graph) s t read in
-    let (arcs, (lines, are_lines, lawful), links) = file.means in
-    omega (arith, kept.counted, fewer_links arcs all links, lawful.arc_lines)
+few_read drops dropped graph s t (all, kept, read) = search (arith, whole_file, fewer_links)
 
 -- the forest of what is kept is that of all links that were read
 pub forest_of_all : (drops : Type 0) (dropped : ℕ) (all kept forest : List Link) → AreKeptOf drops dropped all kept → IsForestOf kept forest → IsForestOf all forest

@@ -31,8 +31,7 @@ in_already xs ys x there same l = (
 
 -- a number that a truth is added to stays unless that is so
 pub counted_unless : (b : Bool) (n : ℕ) (P : Type 0) → (b ≡ false → P) → ((n + bool_byte b ≡ n) × P) ⊎ (n + bool_byte b ≡ n + 1)
-counted_unless true n P fails = inr (omega arith)
-counted_unless false n P fails = inl (omega arith, fails refl)
+counted_unless a1 a2 a3 a4 = search arith
 
 -- one more link is written behind those kept, and counted if it doesn't repeat the last of these
 pub once_more : (start now : List Link) {i kept kept' : ℕ} (x : Link) → i < length start → x ≡ get_or start i x → kept < length now → 1 ≤ kept

@@ -29,11 +29,7 @@ reads_the_file bytes s t outcome known no_failure (inr (inr (line, is, broke))) 
 
 -- a fault within the limit is the first of the file, or want of memory
 first_of_failed : (why : ReadFault) (bytes : List ℕ) → length bytes ≤ MAX_BYTES → FailsBy why MAX_BYTES bytes → IsFirstOf bytes why
-first_of_failed (read.Gr f) bytes within (inl (short, first)) = first
-first_of_failed (read.Gr f) bytes within (inr (long, ended)) = absurd (omega (arith, within, long))
-first_of_failed (read.Source line) bytes within fails = fails
-first_of_failed read.TooLong bytes within (long, lawful) = absurd (omega (arith, within, long))
-first_of_failed read.Memory bytes within fails = tt
+first_of_failed a1 a2 a3 a4 = search arith
 
 -- bytes that mean a graph have no fault
 no_fault_of_lawful : (why : ReadFault) (bytes : List ℕ) (graph : GraphValue) → IsFileOf bytes graph → FailsBy why MAX_BYTES bytes → why ≡ read.Memory

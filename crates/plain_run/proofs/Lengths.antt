@@ -38,6 +38,4 @@ same_length bytes graph other (arcs, means, links) (arcs', means', links') =
 
 -- of arcs there are no more links than arcs
 pub fewer_links : (arcs : List Arc) (links : List Link) → AreLinksOf arcs links → length links ≤ length arcs
-fewer_links arcs links are =
-    let same : length links ≡ length (filter is_no_loop arcs) = sym (length-map links key_of) ∙ (ap (λ ks. length ks) are ∙ length-map (filter is_no_loop arcs) arc_key) in
-    omega (arith, same, length-filter is_no_loop arcs, count_by-le-length is_no_loop arcs)
+fewer_links arcs links are = search (arith, length-map, length-filter, count_by-le-length)

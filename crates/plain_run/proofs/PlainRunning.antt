@@ -21,33 +21,18 @@ use Rattle.plain_run.specs.declared.fault.RunFault.TheVariants as fault
 
 -- a graph is read only of a whole file
 pub whole_file : (graph : GraphValue) (s t : SourceState) → IsReadOf MAX_BYTES (Ok graph) s t → (bytes : List ℕ) × Gave 0 1 bytes s t × IsFileOf bytes graph
-whole_file graph s t (inl whole) = (whole.bytes, whole.gave, record { within = whole.within; means = whole.read.1 })
-whole_file graph s t (inr (inl stopped)) = absurd stopped
-whole_file graph s t (inr (inr (line, is, broke))) = cc
+whole_file a1 a2 a3 a4 = search arith
 
 pub unread : (why : ReadFault) (s t : SourceState) (a : SinkState) → IsReadOf MAX_BYTES (Err why) s t → IsUnread why (streams s a) (streams t a)
 unread why s t a refused = record { refused = refused; nothing = took_nothing a }
 
 pub unsolved : (why : GraphValue → Type 0) (graph : GraphValue) (s t : SourceState) (a : SinkState) → IsReadOf MAX_BYTES (Ok graph) s t → why graph → IsUnsolved why (streams s a) (streams t a)
-unsolved why graph s t a read cause =
-    let (bytes, gave, file) = whole_file graph s t read in
-    record { bytes = bytes; graph = graph; read = gave; file = file; cause = cause; nothing = took_nothing a }
+unsolved why graph s t a read cause = search (arith, whole_file, took_nothing)
 
 pub done : (found says : GraphValue → List Link → Type 0) (graph : GraphValue) (forest : List Link) (n : ℕ) (s t : SourceState) (a b : SinkState)
     → IsReadOf MAX_BYTES (Ok graph) s t → found graph forest → n ≡ graph.vertices → Took 0 (forest_text n forest) a b → says graph forest
     → IsDone found says (streams s a) (streams t b)
-done found says graph forest n s t a b read found_is same took said =
-    let (bytes, gave, file) = whole_file graph s t read in
-    record {
-      bytes = bytes;
-      graph = graph;
-      forest = forest;
-      read = gave;
-      file = file;
-      found_is = found_is;
-      written = subst (λ (m : ℕ). Took 0 (forest_text m forest) a b) same took;
-      said = said;
-    }
+done found says graph forest n s t a b read found_is same took said = search (arith, whole_file)
 
 -- such a report is one of least links
 pub plainly : (graph : GraphValue) (forest : List Link) (report : Report) → IsLightest graph.links (sum_of_weights forest) → report ≡ plain_report graph forest
@@ -58,19 +43,7 @@ plainly graph forest report least is = record { report_is = is; lightest = subst
 pub broken_off : {X : Type 0} (found : GraphValue → List Link → Type 0) (says : GraphValue → List Link → X → Type 0) (answer : X) (written : ℕ) (graph : GraphValue) (forest : List Link) (n : ℕ) (s t : SourceState) (a b : SinkState)
     → IsReadOf MAX_BYTES (Ok graph) s t → found graph forest → length forest ≤ 2 ^ 55 → n ≡ graph.vertices
     → PrefixWentOut written (forest_text n forest) a b → says graph forest answer → IsBrokenOff found says written (streams s a) (streams t b)
-broken_off found says answer written graph forest n s t a b read found_is few same part said =
-    let (bytes, gave, file) = whole_file graph s t read in
-    record {
-      bytes = bytes;
-      graph = graph;
-      forest = forest;
-      read = gave;
-      file = file;
-      found_is = found_is;
-      part = few_are_exact written graph.vertices forest a b few (subst (λ (m : ℕ). PrefixWentOut written (forest_text m forest) a b) same part);
-      answer = answer;
-      said = said;
-    }
+broken_off found says answer written graph forest n s t a b read found_is few same part said = search (arith, whole_file, few_are_exact)
 
 -- ---- bytes in memory: a source of which they are known, and that it has no failure
 
@@ -81,8 +54,7 @@ given_file bytes got s t known gave = sym (gave_to_end 0 1 bytes got s t known (
 -- the forest of the file that was read is that of the bytes
 gives : (bytes got : List ℕ) (s t : SourceState) (graph : GraphValue) (forest : List Link) → s.left ≡ Some bytes → Gave 0 1 got s t → IsFileOf got graph → IsLeast graph forest
     → HasForest bytes graph forest
-gives bytes got s t graph forest known gave file least =
-    record { file = subst (λ (xs : List ℕ). IsFileOf xs graph) (given_file bytes got s t known gave) file; least = least }
+gives bytes got s t graph forest known gave file least = search (arith, given_file)
 
 pub fault_in_memory : (why : RunFault) (bytes : List ℕ) (s t : SourceState) (a b : SinkState)
     → s.left ≡ Some bytes → HadNoFailure s t → RanPlain (Err why) (streams s a) (streams t b) → IsFaultInMemory bytes why
@@ -98,8 +70,4 @@ fault_in_memory (fault.Write written) bytes s t a b known no_failure ran =
 
 pub text_in_memory : (says : GraphValue → List Link → Type 0) (bytes text : List ℕ) (s t : SourceState) (a b : SinkState)
     → s.left ≡ Some bytes → a.held ≡ Some [] → b.held ≡ Some text → IsDone IsLeast says (streams s a) (streams t b) → IsForestTextOf bytes text
-text_in_memory says bytes text s t a b known empty held ran =
-    let given = gives bytes ran.bytes s t ran.graph ran.forest known ran.read ran.file ran.found_is in
-    let out = took_known 0 [] (forest_text ran.graph.vertices ran.forest) a b empty ran.written in
-    let same : text ≡ forest_text ran.graph.vertices ran.forest = cc in
-    (ran.graph, ran.forest, given, same)
+text_in_memory says bytes text s t a b known empty held ran = search (arith, gives, took_known)

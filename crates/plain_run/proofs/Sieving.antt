@@ -26,8 +26,7 @@ use Rattle.plain_run.specs.declared.sieve.Sieve.{Sieve}
 
 -- one that passes is counted
 pub counted_by : (b : Bool) (n n' : ℕ) → n' ≡ n + bool_byte b → ((n' ≡ n) × (b ≡ false)) ⊎ ((n' ≡ n + 1) × (b ≡ true))
-counted_by true n n' is = inr (omega (arith, is), refl)
-counted_by false n n' is = inl (omega (arith, is), refl)
+counted_by a1 a2 a3 a4 = search arith
 
 -- What passes a test is written behind what was kept before it, and counted; what doesn't pass is written there too, and
 -- not counted.
@@ -70,24 +69,16 @@ kept_of p xs x here = All-contains (Contains xs) (filter p xs) x (All-filter p (
 -- ---- a link that doesn't stay is above one, and its ends have one label
 
 by_tests : (same less : Bool) → not (same && less) ≡ false → (same ≡ true) × (less ≡ true)
-by_tests true true goes = (refl, refl)
-by_tests true false goes = cc
-by_tests false less goes = cc
+by_tests a1 a2 a3 = search arith
 
 one_number : (a b : ℕ) → (a == b) ≡ true → a ≡ b
 one_number a b same = grind (arith, nat_tests)
 
 above : (h l : Link) → lt_z (wide_key h) (wide_key l) ≡ true → IsBelow h l
-above h l less = elim (trichotomy h l) [
-  | inl below ↦ below
-  | inr (inl same) ↦ let one = ap wide_key same in absurd (omega (arith, ints, less, one))
-  | inr (inr over) ↦ let more = wide_below l h over in absurd (omega (arith, ints, less, more))
-]
+above h l less = search (arith, trichotomy, wide_below, ints)
 
 goes_by : (labels : List ℕ) (h l : Link) → stays labels h l ≡ false → (label_of labels l.low ≡ label_of labels l.high) × IsBelow h l
-goes_by labels h l goes =
-    let (same, less) = by_tests (label_of labels l.low == label_of labels l.high) (lt_z (wide_key h) (wide_key l)) goes in
-    (one_number _ _ same, above h l less)
+goes_by labels h l goes = search (arith, by_tests, one_number, above)
 
 -- ---- what links join, more links join
 

@@ -11,8 +11,7 @@ use Rattle.round_core.specs.BookValue.{BookValue}
 use Rattle.port_rounds.specs.Asks.{AnswersAsks, AsksFor, TakesExchange, ClosesPort, AreInRounds, SameFaults, answered}
 
 pub either : (v : Bool) → (v ≡ true) ⊎ (v ≡ false)
-either true = inl refl
-either false = inr refl
+either a1 = search arith
 
 -- exchanges of no later rounds than others
 abbrev pub ComeFirst : List Exchange → List Exchange → Type 0
@@ -23,10 +22,7 @@ pub one_round : (value : BookValue) (xs ys : List Exchange) → All (TakesExchan
 one_round value xs ys first second i d b j e c = omega (arith, (first i d b).asked.ask.round, (second j e c).asked.ask.round)
 
 first_of_all : (x : Exchange) (zs : List Exchange) → All (λ (y : Exchange). x.round ≤ y.round) zs → AreInRounds zs → AreInRounds (x ∷ zs)
-first_of_all x zs h p zero zero d l b = absurd (omega arith)
-first_of_all x zs h p zero (suc j) d l b = h j d (omega arith)
-first_of_all x zs h p (suc i) zero d l b = absurd (omega arith)
-first_of_all x zs h p (suc i) (suc j) d l b = p i j d (omega arith) (omega arith)
+first_of_all a1 a2 a3 a4 a5 a6 a7 a8 a9 = search arith
 
 in_rounds_then : (xs ys : List Exchange) → AreInRounds xs → AreInRounds ys → ComeFirst xs ys → AreInRounds (xs ++ ys)
 in_rounds_then [] ys p q first = q
@@ -37,17 +33,11 @@ in_rounds_then (x ∷ xs) ys p q first =
 
 -- exchanges of two parts, in the first of which no answer was refused
 both_parts : (others xs ys : List Exchange) (last last' : Option Exchange) → last ≡ None → (others ++ answered xs last) ++ answered ys last' ≡ others ++ answered (xs ++ ys) last'
-both_parts others xs ys last last' none =
-    ap (λ (o : Option Exchange). (others ++ (xs ++ option_to_list o)) ++ answered ys last') none
-    ∙ (ap (λ (zs : List Exchange). (others ++ zs) ++ answered ys last') (append-nil xs)
-    ∙ (append_assoc others xs (answered ys last')
-    ∙ ap (λ (zs : List Exchange). others ++ zs) (sym (append_assoc xs ys (option_to_list last')))))
+both_parts others xs ys last last' none = search (arith, append-nil, append_assoc)
 
 -- exchanges of a first part alone
 first_part : (others xs ys : List Exchange) (last last' : Option Exchange) → ys ≡ [] → last' ≡ None → (others ++ answered xs last) ++ answered ys last' ≡ others ++ answered xs last
-first_part others xs ys last last' no_more none =
-    ap (λ (zs : List Exchange). (others ++ answered xs last) ++ answered zs last') no_more
-    ∙ (ap (λ (o : Option Exchange). (others ++ answered xs last) ++ option_to_list o) none ∙ append-nil (others ++ answered xs last))
+first_part others xs ys last last' no_more none = search (arith, append-nil)
 
 module _ {P A : Type 0} (port : Port.Ghosts P A) (keeping : Exchange → Type 0) (closing : ℕ × ℕ → Option Exchange → Type 0) where
   -- nothing was done
@@ -76,10 +66,7 @@ module _ {P A : Type 0} (port : Port.Ghosts P A) (keeping : Exchange → Type 0)
   module _ (a b c : P) (xs ys : List AnswerValue) (p : AnswersAsks port keeping closing a b xs) (q : AnswersAsks port keeping closing b c ys) where
     -- the counts that stood still over both parts stood still in each
     each_stood : SameFaults (port.state a) (port.state c) → SameFaults (port.state a) (port.state b) × SameFaults (port.state b) (port.state c)
-    each_stood s = (
-      record { failures = omega (arith, s.failures, p.failures, q.failures); wants = omega (arith, s.wants, p.wants, q.wants) },
-      record { failures = omega (arith, s.failures, p.failures, q.failures); wants = omega (arith, s.wants, p.wants, q.wants) },
-    )
+    each_stood s = search arith
 
     -- the second part begins with an open port
     then_open : ComeFirst p.exchanges q.exchanges → (port.state b).is_open ≡ true → AnswersAsks port keeping closing a c (xs ++ ys)
@@ -114,52 +101,11 @@ module _ {P A : Type 0} (port : Port.Ghosts P A) (keeping : Exchange → Type 0)
 
     -- or with one that was closed, so there is no second part
     then_closed : (port.state b).is_open ≡ false → AnswersAsks port keeping closing a c (xs ++ ys)
-    then_closed e =
-        let s = q.still e in
-        let fault = q.one_fault in
-        let shut = ap count_if e in
-        let more : SameFaults (port.state b) (port.state c) =
-        record { failures = omega (arith, fault, shut, q.failures, q.wants); wants = omega (arith, fault, shut, q.failures, q.wants) } in
-        let nothing : ys ≡ [] = q.kept_are ∙ ap (λ zs. answers_of zs) s.0 in
-        let joined = λ (others : List Exchange). first_part others p.exchanges q.exchanges p.refused q.refused s.0 s.1 in
-        record {
-          cut = q.cut ∙ p.cut;
-          worker = q.worker ∙ p.worker;
-          asks = omega (arith, length-append xs ys, p.asks, q.asks);
-          failures = omega (arith, p.failures, q.failures);
-          wants = omega (arith, p.wants, q.wants);
-          one_fault = (let t = p.one_fault in omega (arith, t, more.failures, more.wants));
-          exchanges = p.exchanges;
-          kept_are = ap (λ zs. xs ++ zs) nothing ∙ (append-nil xs ∙ p.kept_are);
-          keeps = p.keeps;
-          ordered = p.ordered;
-          refused = p.refused;
-          opened = λ t. absurd (let r = (q.opened t).0 in cc);
-          still = λ f. (let r = p.still f in (r.0, r.1, s.2 ∙ r.2));
-          given = λ t others g. (let h = each_stood t in subst (port.exchanged c) (joined others) (q.given h.1 _ (p.given h.0 others g)));
-          honest_is = λ x. q.honest_is (p.honest_is x);
-          sound_is = λ ends others x. subst (port.sound c ends) (joined others) (q.sound_is ends _ (p.sound_is ends others x));
-          why = λ t f. elim (p.why t e) [
-            | inl r ↦ inl (omega (arith, r.0, q.failures, q.wants), r.1, subst (λ (w : ℕ × ℕ). closing w None) (sym s.2) r.2)
-            | inr r ↦ inr (
-              r.0,
-              r.1,
-              record { failures = more.failures ∙ r.2.failures; wants = more.wants ∙ r.2.wants },
-              subst (λ (w : ℕ × ℕ). closing w (Some r.0)) (sym s.2) r.3,
-            )
-          ];
-          why_honest = λ x t f. (let r = p.why_honest x t e in omega (arith, r, q.failures, q.wants));
-        }
+    then_closed e = search (arith, first_part, length-append, append-nil, each_stood)
 
     pub asks_then : ComeFirst p.exchanges q.exchanges → AnswersAsks port keeping closing a c (xs ++ ys)
     asks_then first = elim (either (port.state b).is_open) [ inl e ↦ then_open first e | inr e ↦ then_closed e ]
 
 -- no port was asked
 pub none_asked : {P A : Type 0} (port : Port.Ghosts P A) (value : BookValue) (shard : ℕ) (a : P) → AsksFor port value shard a a None
-none_asked port value shard a = record {
-  asked = stayed port (TakesExchange value) (ClosesPort value) a;
-  of_shard = tt;
-  opened = tt;
-  taken = tt;
-  light = tt;
-}
+none_asked port value shard a = search (arith, stayed)

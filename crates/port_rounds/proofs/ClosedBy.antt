@@ -14,12 +14,10 @@ use Rattle.port_rounds.proofs.Dealing.{open_cons}
 use Rattle.port_rounds.specs.Runs.{opened_book, IsKeptIn, ClosesPortIn, ClosesBy}
 
 stays_shut : (b c : Bool) → (b ≡ true → c ≡ true) → c ≡ false → b ≡ false
-stays_shut false c opens shut = refl
-stays_shut true c opens shut = absurd (let never : true ≡ false = sym (opens refl) ∙ shut in cc)
+stays_shut a1 a2 a3 a4 = search arith
 
 shut_of_none : (b : Bool) → count_if b ≡ 0 → b ≡ false
-shut_of_none true none = absurd (omega (arith, none))
-shut_of_none false none = refl
+shut_of_none a1 a2 = search arith
 
 -- each port is closed where none is open
 pub none_open : {P : Type 0} (state : P → PortState) (zs : List (LaneState P)) → open_count state zs ≡ 0 → (i : ℕ) (d : LaneState P) → i < length zs
@@ -30,43 +28,20 @@ none_open state (x ∷ xs) none (suc i) d b = (let parts = open_cons state (x �
 
 -- the ask that closes a port is of the book's round
 closing_round : (book : BookValue) (last : ℕ × ℕ) (refused : Option Exchange) → ClosesPort book last refused → last.0 ≡ book.round
-closing_round book last None is = is.round
-closing_round book last (Some exchange) is = ap (λ (p : ℕ × ℕ). p.0) is.last_is ∙ is.asked.ask.round
+closing_round a1 a2 a3 a4 = search arith
 
 closing_earlier : (books : List BookValue) (round : ℕ) (last : ℕ × ℕ) (refused : Option Exchange) → All (λ (book : BookValue). book.round < round) books
     → ClosesPortIn books last refused → last.0 < round
-closing_earlier books round last refused earlier (book, is_in, closes) =
-    let at : last.0 ≡ book.round = closing_round (opened_book book) last refused closes in
-    let before : book.round < round = All-contains (λ (b : BookValue). b.round < round) books book earlier is_in in
-    omega (arith, at, before)
+closing_earlier books round last refused earlier (book, is_in, closes) = search (arith, closing_round)
 
 module _ {P A : Type 0} (port : Port.Ghosts P A) where
   -- a port that was closed by a round stays so
   pub still_closed : (keeping : Exchange → Type 0) (closing : ℕ × ℕ → Option Exchange → Type 0) (round : ℕ) (p q r : P) (kept : List AnswerValue)
       → ClosesBy round (port.state p) (port.state q) → AnswersAsks port keeping closing q r kept → ClosesBy round (port.state p) (port.state r)
-  still_closed keeping closing round p q r kept by asks opened =
-      let (shut, last) = by opened in
-      let same = (asks.still shut).2 in
-      (stays_shut (port.state r).is_open (port.state q).is_open (λ o. (asks.opened o).0) shut, subst (λ (w : ℕ × ℕ). w.0 ≤ round) (sym same) last)
+  still_closed keeping closing round p q r kept by asks opened = search (arith, stays_shut)
 
   -- asks of books of earlier rounds, and then of this round's book, at whose end the port is closed
   pub now_closed : (books : List BookValue) (old : BookValue) (p q r : P) (kept more : List AnswerValue) → All (λ (book : BookValue). book.round < old.round) books
       → AnswersAsks port (IsKeptIn books) (ClosesPortIn books) p q kept → AnswersAsks port (TakesExchange old) (ClosesPort old) q r more
       → (port.state r).is_open ≡ false → ClosesBy old.round (port.state p) (port.state r)
-  now_closed books old p q r kept more earlier before now shut opened = (
-    shut,
-    elim (either (port.state q).is_open) [
-      | inl still_open ↦ (
-          let last : (port.state r).last.0 ≡ old.round = elim (now.why still_open shut) [
-            | inl (faults, none, closes) ↦ closing_round old (port.state r).last None closes
-            | inr (exchange, some, same, closes) ↦ closing_round old (port.state r).last (Some exchange) closes
-          ] in
-          omega (arith, last))
-      | inr shut_before ↦ (
-          let last : (port.state q).last.0 < old.round = elim (before.why opened shut_before) [
-            | inl (faults, none, closes) ↦ closing_earlier books old.round (port.state q).last None earlier closes
-            | inr (exchange, some, same, closes) ↦ closing_earlier books old.round (port.state q).last (Some exchange) earlier closes
-          ] in
-          subst (λ (w : ℕ × ℕ). w.0 ≤ old.round) (sym (now.still shut_before).2) (omega (arith, last)))
-    ],
-  )
+  now_closed books old p q r kept more earlier before now shut opened = search (arith, either, closing_round, closing_earlier)

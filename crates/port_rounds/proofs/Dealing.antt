@@ -9,8 +9,7 @@ use Rattle.port_rounds.specs.Lanes.{LaneState, count_if, seats_of, open_count}
 
 -- where a split gave no first element there was none
 pub no_first : {Y : Type 0} (r : Option Y) (none : Type 0) (some : Y → Type 0) → ((y : Y) → r ≡ Some y → ⊥) → MatchOption r none some → none
-no_first None none some lost h = h
-no_first (Some y) none some lost h = absurd (lost y refl)
+no_first a1 a2 a3 a4 a5 = search arith
 
 module _ {P : Type 0} where
   pub open_cons : (state : P → PortState) (zs : List (LaneState P)) (x : LaneState P) (xs : List (LaneState P)) → zs ≡ x ∷ xs → open_count state zs ≡ count_if (state x.port).is_open + open_count state xs

@@ -268,10 +268,7 @@ module _ {P A : Type 0} (port : Port.Ghosts P A) where
 
   -- a fault of answers that weren't light, so where all ports are honest the only fault is want of memory
   pub honest_fault : (n : ℕ) (cut : List (List Link)) (xs ys : List (LaneState P)) (fault : SolveFault) → IsSolveFault port n cut xs ys fault → AreHonest port.honest xs → fault ≡ Memory
-  honest_fault n cut xs ys fault (inl none) h = none
-  honest_fault n cut xs ys Memory (inr t) h = refl
-  honest_fault n cut xs ys (Rounds round) (inr t) h = absurd (t.to_blame (λ e. absurd (cc)) (t.went.rounds.light h))
-  honest_fault n cut xs ys (Missed link) (inr t) h = absurd (t.to_blame (λ e. absurd (cc)) (t.went.rounds.light h))
+  honest_fault a1 a2 a3 a4 a5 a6 a7 = search arith
 
   -- a round more can be asked for
   pub can_more : (n : ℕ) (cut : List (List Link)) (xs ys : List (LaneState P)) (solver : Progress) (alone : ℕ) → SoFar n cut xs ys solver alone → 0 < length cut → length cut ≤ MAX_SHARDS
@@ -287,12 +284,7 @@ module _ {P A : Type 0} (port : Port.Ghosts P A) where
 
   -- so few shards are scanned that their count never wraps
   pub alone_few : (n : ℕ) (cut : List (List Link)) (xs ys : List (LaneState P)) (solver : Progress) (alone : ℕ) → SoFar n cut xs ys solver alone → n ≤ 2 ^ 26 → length cut ≤ 4096 → alone ≤ 2 ^ 20
-  alone_few n cut xs ys solver alone u few small =
-      let rounds = rounds_few n solver.rounds few u.in_time in
-      let number : length u.books ≤ 26 = (let e = u.number in omega arith) in
-      let all = u.rounds.counted in
-      let product : length u.books * length cut ≤ 26 * length cut = mul-le-mul_right (length cut) number in
-      omega arith
+  alone_few n cut xs ys solver alone u few small = search (arith, rounds_few, mul-le-mul_right)
 
   -- the forest and the report of a run
   pub solved : (n : ℕ) (cut : List (List Link)) (xs ys : List (LaneState P)) (solver : Progress) (answered alone : ℕ) (forest : List Link) (report : Report) → All (EndsUpTo n) cut

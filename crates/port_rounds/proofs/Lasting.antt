@@ -31,8 +31,7 @@ same_bound state value xs ys p a i d b =
     subst (λ q. HasRoomForPass state value q) (sym r) k
 
 pub one_at_most : (b : Bool) → count_if b ≤ 1
-one_at_most true = omega arith
-one_at_most false = omega arith
+one_at_most a1 = search arith
 
 module _ {P A : Type 0} (port : Port.Ghosts P A) where
   pub round_stays : (p q : BookValue) (xs ys : List (LaneState P)) → RunsPasses port p q xs ys → IsAskable p → IsAskable q

@@ -30,13 +30,7 @@ was_free p (x ∷ ts) t are (suc k, b, e) = taken_before p (x ∷ []) t.shard (w
 -- and now the book misses it no more
 pub is_taken_now : (p : BookValue) (ts : List AnswerValue) (t : AnswerValue) → Contains ts t → is_taken (with_answers p ts) t.shard ≡ true
 is_taken_now p [] t h = absurd (omega (arith, h.1))
-is_taken_now p (x ∷ ts) t (zero, b, e) = elim (either (is_taken (with_answers (with_answer p x) ts) t.shard)) [
-  | inl e1 ↦ e1
-  | inr e2 ↦ absurd (
-      let before : is_taken (with_answer p x) t.shard ≡ false = taken_before (with_answer p x) ts t.shard e2 in
-      let here : is_taken (with_answer p x) t.shard ≡ true = subst (λ (a : AnswerValue). is_taken (with_answer p x) a.shard ≡ true) e (set_takes p.taken x.shard) in
-      cc)
-]
+is_taken_now p (x ∷ ts) t (zero, b, e) = search (arith, either, taken_before, set_takes)
 is_taken_now p (x ∷ ts) t (suc k, b, e) = is_taken_now (with_answer p x) ts t (k, omega arith, e)
 
 pub value_opened : (round : ℕ) (cut : List (List Link)) (labels : List ℕ) → AreLabels labels → All (EndsUpTo (length labels)) cut → length cut ≤ MAX_SHARDS → IsBook (opened round cut labels) labels (length cut) (replicate (length labels) None)

@@ -23,9 +23,7 @@ use Rattle.port_rounds.specs.Asks.{IsAskOf, IsExchangeOf, TakesExchange, ClosesP
 -- an honest answer to an ask under the book's labels
 pub honest_of : (value : BookValue) (cut : List (List Link)) (round shard : ℕ) (labels : List ℕ) (t : AnswerValue) → cut ≡ value.cut → round ≡ value.round → value.labels ≡ labels
     → IsHonestAnswer cut round shard labels t → IsHonestAnswer value.cut value.round shard value.labels t
-honest_of value cut round shard labels t a b c h =
-    subst (λ (x : List (List Link)). IsHonestAnswer x value.round shard value.labels t) a
-    (subst (λ (x : ℕ). IsHonestAnswer cut x shard value.labels t) b (subst (λ (x : List ℕ). IsHonestAnswer cut round shard x t) (sym c) h))
+honest_of value cut round shard labels t a b c h = search arith
 
 -- it is the light offers of the shard that it names
 pub light_of : (value : BookValue) (shard : ℕ) (t : AnswerValue) → IsHonestAnswer value.cut value.round shard value.labels t → IsLight value t
@@ -36,19 +34,15 @@ pub names_shard : (value : BookValue) (shard : ℕ) (t : AnswerValue) → refusa
 names_shard value shard t e = grind (arith, common_steps, nat_tests)
 
 pub is_taken_of : (value : BookValue) (shard : ℕ) (t : AnswerValue) → shard < length value.cut → refusal value shard t ≡ None → Takes value t
-is_taken_of value shard t within e =
-    let same : t.shard ≡ shard = names_shard value shard t e in
-    record { within = subst (λ (s : ℕ). s < length value.cut) (sym same) within; taken = subst (λ (s : ℕ). refusal value s t ≡ None) (sym same) e }
+is_taken_of value shard t within e = search (arith, names_shard)
 
 -- what isn't missing is taken
 pub not_taken : (missing taken : Bool) → missing ≡ not taken → missing ≡ true → taken ≡ false
-not_taken missing true e h = absurd (cc)
-not_taken missing false e h = refl
+not_taken a1 a2 a3 a4 = search arith
 
 -- what a claim that wasn't won says of the seat
 pub where_held : (r : Claim) (fact : Type 0) → ¬ (r ≡ Won) → IfHeld r (λ (by : ℕ). fact) → fact
-where_held Won fact lost h = absurd (lost refl)
-where_held (Held by) fact lost h = h
+where_held a1 a2 a3 a4 = search arith
 
 -- the book doesn't refuse an honest answer
 pub honest_taken : (value : BookValue) (cut : List (List Link)) (round shard : ℕ) (labels : List ℕ) (t : AnswerValue) → LightOffersAreTaken → cut ≡ value.cut → round ≡ value.round → value.labels ≡ labels → is_taken value shard ≡ false
@@ -57,12 +51,10 @@ honest_taken value cut round shard labels t law a b c missed h = (let r = honest
 
 -- what a call says where it is refused, and where it isn't
 pub some_of_err : {X E : Type 0} (o : Option E) (r : Result X E) → IfErr r (λ e. o ≡ Some e) → is_err r ≡ true → IsSome o
-some_of_err o (Ok x) h e = absurd (cc)
-some_of_err o (Err x) h e = subst (λ p. IsSome p) (sym h) refl
+some_of_err a1 a2 a3 a4 = search arith
 
 pub none_of_ok : {X E : Type 0} (o : Option E) (r : Result X E) → OnOk r (o ≡ None) → is_err r ≡ false → o ≡ None
-none_of_ok o (Ok x) h e = h
-none_of_ok o (Err x) h e = absurd (cc)
+none_of_ok a1 a2 a3 a4 = search arith
 
 -- ---- one ask of an open port, for a shard that the book misses
 

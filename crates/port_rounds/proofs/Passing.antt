@@ -60,10 +60,7 @@ same_kept (x ∷ xs) [] p = absurd p
 same_kept (x ∷ xs) (y ∷ ys) p = ap (λ v. v ++ kept_answers ys) p.0.kept ∙ ap (λ zs. x.kept ++ zs) (same_kept xs ys p.1)
 
 fewer : (a b : Bool) → (b ≡ true → a ≡ true) → count_if b ≤ count_if a
-fewer true true h = omega arith
-fewer true false h = omega arith
-fewer false true h = absurd (let e = h refl in cc)
-fewer false false h = omega arith
+fewer a1 a2 a3 = search arith
 
 module _ {P A : Type 0} (port : Port.Ghosts P A) where
   -- no ferry opens a port
@@ -152,9 +149,7 @@ same_round p [] = record { round = refl; cut = refl; labels = refl }
 same_round p (t ∷ ts) = (let r = same_round (with_answer p t) ts in record { round = r.round; cut = r.cut; labels = r.labels })
 
 pub heard_same : (p q : BookValue) (ts : List AnswerValue) → q ≡ with_answers p ts → SameRound p q
-heard_same p q ts e =
-    let s = same_round p ts in
-    record { round = ap (λ o. o.round) e ∙ s.round; cut = ap (λ o. o.cut) e ∙ s.cut; labels = ap (λ o. o.labels) e ∙ s.labels }
+heard_same p q ts e = search (arith, same_round)
 
 pub askable_still : (p q : BookValue) → SameRound p q → IsAskable p → IsAskable q
 askable_still p q s r = record { some_shard = rw s.cut r.some_shard; ends = rw (s.cut, s.labels) r.ends; round = rw s.round r.round }
@@ -164,24 +159,17 @@ refusal_of : (r r' : ℕ) (cut cut' : List (List Link)) (labels labels' : List �
 refusal_of r r' cut cut' labels labels' taken taken' answers answers' s t a b c d e = rw (a, b, c, d, e) refl
 
 ask_before : (p : BookValue) (ts : List AnswerValue) (w : ℕ × ℕ) → IsAskOf (with_answers p ts) w → IsAskOf p w
-ask_before p ts w r =
-    let s = same_round p ts in
-    record { round = r.round ∙ s.round; within = rw s.cut at r.within; missed = taken_before p ts w.1 r.missed }
+ask_before p ts w r = search (arith, same_round, taken_before)
 
 exchange_before : (p : BookValue) (ts : List AnswerValue) (x : Exchange) → IsExchangeOf (with_answers p ts) x → IsExchangeOf p x
 exchange_before p ts x r = record { ask = ask_before p ts (x.round, x.shard) r.ask; labels = r.labels ∙ (same_round p ts).labels }
 
 -- the book says of an answer to such an ask what it said before
 same_refusal : (p : BookValue) (ts : List AnswerValue) (x : Exchange) → IsExchangeOf (with_answers p ts) x → refusal (with_answers p ts) x.shard x.answer ≡ refusal p x.shard x.answer
-same_refusal p ts x r =
-    let q = with_answers p ts in
-    let s = same_round p ts in
-    refusal_of p.round q.round p.cut q.cut p.labels q.labels p.taken q.taken p.answers q.answers x.shard x.answer s.round s.cut s.labels (taken_before p ts x.shard r.ask.missed) r.ask.missed
+same_refusal p ts x r = search (arith, same_round, refusal_of, taken_before)
 
 closing_before : (p : BookValue) (ts : List AnswerValue) (w : ℕ × ℕ) (o : Option Exchange) → ClosesPort (with_answers p ts) w o → ClosesPort p w o
-closing_before p ts w None r = ask_before p ts w r
-closing_before p ts w (Some x) r =
-    record { last_is = r.last_is; asked = exchange_before p ts x r.asked; refused = subst (λ o. IsSome o) (same_refusal p ts x r.asked) r.refused }
+closing_before a1 a2 a3 a4 a5 = search (arith, ask_before, exchange_before, same_refusal)
 
 kept_before : (p : BookValue) (ts : List AnswerValue) (x : Exchange) → TakesExchange (with_answers p ts) x → TakesExchange p x
 kept_before p ts x r = record { asked = exchange_before p ts x r.asked; taken = sym (same_refusal p ts x r.asked) ∙ r.taken }

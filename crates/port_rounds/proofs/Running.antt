@@ -33,11 +33,7 @@ pub opened_misses : (round : ℕ) (cut : List (List Link)) (labels : List ℕ) �
 opened_misses round cut labels = (let e = sum_by-replicate (λ x. cond (not x) 1 0) (length cut) false in omega (arith, e))
 
 pub opened_round : (round : ℕ) (cut : List (List Link)) (labels : List ℕ) → 0 < length cut → All (EndsUpTo (length labels)) cut → 1 ≤ round → IsAskable (opened round cut labels)
-opened_round round cut labels some ends first = record {
-  some_shard = some;
-  ends = ends;
-  round = first;
-}
+opened_round round cut labels some ends first = search arith
 
 -- answers are added behind those that the book has
 pub heard_answers : (p : BookValue) (ts : List AnswerValue) → (with_answers p ts).answers ≡ p.answers ++ ts
@@ -45,8 +41,7 @@ heard_answers p [] = sym (append-nil p.answers)
 heard_answers p (t ∷ ts) = heard_answers (with_answer p t) ts ∙ append_assoc p.answers (t ∷ []) ts
 
 none_or_some : (k : ℕ) → (k ≡ 0) ⊎ (0 < k)
-none_or_some zero = inl refl
-none_or_some (suc k) = inr (omega arith)
+none_or_some a1 = search arith
 
 same_then : (p q r : BookValue) → SameRound p q → SameRound q r → SameRound p r
 same_then p q r s t = record { round = t.round ∙ s.round; cut = t.cut ∙ s.cut; labels = t.labels ∙ s.labels }
@@ -55,8 +50,7 @@ light_still : (p q : BookValue) → SameRound p q → (t : AnswerValue) → IsLi
 light_still p q s t l = rw (s.cut, s.round, s.labels) l
 
 pub closing_still : (p q : BookValue) → SameRound p q → (w : ℕ × ℕ) (o : Option Exchange) → ClosesPort (opened_book p) w o → ClosesPort (opened_book q) w o
-closing_still p q s w None r = rw (s.cut, s.round, s.labels) r
-closing_still p q s w (Some t) r = rw (s.cut, s.round, s.labels) r
+closing_still a1 a2 a3 a4 a5 a6 = search arith
 
 pub kept_still : (p q : BookValue) → SameRound p q → (x : Exchange) → TakesExchange (opened_book p) x → TakesExchange (opened_book q) x
 kept_still p q s x r = rw (s.cut, s.round, s.labels) r
@@ -65,8 +59,7 @@ module _ {P A : Type 0} (port : Port.Ghosts P A) where
   -- a round leaves the book's round, cut and labels
   pub same_still : (round : ℕ) (cut : List (List Link)) (labels : List ℕ) (new : BookValue) (xs ys : List (LaneState P)) (k : ℕ)
       → RunsRound port (opened round cut labels) new xs ys k → SameRound (opened round cut labels) new
-  same_still round cut labels new xs ys k r =
-      same_then (opened round cut labels) r.middle new (heard_same _ _ r.passes.answers r.passes.value) (heard_same _ _ r.scans.answers r.scans.value)
+  same_still round cut labels new xs ys k r = search (arith, same_then, heard_same)
 
 -- an element of a list that has one
 pub lane_at : {X : Type 0} (xs : List X) (i : ℕ) → i < length xs → X
@@ -77,13 +70,10 @@ lane_at (x ∷ xs) i b = x
 
 -- the answers of a book that passes and scans filled
 filled : (old middle new : BookValue) (ts us : List AnswerValue) → middle ≡ with_answers old ts → new ≡ with_answers middle us → old.answers ≡ [] → new.answers ≡ ts ++ us
-filled old middle new ts us first second none =
-    ap (λ o. o.answers) second
-    ∙ (heard_answers middle us ∙ ap (λ zs. zs ++ us) (ap (λ o. o.answers) first ∙ (heard_answers old ts ∙ ap (λ zs. zs ++ ts) none)))
+filled old middle new ts us first second none = search (arith, heard_answers)
 
 pub just_new : (new book : BookValue) → Contains (new ∷ []) book → book ≡ new
-just_new new book (zero, b, e) = sym e
-just_new new book (suc k, b, e) = absurd (omega (arith, b))
+just_new a1 a2 a3 = search arith
 
 pub whole_books : (cut : List (List Link)) (books : List BookValue) → All (IsFullBook cut) books → All IsBookValue books
 whole_books cut books whole = All-weaker (IsFullBook cut) IsBookValue (λ book w. w.value) books whole
@@ -96,12 +86,7 @@ books_first books round xs ys earlier kept now i d b j e c =
 
 -- nothing was kept
 pub kept_none : {P : Type 0} (honest : P → Type 0) (xs : List (LaneState P)) → MatchesBooks honest xs [] (λ i. [])
-kept_none honest xs = record {
-  reached = λ i t b h. absurd (omega (arith, h.1));
-  each_is = λ i d b. absurd (omega arith);
-  light_at = λ i d b h k e below. absurd (omega arith);
-  once = λ i j k l d bi bj bk bl same. absurd (omega arith);
-}
+kept_none honest xs = search arith
 
 -- what passes kept stands in the book that they and scans filled
 pub kept_in : {P A : Type 0} (port : Port.Ghosts P A) (old middle new : BookValue) (xs ys : List (LaneState P)) (k : ℕ)

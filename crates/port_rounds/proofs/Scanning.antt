@@ -34,10 +34,7 @@ scanned_then p q r n m u v = record {
 
 -- what was taken stays taken
 pub stays_taken : (p q : BookValue) (n : ℕ) (k : ℕ) → ScansShards p q n → is_taken p k ≡ true → is_taken q k ≡ true
-stays_taken p q n k u t = elim (either (is_taken q k)) [
-  | inl e ↦ e
-  | inr e ↦ absurd (let f = taken_before p u.answers k (subst (λ o. is_taken o k ≡ false) u.value e) in cc)
-]
+stays_taken p q n k u t = search (arith, either, taken_before)
 
 -- one scan took the shard that was missing: it took one
 pub all_taken : (xs : List Bool) → ((k : ℕ) → k < length xs → get_or xs k true ≡ true) → count_by not xs ≡ 0
@@ -60,8 +57,7 @@ now_taken p q t s e f = ap (λ o. is_taken o s) f ∙ subst (λ (k : ℕ). get_o
 
 pub rounded : {P A : Type 0} (port : Port.Ghosts P A) (p q r : BookValue) (xs ys : List (LaneState P)) (alone : ℕ)
     → RunsPasses port p q xs ys → (0 < missing q → open_count port.state ys ≡ 0) → ScansShards q r alone → missing r ≡ 0 → RunsRound port p r xs ys alone
-rounded port p q r xs ys alone u end s all =
-    record { middle = q; passes = u; scans = s; all = all; closed = λ some. end (let m = s.missed in omega arith) }
+rounded port p q r xs ys alone u end s all = search arith
 
 pub round_after : (p q : BookValue) (n : ℕ) → ScansShards p q n → IsAskable p → IsAskable q
 round_after p q n u r = askable_still p q (heard_same p q u.answers u.value) r

@@ -66,38 +66,27 @@ found (x ∷ xs) (y ∷ ys) p zero t e = (let f : y ≡ t = cc in (x, refl, subs
 found (x ∷ xs) (y ∷ ys) p (suc i) t e = found xs ys p.1 i t e
 
 pub are_seats_then : (board : BoardState) (xs ys : List SeatState) → AreSeats board xs → AllZip SameSeat xs ys → AreSeats board ys
-are_seats_then board xs ys are p = record {
-  all = each_length SameSeat xs ys p ∙ are.all;
-  in_order = λ i t e. (let r = found xs ys p i t e in let s = are.in_order i r.0 r.1 in (r.2.board_is ∙ s.0, r.2.number ∙ s.1));
-}
+are_seats_then board xs ys are p = search (arith, each_length, found)
 
 same_of : (a b : Option SeatState) (shards : List ℕ) → HoldsShards a b shards → AllZip SameSeat (option_to_list a) (option_to_list b)
-same_of None b shards h = subst (λ o. AllZip SameSeat [] (option_to_list o)) (sym h.0) tt
-same_of (Some s) None shards h = absurd h
-same_of (Some s) (Some t) shards h = (record { board_is = h.0; number = h.1 }, tt)
+same_of a1 a2 a3 a4 = search arith
 
 holds_of : (a b : Option SeatState) (shards : List ℕ) → HoldsShards a b shards → flat_map (λ (s : SeatState). held s.events) (option_to_list b) ≡ shards
-holds_of None b shards h = ap (λ o. flat_map (λ (s : SeatState). held s.events) (option_to_list o)) h.0 ∙ sym h.1
-holds_of (Some s) None shards h = absurd h
-holds_of (Some s) (Some t) shards h = append-nil (held t.events) ∙ h.2
+holds_of a1 a2 a3 a4 = search (arith, append-nil)
 
 module _ {P A : Type 0} (port : Port.Ghosts P A) (value : BookValue) where
   pub same_seats : (xs ys : List (LaneState P)) → AllZip (RunsFerry port value) xs ys → AllZip SameSeat (seats_of xs) (seats_of ys)
   same_seats [] [] p = tt
   same_seats [] (y ∷ ys) p = absurd p
   same_seats (x ∷ xs) [] p = absurd p
-  same_seats (x ∷ xs) (y ∷ ys) p =
-      each_append SameSeat (option_to_list x.seat) (option_to_list y.seat) (seats_of xs) (seats_of ys) (same_of x.seat y.seat (shards_of y.kept) p.0.seat) (same_seats xs ys p.1)
+  same_seats (x ∷ xs) (y ∷ ys) p = search (arith, each_append, same_of, same_seats xs ys p.1)
 
   -- the lists of the seats are the shards of what was kept
   pub held_kept : (xs ys : List (LaneState P)) → AllZip (RunsFerry port value) xs ys → all_held (seats_of ys) ≡ shards_of (kept_answers ys)
   held_kept [] [] p = refl
   held_kept [] (y ∷ ys) p = absurd p
   held_kept (x ∷ xs) [] p = absurd p
-  held_kept (x ∷ xs) (y ∷ ys) p =
-      flat_map-append (λ (s : SeatState). held s.events) (option_to_list y.seat) (seats_of ys)
-      ∙ (ap (λ zs. zs ++ all_held (seats_of ys)) (holds_of x.seat y.seat (shards_of y.kept) p.0.seat)
-      ∙ (ap (λ zs. shards_of y.kept ++ zs) (held_kept xs ys p.1) ∙ sym (map-append (λ t. t.shard) y.kept (kept_answers ys))))
+  held_kept (x ∷ xs) (y ∷ ys) p = search (arith, flat_map-append, holds_of, map-append, held_kept xs ys p.1)
 
   pub kept_all : (xs ys : List (LaneState P)) → AllZip (RunsFerry port value) xs ys → All (Takes value) (kept_answers ys)
   kept_all [] [] p = λ i d b. absurd (omega arith)
@@ -108,9 +97,7 @@ module _ {P A : Type 0} (port : Port.Ghosts P A) (value : BookValue) where
   -- what the ferries kept names each shard once, as the lists of the seats do, and the book takes it one after the other
   pub kept_apart : (xs ys : List (LaneState P)) (row : List SeatState) → AllZip (RunsFerry port value) xs ys → row ≡ seats_of ys → AllPairs (λ a b. a ≢ b) (all_held row)
       → Distinct (shards_of (kept_answers ys)) × TakesAll value (kept_answers ys)
-  kept_apart xs ys row f back apart =
-      let different : Distinct (shards_of (kept_answers ys)) = subst (λ (ns : List ℕ). Distinct ns) (ap (λ (seats : List SeatState). all_held seats) back ∙ held_kept xs ys f) (distinct_of _ apart) in
-      (different, taken_of value (kept_answers ys) different (kept_all xs ys f))
+  kept_apart xs ys row f back apart = search (arith, held_kept, distinct_of, taken_of, kept_all)
 
   -- the asks of all ports rose by the kept answers and by the ports that closed
   pub counted : (xs ys : List (LaneState P)) → AllZip (RunsFerry port value) xs ys → ask_count port.state ys + open_count port.state ys ≡ (ask_count port.state xs + length (kept_answers ys)) + open_count port.state xs

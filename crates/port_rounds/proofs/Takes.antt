@@ -56,11 +56,7 @@ within (x ∷ xs) (suc i) e = omega (arith, within xs i e)
 
 -- each answer taken is one shard fewer that is missing
 pub taken_one : (p : BookValue) (t : AnswerValue) → Takes p t → missing (with_answer p t) + 1 ≡ missing p
-taken_one p t k =
-    let free : is_taken p t.shard ≡ false = untaken p t k in
-    let inside : t.shard < length p.taken = within p.taken t.shard free in
-    let step = sum_by-set (λ x. cond (not x) 1 0) p.taken t.shard true true inside in
-    omega (arith, rw free at step)
+taken_one p t k = search (arith, untaken, within, sum_by-set, cond)
 
 pub taken_all : (p : BookValue) (ts : List AnswerValue) → TakesAll p ts → missing (with_answers p ts) + length ts ≡ missing p
 taken_all p [] f = omega arith

@@ -11,12 +11,7 @@ none_passed first shards = record { chosen = []; ascending = λ i j d l b. absur
 
 -- more steps, at which nothing was kept
 pub passed_on : (first shards steps more : ℕ) (passed : List ℕ) → steps ≤ more → AreOnWay first shards steps passed → AreOnWay first shards more passed
-passed_on first shards steps more passed le way = record {
-  chosen = way.chosen;
-  ascending = way.ascending;
-  within = λ i d b. omega (arith, way.within i d b, le);
-  passed_are = way.passed_are;
-}
+passed_on first shards steps more passed le way = search arith
 
 -- the shard at the next step is kept
 pub passed_one : (first shards steps : ℕ) (passed : List ℕ) (shard : ℕ) → shard ≡ shard_at first steps shards → AreOnWay first shards steps passed
@@ -33,7 +28,4 @@ passed_one first shards steps passed shard here way = record {
 -- a way from the seat's own place on is the seat's
 pub whole_way : (board : BoardState) (seat : SeatState) (first shards steps : ℕ) (passed : List ℕ) → seat.board ≡ board → board.shards ≡ shards → first ≡ first_of seat.number board.seats shards
     → steps ≤ shards → AreOnWay first shards steps passed → IsWayOf seat passed
-whole_way board seat first shards steps passed of_board same first_is le way =
-    let here : AreOnWay (first_of seat.number board.seats shards) shards shards passed = subst (λ (f : ℕ). AreOnWay f shards shards passed) first_is (passed_on first shards steps shards passed le way) in
-    let there : AreOnWay (first_of seat.number board.seats board.shards) board.shards board.shards passed = subst (λ (s : ℕ). AreOnWay (first_of seat.number board.seats s) s s passed) (sym same) here in
-    subst (λ (b : BoardState). AreOnWay (first_of seat.number b.seats b.shards) b.shards b.shards passed) (sym of_board) there
+whole_way board seat first shards steps passed of_board same first_is le way = search (arith, passed_on)

@@ -33,42 +33,13 @@ all_missing (suc k) = let n = sum_by-cons (λ (x : Bool). cond (not x) 1 0) fals
 pub book_opened : (round room : ℕ) (cut : List (List Link)) (labels looked_up : List ℕ) (taken : List Bool) (answers : List AnswerValue) (best : List (Option Link))
     → AreLabels labels → All (EndsUpTo (length labels)) cut → length cut ≤ MAX_SHARDS → taken ≡ replicate (length cut) false → answers ≡ [] → length cut ≤ room → length best ≡ length labels → AreNoPicks best
     → looked_up ≡ labels → IsBook (record { round = round; cut = cut; labels = labels; taken = taken; answers = answers }) looked_up room best
-book_opened round room cut labels looked_up taken answers best are ends few taken_is answers_is room_is best_len best_is same = record {
-  value = rw (taken_is, answers_is) value;
-  same_labels = same;
-  room_for_answers = room_is;
-  room_for_picks = best_len;
-  no_picks = best_is;
-}
-  where
-    value : IsBookValue (opened round cut labels)
-    value = record {
-      labels = are;
-      ends = ends;
-      few = few;
-      each_shard = length-replicate (length cut) false;
-      counted = let n = all_missing (length cut) in omega (arith, n);
-      right = λ i d lt. absurd (omega (arith, lt));
-      answered = λ s lt. (
-        λ is. let wrong : false ≡ true = sym (get_or-replicate (length cut) s false true lt) ∙ is in absurd (cc),
-        λ some. absurd (omega (arith, some.2)),
-      );
-      once = λ i j d lt within. absurd (omega (arith, within));
-    }
+book_opened round room cut labels looked_up taken answers best are ends few taken_is answers_is room_is best_len best_is same = search (arith, length-replicate, all_missing, get_or-replicate)
 
 -- a test of all is one of each
 pub all_at : {X : Type 0} (p : X → Bool) (xs : List X) (i : ℕ) (d : X) → i < length xs → list_all p xs ≡ true → p (get_or xs i d) ≡ true
 all_at p [] i d lt all = absurd (omega (arith, lt))
-all_at p (x ∷ xs) zero d lt all = both_first (p x) (list_all p xs) all
-  where
-    both_first : (a b : Bool) → (a && b) ≡ true → a ≡ true
-    both_first true b h = refl
-    both_first false b h = h
-all_at p (x ∷ xs) (suc i) d lt all = all_at p xs i d (omega (arith, lt)) (both_second (p x) (list_all p xs) all)
-  where
-    both_second : (a b : Bool) → (a && b) ≡ true → b ≡ true
-    both_second true b h = h
-    both_second false b h = absurd (cc)
+all_at p (x ∷ xs) zero d lt all = search arith
+all_at p (x ∷ xs) (suc i) d lt all = search (arith, all_at p xs i d)
 
 -- the link that an offer names
 pub record IsOffered (links : List Link) (labels : List ℕ) (place : ℕ) : Type 0 where
@@ -77,27 +48,10 @@ pub record IsOffered (links : List Link) (labels : List ℕ) (place : ℕ) : Typ
 
 -- the test of an offer, as a relation
 pub leaves_if : (labels : List ℕ) (c : ℕ) (l : Link) → is_leaving labels c l ≡ true → Leaves labels l c
-leaves_if labels c l test = elim (cases_eq (label_of labels l.low) c) [
-  | inl low ↦ elim (cases_eq (label_of labels l.high) c) [
-    | inl high ↦ let wrong : false ≡ true = rw (eq-eqb (label_of labels l.low) c low, eq-eqb (label_of labels l.high) c high) at test in absurd (cc)
-    | inr high ↦ inl (low, high)
-  ]
-  | inr low ↦ elim (cases_eq (label_of labels l.high) c) [
-    | inl high ↦ inr (low, high)
-    | inr high ↦ let wrong : false ≡ true = rw (ne_eqb (label_of labels l.low) c low, ne_eqb (label_of labels l.high) c high) at test in absurd (cc)
-  ]
-]
+leaves_if labels c l test = search (arith, cases_eq, eq-eqb, ne_eqb)
 
 pub offered : (links : List Link) (labels : List ℕ) (o : Offer) → is_offer links labels o ≡ true → IsOffered links labels o.1
-offered links labels o test = elim ((slice_get_cases links o.1).1) [
-  | inl (x, within, some, at) ↦
-      let leaves : is_leaving labels o.0 x ≡ true = rw some at test in
-      record {
-        within = within;
-        apart = λ d. let here : get_or links o.1 d ≡ x = get_or_default links o.1 d x within ∙ at in rw here (leaves_apart labels x o.0 (leaves_if labels o.0 x leaves));
-      }
-  | inr (past, none) ↦ let no : false ≡ true = rw none at test in absurd (cc)
-]
+offered links labels o test = search (arith, slice_get_cases, get_or_default, leaves_apart, leaves_if)
 
 -- one more offer names one more link
 pub one_more_named : (links : List Link) (offers : List Offer) (i : ℕ) (o : Offer) (l : Link) → i < length offers → o ≡ get_or offers i o → o.1 < length links → l ≡ get_or links o.1 l
@@ -176,18 +130,7 @@ offer_at links labels offers i lt all = offered links labels (get_or offers i (0
 -- the answers of a book can be counted under the labels that it looks up, into the numbers of its picks
 pub can_close : (p : BookValue) (looked_up : List ℕ) (room : ℕ) (best : List (Option Link)) (answers : List AnswerValue) (items numbers : List ℕ) → IsBook p looked_up room best → answers ≡ p.answers → numbers ≡ items
     → length items ≡ length best → All (λ k. k ≡ no_pick) items → CanCountInto p.cut looked_up answers numbers
-can_close p looked_up room best answers items numbers is answers_are numbers_are long none = record {
-  can = can;
-  each_vertex = ap length numbers_are ∙ long ∙ is.room_for_picks ∙ ap length (sym is.same_labels);
-  none = rw numbers_are none;
-}
-  where
-    can : CanCount p.cut looked_up answers
-    can = rw (is.same_labels, answers_are) (record {
-      labelled = is.value.labels;
-      ends = is.value.ends;
-      right = λ i a lt. let right = is.value.right i a lt in record { round_is = refl; within = right.within; offers = right.offers };
-    })
+can_close p looked_up room best answers items numbers is answers_are numbers_are long none = search arith
 
 -- the least numbers of the links that its answers name make the picks of what it heard
 pub picks_of_numbers : (p : BookValue) (looked_up : List ℕ) (answers : List AnswerValue) (numbers items : List ℕ) (picks : List (Option Link)) → looked_up ≡ p.labels → answers ≡ p.answers → items ≡ numbers → picks ≡ map pick_in items

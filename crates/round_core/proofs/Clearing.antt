@@ -9,21 +9,7 @@ use Rattle.round_core.specs.PickNumbers.{no_pick, IsPickNumber, AreCleared, pick
 use Rattle.round_core.proofs.PickNumbers.{no_pick_is_none}
 
 pub cleared_more : (labels old new : List ℕ) (k : ℕ) → 1 ≤ get_or labels k 0 → get_or labels k 0 - 1 < length new → AreCleared labels k old new → AreCleared labels (k + 1) old (set new (get_or labels k 0 - 1) no_pick)
-cleared_more labels old new k one within are i = elim (cases_eq i place) [
-  | inl is ↦ inl (ap (λ m. get_or cleared m 0) is ∙ get_or-set_same new place no_pick 0 within)
-  | inr other ↦
-      let stays : get_or cleared i 0 ≡ get_or new i 0 = get_or-set_other new place i no_pick 0 other in
-      elim (are i) [
-        | inl none ↦ inl (stays ∙ none)
-        | inr (same, not) ↦ inr (stays ∙ same, below_more (λ j. get_or labels j 0 ≢ i + 1) k not (λ label. other (omega (arith, label))))
-      ]
-]
-  where
-    place : ℕ
-    place = get_or labels k 0 - 1
-
-    cleared : List ℕ
-    cleared = set new place no_pick
+cleared_more labels old new k one within are i = search (arith, cases_eq, get_or-set_same, get_or-set_other, below_more, set)
 
 -- what is left are numbers of picks
 pub cleared_are_numbers : (labels old new : List ℕ) → length new ≡ length old → AreCleared labels (length labels) old new → All IsPickNumber old → All IsPickNumber new

@@ -25,17 +25,10 @@ record IsLowered (old new : List ℕ) (i k : ℕ) : Type 0 where
   others : (j : ℕ) → j ≢ i → get_or new j 0 ≡ get_or old j 0
 
 lowered : (old : List ℕ) (i v k : ℕ) → i < length old → v ≡ min (get_or old i 0) k → IsLowered old (set old i v) i k
-lowered old i v k lt is = record {
-  long = length-set old i v;
-  here = get_or-set_same old i v 0 lt ∙ is;
-  others = λ j other. get_or-set_other old i j v 0 other;
-}
+lowered old i v k lt is = search (arith, length-set, get_or-set_same, get_or-set_other)
 
 no_more : (old new : List ℕ) (i k : ℕ) → IsLowered old new i k → (j : ℕ) → get_or new j 0 ≤ get_or old j 0
-no_more old new i k low j = elim (cases_eq j i) [
-  | inl is ↦ subst (λ m. get_or new m 0 ≤ get_or old m 0) (sym is) (let here = low.here in omega (arith, here))
-  | inr other ↦ let same = low.others j other in omega (arith, same)
-]
+no_more old new i k low j = search (arith, cases_eq)
 
 -- to the number of a link that leaves its label
 from_lowered : (labels : List ℕ) (links : List Link) (l : Link) (old new : List ℕ) (c k : ℕ) → 1 ≤ c → IsLowered old new (c - 1) k → Contains links l → Leaves labels l c → IsKeyNumber l k
@@ -171,12 +164,4 @@ picks_are labels labels' links links' numbers items picks same_labels same_links
 
 -- picks of sets with the same links
 pub picks_alike : (labels : List ℕ) (S T : LinkSet) (best : List (Option Link)) → SameLinks S T → ArePicks labels S best → ArePicks labels T best
-picks_alike labels S T best same are = record {
-  each_vertex = are.each_vertex;
-  ends = are.ends;
-  least = λ c vertex. pick_alike c (pick_of best c) (are.least c vertex);
-}
-  where
-    pick_alike : (c : ℕ) (pick : Option Link) → IsPickOf labels S c pick → IsPickOf labels T c pick
-    pick_alike c None none = λ m m_in. none m ((same m).1 m_in)
-    pick_alike c (Some l) is = least_leaving_alike labels S T c l same is
+picks_alike labels S T best same are = search (arith, least_leaving_alike)

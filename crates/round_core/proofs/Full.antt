@@ -26,15 +26,7 @@ pub record IsAccepted (p : BookValue) (s : ℕ) (a : AnswerValue) : Type 0 where
   pub offers : list_all (is_offer (links_at p.cut s) p.labels) a.offers ≡ true
 
 pub accepted : (p : BookValue) (s : ℕ) (a : AnswerValue) → refusal p s a ≡ None → IsAccepted p s a
-accepted p s a none = by_tests (a.round == p.round) (a.shard == s) (is_taken p s) (list_all (is_offer (links_at p.cut s) p.labels) a.offers) refl refl refl refl none
-  where
-    by_tests : (b c d e : Bool) → (a.round == p.round) ≡ b → (a.shard == s) ≡ c → is_taken p s ≡ d → list_all (is_offer (links_at p.cut s) p.labels) a.offers ≡ e
-        → cond b (cond c (cond d (Some Double) (cond e None (Some NotALink))) (Some Stranger)) (Some Stale) ≡ None → IsAccepted p s a
-    by_tests true true false true in_round for_shard free fit is_none = record { round = eqb-true a.round p.round in_round; shard = eqb-true a.shard s for_shard; missing = free; offers = fit }
-    by_tests true true false false in_round for_shard free fit is_none = absurd (cc)
-    by_tests true true true e in_round for_shard free fit is_none = absurd (cc)
-    by_tests true false d e in_round for_shard free fit is_none = absurd (cc)
-    by_tests false c d e in_round for_shard free fit is_none = absurd (cc)
+accepted p s a none = search (arith, cond, eqb-true)
 
 -- a shard that isn't taken is one of the cut
 pub free_within : (taken : List Bool) (s : ℕ) → get_or taken s true ≡ false → s < length taken
@@ -49,11 +41,7 @@ module _ (p : BookValue) (s : ℕ) (a : AnswerValue) (is : IsBookValue p) (lt : 
 
   -- one fewer is missing
   fewer : missing (with_answer p a) + 1 ≡ missing p
-  fewer =
-      let set_one = sum_by-set (λ (x : Bool). cond (not x) 1 0) p.taken s true true in_taken in
-      let was : ◌≡◌ {A = ℕ} (cond (not (get_or p.taken s true)) 1 0) 1 = ap (λ b. cond (not b) 1 0) fits.missing in
-      let at : count_by not (set p.taken a.shard true) ≡ count_by not (set p.taken s true) = ap (λ k. count_by not (set p.taken k true)) fits.shard in
-      omega (arith, set_one, was, at)
+  fewer = search (arith, sum_by-set, cond, not, in_taken, set)
 
   new_taken : (t : ℕ) → t ≡ s → is_taken (with_answer p a) t ≡ true
   new_taken t same = ap (λ k. get_or (set p.taken k true) t true) fits.shard ∙ ap (λ k. get_or (set p.taken s true) k true) same ∙ get_or-set_same p.taken s true true in_taken
@@ -85,11 +73,7 @@ module _ (p : BookValue) (s : ℕ) (a : AnswerValue) (is : IsBookValue p) (lt : 
       absurd (cc)
 
   right_one : IsRight p.round p.cut p.labels a
-  right_one = record {
-    round_is = fits.round;
-    within = omega (arith, fits.shard, lt);
-    offers = subst (λ k. list_all (is_offer (links_at p.cut k) p.labels) a.offers ≡ true) (sym fits.shard) fits.offers;
-  }
+  right_one = search arith
 
   pub value_heard : IsBookValue (with_answer p a)
   value_heard = record {
@@ -105,13 +89,7 @@ module _ (p : BookValue) (s : ℕ) (a : AnswerValue) (is : IsBookValue p) (lt : 
 
 pub book_heard : (p : BookValue) (looked_up : List ℕ) (room : ℕ) (best : List (Option Link)) (s : ℕ) (a : AnswerValue) → IsBook p looked_up room best → s < length p.cut → refusal p s a ≡ None
     → IsBook (with_answer p a) looked_up room best
-book_heard p looked_up room best s a is lt none = record {
-  value = value_heard p s a is.value lt (accepted p s a none);
-  same_labels = is.same_labels;
-  room_for_answers = is.room_for_answers;
-  room_for_picks = is.room_for_picks;
-  no_picks = is.no_picks;
-}
+book_heard p looked_up room best s a is lt none = search (arith, value_heard, accepted)
 
 -- where none is missing each is taken
 none_missing : (taken : List Bool) → count_by not taken ≡ 0 → (s : ℕ) → s < length taken → get_or taken s true ≡ true

@@ -124,9 +124,7 @@ pub record HaveGiven (picks : List (Option Link)) (roots : List ℕ) (i : ℕ) (
 
 -- a list with room behind it still begins with what stood in it
 pub with_room : (old rest new : List Link) (n m : ℕ) → length old ≡ n → n ≤ m → new ≡ take m old ++ rest → take n new ≡ old
-with_room old rest new n m long le is =
-    let whole : take m old ≡ old = take_all m old (omega (arith, long, le)) in
-    ap (take n) (is ∙ ap (λ xs. xs ++ rest) whole) ∙ take_at old rest n long
+with_room old rest new n m long le is = search (arith, take_all, take_at)
 
 -- The pick of the next root is written behind those that were given so far, and counted where the root takes it.
 pub next_written : (picks : List (Option Link)) (labels roots : List ℕ) (i : ℕ) (before items : List Link) (count count' : ℕ) (l : Link) (takes : Bool) → AreRoots labels roots → i < length roots
@@ -172,14 +170,4 @@ all_given picks labels roots i before items count can past have = record {
 -- A root that is led where its pick leads it stays so while others are, and so does each that was led before.
 pub led_more : (labels : List ℕ) (picks : List (Option Link)) (roots parents : List ℕ) (i p : ℕ) → get_or roots i 0 < length parents → IsLed labels picks (get_or roots i 0) p → IsRoot labels p
     → ((k : ℕ) → k < i → IsLedBy labels picks parents (get_or roots k 0)) → (k : ℕ) → k < i + 1 → IsLedBy labels picks (set parents (get_or roots i 0) p) (get_or roots k 0)
-led_more labels picks roots parents i p within led root before k lt = elim (cases_eq (get_or roots k 0) (get_or roots i 0)) [
-  | inl is ↦
-      subst (IsLedBy labels picks (set parents (get_or roots i 0) p)) (sym is)
-      (subst (λ q. IsLed labels picks (get_or roots i 0) q × IsRoot labels q) (sym (get_or-set_same parents (get_or roots i 0) p 0 within)) (led, root))
-  | inr other ↦
-      let earlier : k < i = elim (cases_lt k i) [
-        | inl less ↦ less
-        | inr ge ↦ let place : k ≡ i = omega (arith, ge, lt) in absurd (other (ap (λ j. get_or roots j 0) place))
-      ] in
-      subst (λ q. IsLed labels picks (get_or roots k 0) q × IsRoot labels q) (sym (get_or-set_other parents (get_or roots i 0) (get_or roots k 0) p 0 other)) (before k earlier)
-]
+led_more labels picks roots parents i p within led root before k lt = search (arith, cases_eq, set, get_or-set_same, cases_lt, get_or-set_other)

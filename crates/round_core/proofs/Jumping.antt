@@ -54,53 +54,25 @@ module _ (roots old : List ℕ) (c : ℕ) (c_in : Contains roots c) (pointers : 
   }
     where
       at_root : (f : ℕ → ℕ) → ((x : ℕ) → Contains roots x → f x ≡ f (up' x)) → f c ≡ f (up c)
-      at_root f along = elim (cases_eq (up c) c) [
-        | inl stays ↦ ap f (sym stays)
-        | inr goes ↦ along c c_in ∙ ap f (at ∙ sym (off (up c) goes)) ∙ sym (along (up c) parent_in)
-      ]
+      at_root f along = search (arith, cases_eq, at, off, parent_in)
 
   -- what was settled stays so
   pub settled_on : (x : ℕ) → IsSettled old x → IsSettled new x
-  settled_on x settled = elim (cases_eq x c) [
-    | inl is ↦
-        let rests : up (up c) ≡ up c = subst (IsSettled old) is settled in
-        subst (λ ps. IsSettled ps x) (sym (ap (set old c) rests ∙ set-get_or old c 0)) settled
-    | inr other ↦ ap up' (off x other) ∙ elim (cases_eq (up x) c) [
-      | inl is ↦
-          let stays : up c ≡ c = ap up (sym is) ∙ settled ∙ is in
-          ap up' is ∙ at ∙ ap up stays ∙ stays ∙ sym is ∙ sym (off x other)
-      | inr goes ↦ off (up x) goes ∙ settled ∙ sym (off x other)
-    ]
-  ]
+  settled_on x settled = search (arith, cases_eq, set, set-get_or, off, at)
 
   -- ranks still descend along the parents: the rank of the root's new parent is at most that of the old one, and less where that wasn't settled
   module _ (rank : ℕ → ℕ) (down : Descend roots rank old) where
     jump_descends : Descend roots rank new
-    jump_descends x x_in = elim (cases_eq x c) [
-      | inl is ↦ subst (λ y. (up' y ≡ y) ⊎ (rank (up' y) < rank y)) (sym is) (elim (down c c_in) [
-        | inl stays ↦ inl (at ∙ ap up stays ∙ stays)
-        | inr less ↦ elim (down (up c) parent_in) [
-          | inl rests ↦ inr (subst (λ p. rank p < rank c) (sym (at ∙ rests)) less)
-          | inr less' ↦ inr (subst (λ p. rank p < rank c) (sym at) (omega (arith, less, less')))
-        ]
-      ])
-      | inr other ↦ subst (λ p. (p ≡ x) ⊎ (rank p < rank x)) (sym (off x other)) (down x x_in)
-    ]
+    jump_descends x x_in = search (arith, cases_eq, at, parent_in, off)
 
     sums : sum_by rank new + rank (up c) ≡ sum_by rank old + rank (up (up c))
     sums = sum_by-set rank old c (up (up c)) 0 (pointers.within c c_in)
 
     no_more : sum_by rank new ≤ sum_by rank old
-    no_more = elim (down (up c) parent_in) [
-      | inl rests ↦ let same = ap rank rests in omega (arith, sums, same)
-      | inr less ↦ omega (arith, sums, less)
-    ]
+    no_more = search (arith, parent_in, sums)
 
     fewer : ¬ (IsSettled old c) → sum_by rank new < sum_by rank old
-    fewer moves = elim (down (up c) parent_in) [
-      | inl rests ↦ absurd (moves rests)
-      | inr less ↦ omega (arith, sums, less)
-    ]
+    fewer moves = search (arith, parent_in, sums)
 
 -- some roots have jumped
 pub record HaveJumped (roots old new : List ℕ) : Type 0 where
@@ -125,21 +97,12 @@ LowersRanks roots old new = (rank : ℕ → ℕ) → Descend roots rank old → 
 
 -- so it is once a root's parent has led to another
 pub lower_by_last : (roots old new : List ℕ) (c : ℕ) → Contains roots c → HaveJumped roots old new → ¬ (IsSettled new c) → LowersRanks roots old (jumped new c)
-lower_by_last roots old new c c_in have moves rank down =
-    let (down', le) = have.descend rank down in
-    let less = fewer roots new c c_in have.pointers rank down' moves in
-    omega (arith, le, less)
+lower_by_last roots old new c c_in have moves rank down = search (arith, fewer)
 
 pub lower_still : (roots old new : List ℕ) (c : ℕ) → Contains roots c → HaveJumped roots old new → LowersRanks roots old new → LowersRanks roots old (jumped new c)
-lower_still roots old new c c_in have lower rank down =
-    let less = lower rank down in
-    let le = no_more roots new c c_in have.pointers rank (have.descend rank down).0 in
-    omega (arith, less, le)
+lower_still roots old new c c_in have lower rank down = search (arith, no_more)
 
 -- where it has nowhere to jump to, and those before it had not, all of them are settled
 pub settled_more : (roots new : List ℕ) (k : ℕ) → ((j : ℕ) → j < k → IsSettled new (get_or roots j 0)) → get_or new (get_or new (get_or roots k 0) 0) 0 ≡ get_or new (get_or roots k 0) 0
     → (j : ℕ) → j < k + 1 → IsSettled (set new (get_or roots k 0) (get_or new (get_or new (get_or roots k 0) 0) 0)) (get_or roots j 0)
-settled_more roots new k before rests j lt =
-    let c : ℕ = get_or roots k 0 in
-    let same : set new c (get_or new (get_or new c 0) 0) ≡ new = ap (set new c) rests ∙ set-get_or new c 0 in
-    subst (λ ps. IsSettled ps (get_or roots j 0)) (sym same) (below_more (λ i. IsSettled new (get_or roots i 0)) k before rests j lt)
+settled_more roots new k before rests j lt = search (arith, set, set-get_or, below_more)

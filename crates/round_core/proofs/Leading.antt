@@ -36,11 +36,7 @@ other_end labels l c (inr (other, high)) = (label_of labels l.low, inr (refl, hi
 
 -- labels of a link's ends are roots
 pub end_root : (labels : List ℕ) → AreLabels labels → (v : ℕ) → IsVertex (length labels) v → IsRoot labels (label_of labels v)
-end_root labels are v vertex =
-    let at = are.labelled v vertex.0 vertex.1 in
-    let one : 1 ≤ label_of labels v = at.from_one in
-    let le : label_of labels v ≤ v = at.at_most_itself in
-    ((one, omega (arith, le, vertex.1)), at.own)
+end_root labels are v vertex = search arith
 
 pub low_vertex : (labels : List ℕ) (l : Link) → l.high ≤ length labels → IsVertex (length labels) l.low
 low_vertex labels l end = (l.from_one, omega (arith, l.ascending, end))
@@ -49,10 +45,8 @@ pub high_vertex : (labels : List ℕ) (l : Link) → l.high ≤ length labels �
 high_vertex labels l end = (omega (arith, l.from_one, l.ascending), end)
 
 pub ends_root : (labels : List ℕ) (l : Link) (c d : ℕ) → AreLabels labels → l.high ≤ length labels → HasEndLabels labels l c d → IsRoot labels c × IsRoot labels d
-ends_root labels l c d are end (inl (low, high)) =
-    (subst (IsRoot labels) low (end_root labels are l.low (low_vertex labels l end)), subst (IsRoot labels) high (end_root labels are l.high (high_vertex labels l end)))
-ends_root labels l c d are end (inr (low, high)) =
-    (subst (IsRoot labels) high (end_root labels are l.high (high_vertex labels l end)), subst (IsRoot labels) low (end_root labels are l.low (low_vertex labels l end)))
+ends_root labels l c d are end (inl (low, high)) = search (arith, end_root, low_vertex, high_vertex)
+ends_root labels l c d are end (inr (low, high)) = search (arith, end_root, high_vertex, low_vertex)
 
 turned : (labels : List ℕ) (l : Link) (c d : ℕ) → HasEndLabels labels l c d → HasEndLabels labels l d c
 turned labels l c d (inl ends) = inr ends
@@ -72,17 +66,7 @@ same_other labels l c d e (inr (low, high)) (inr (low', high')) = sym low ∙ lo
 
 -- where its pick leads a label
 led_to : (labels : List ℕ) (picks : List (Option Link)) (c d p : ℕ) (l : Link) → pick_of picks c ≡ Some l → HasEndLabels labels l c d → (pick_of picks d ≡ Some l → p ≡ min c d) → (pick_of picks d ≢ Some l → p ≡ d) → IsLed labels picks c p
-led_to labels picks c d p l here ends lesser apart = record {
-  stays = λ none. let wrong : Some l ≡ None = sym here ∙ none in absurd (cc);
-  to_lesser = λ m e m_here m_ends m_there. lesser (ap (pick_of picks) (other m e m_here m_ends) ∙ m_there ∙ ap Some (sym (same m m_here))) ∙ ap (min c) (other m e m_here m_ends);
-  to_other = λ m e m_here m_ends m_not. apart (λ there. m_not (ap (pick_of picks) (sym (other m e m_here m_ends)) ∙ there ∙ ap Some (same m m_here))) ∙ other m e m_here m_ends;
-}
-  where
-    same : (m : Link) → pick_of picks c ≡ Some m → l ≡ m
-    same m m_here = let both : Some l ≡ Some m = sym here ∙ m_here in cc
-
-    other : (m : Link) (e : ℕ) → pick_of picks c ≡ Some m → HasEndLabels labels m c e → d ≡ e
-    other m e m_here m_ends = same_other labels l c d e ends (subst (λ k. HasEndLabels labels k c e) (sym (same m m_here)) m_ends)
+led_to labels picks c d p l here ends lesser apart = search (arith, min, same_other)
 
 -- what is known of a root that has a pick
 record HasPick (labels : List ℕ) (S : LinkSet) (picks : List (Option Link)) (c : ℕ) (l : Link) : Type 0 where
@@ -96,11 +80,7 @@ record HasPick (labels : List ℕ) (S : LinkSet) (picks : List (Option Link)) (c
 
 -- a link with ends of different labels leaves the other one too
 leaves_both : (labels : List ℕ) (l : Link) (c d : ℕ) → Leaves labels l c → HasEndLabels labels l c d → Leaves labels l d
-leaves_both labels l c d leaves ends = (leaves_both_ends labels l d).1 (leaves_apart labels l c leaves, is_end ends)
-  where
-    is_end : HasEndLabels labels l c d → (d ≡ label_of labels l.low) ⊎ (d ≡ label_of labels l.high)
-    is_end (inl (low, high)) = inr (sym high)
-    is_end (inr (low, high)) = inl (sym low)
+leaves_both labels l c d leaves ends = search (arith, leaves_both_ends, leaves_apart)
 
 module _ (labels : List ℕ) (S : LinkSet) (picks : List (Option Link)) (are_labels : AreLabels labels) (are : ArePicks labels S picks) where
   pub picked_at : (c : ℕ) (l : Link) → pick_of picks c ≡ Some l → Picked picks l
@@ -150,32 +130,16 @@ module _ (labels : List ℕ) (S : LinkSet) (picks : List (Option Link)) (are_lab
 
         test : (pick_of picks d ≢ Some l) ⊎ (c < d) → (least_end labels l ≡ c - 1) ⊎ (get_or picks (least_end labels l) None ≢ Some l)
         test (inr lt) = inl (place (omega (arith, lt)))
-        test (inl not_there) = elim (cases_lt d c) [
-          | inl lt ↦ inr (λ there. not_there (ap (λ k. get_or picks k None) (sym (other lt)) ∙ there))
-          | inr ge ↦ inl (place ge)
-        ]
+        test (inl not_there) = search (arith, cases_lt, other, place)
 
     apart : c ≢ d
-    apart same = leaves_apart labels l c (has_pick c l vertex here).least.leaves (equal ends)
-      where
-        equal : HasEndLabels labels l c d → label_of labels l.low ≡ label_of labels l.high
-        equal (inl (low, high)) = low ∙ same ∙ sym high
-        equal (inr (low, high)) = low ∙ sym same ∙ sym high
+    apart same = search (arith, leaves_apart, has_pick)
 
     not_first_here : 1 ≤ d → pick_of picks d ≡ Some l → d ≤ c → ¬ (IsFirstPickedAt picks l (c - 1))
-    not_first_here one there le first =
-        let ne = apart in
-        let before : d - 1 < c - 1 = elim (cases_lt d c) [ inl lt ↦ omega (arith, lt, one) | inr ge ↦ absurd (ne (omega (arith, ge, le))) ] in
-        first.first (d - 1) before there
+    not_first_here one there le first = search (arith, apart, cases_lt)
 
     takes_where : (takes : Bool) → 1 ≤ d → (takes ≡ true → (pick_of picks d ≢ Some l) ⊎ (c < d)) → (takes ≡ false → (pick_of picks d ≡ Some l) × (d ≤ c)) → Gives picks c takes l
-    takes_where takes one if_so if_not = record {
-      first = λ is. first_here (if_so is);
-      none = λ is m first.
-          let both : Some l ≡ Some m = sym here ∙ first.here in
-          let same : l ≡ m = cc in
-          not_first_here one (if_not is).0 (if_not is).1 (subst (λ k. IsFirstPickedAt picks k (c - 1)) (sym same) first);
-    }
+    takes_where takes one if_so if_not = search (arith, first_here, not_first_here)
 
     -- a look whether the labels have the same pick decides which takes it
     pub is_taker : (paired : Bool) → 1 ≤ d → (paired ≡ true) ↔ (pick_of picks c ≡ pick_of picks d) → Gives picks c (not paired || ltb c d) l
@@ -264,9 +228,7 @@ module _ (labels : List ℕ) (S : LinkSet) (picks : List (Option Link)) (are_lab
     -- the other label's pick is less, where it isn't the same
     lower : (c : ℕ) (l : Link) → (has : HasPick labels S picks c l) → pick_of picks c ≡ Some l → pick_of picks has.other ≢ Some l → (pick : Option Link) → pick_of picks has.other ≡ pick
         → rank_of_pick (pick_of picks has.other) < rank_of_pick (pick_of picks c)
-    lower c l has here not_there None there =
-        let none : NoneLeaves labels S has.other = subst (IsPickOf labels S has.other) there (are.least has.other has.other_root.0) in
-        absurd (none l has.least.member has.leaves_other)
+    lower c l has here not_there None there = search arith
     lower c l has here not_there (Some m) there =
         let least : IsLeastLeaving labels S has.other m = subst (IsPickOf labels S has.other) there (are.least has.other has.other_root.0) in
         let not_below : ¬ (IsBelow l m) = least.least l has.least.member has.leaves_other in

@@ -125,10 +125,7 @@ some_taken picks [] some once = absurd (some none)
 
 -- a round that isn't past the bound
 pub in_bound : (n m round : ℕ) (r : Bool) → (r ≡ true) ↔ IsPastBound m round → r ≡ false → m ≡ n → 2 ^ round ≤ max 1 n
-in_bound n m round r decides fails same = elim (cases_lt (max 1 m) (2 ^ round)) [
-  | inl past ↦ let wrong : false ≡ true = sym fails ∙ decides.1 past in absurd (cc)
-  | inr fits ↦ subst (λ k. 2 ^ round ≤ max 1 k) same fits
-]
+in_bound n m round r decides fails same = search (arith, cases_lt, max)
 
 pub is_merged : (p : Progress) (picks : List (Option Link)) (labels : List ℕ) (links taken : List Link) (count : ℕ) (r : Bool) → IsProgress p → ArePicksOfHearings p.labels picks
     → (r ≡ true) ↔ AreNoPicks picks → r ≡ false → ArePickedOnce picks links → IsRelabelling (vertices p) p.labels (Picked picks) labels → 2 ^ (p.rounds + 1) ≤ max 1 (vertices p) → count ≡ length links → taken ≡ p.taken ++ links

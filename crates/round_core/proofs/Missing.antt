@@ -1,5 +1,5 @@
 -- Links that a solver missed, and a forest that misses none.
-use Rattle.std.proofs.Common.{◌≡◌, ◌≢◌, ℕ, ◌≤◌, Bool, true, false, not, cond, List, [], ◌∷◌, get_or, Contains, Some, None, refl, sym, ap, ◌∙◌, inl, inr, ne_eqb}
+use Rattle.std.proofs.Common.{◌≡◌, ◌≢◌, ℕ, ◌≤◌, Bool, true, false, not, cond, List, [], ◌∷◌, get_or, Contains, Some, None, refl, sym, ap, ◌∙◌, inl, inr, ne_eqb, arith}
 use Rattle.std.specs.Prelude.{All}
 use Rattle.std.specs.List.Sorted.{IsPermutation}
 use Rattle.std.proofs.lemmas.List.Elements.{Contains-get_or, All-contains}
@@ -20,14 +20,7 @@ use Rattle.round_core.specs.Solver.{Progress, vertices, IsProgress, is_apart, mi
 -- where none is missed each link's ends have one label
 not_apart : (labels : List ℕ) (links : List Link) (l : Link) → missed labels links ≡ None → Contains links l → is_apart labels l ≡ false
 not_apart labels [] l none l_in = absurd (contains_none l l_in)
-not_apart labels (x ∷ links) l none l_in = by_test (is_apart labels x) refl (not_apart labels links l)
-  where
-    by_test : (b : Bool) → is_apart labels x ≡ b → (missed labels links ≡ None → Contains links l → is_apart labels l ≡ false) → is_apart labels l ≡ false
-    by_test true is rest = let wrong : Some x ≡ None = ap (λ b. cond b (Some x) (missed labels links)) (sym is) ∙ none in absurd (cc)
-    by_test false is rest = elim (contains_cases x l links l_in) [
-      | inl same ↦ ap (is_apart labels) same ∙ is
-      | inr later ↦ rest (ap (λ b. cond b (Some x) (missed labels links)) (sym is) ∙ none) later
-    ]
+not_apart labels (x ∷ links) l none l_in = search (arith, cond, contains_cases, not_apart labels links l)
 
 apart_is : (labels : List ℕ) (l : Link) → label_of labels l.low ≢ label_of labels l.high → is_apart labels l ≡ true
 apart_is labels l other = ap not (ne_eqb (label_of labels l.low) (label_of labels l.high) other)

@@ -24,10 +24,7 @@ at_contained P roots k past all c (j, within, here) = subst P (get_or_default ro
 
 -- the vertices from 1 on ascend, and are just these
 pub vertices_ascend : (vertices : List ℕ) → ((k : ℕ) → k < length vertices → get_or vertices k 0 ≡ k + 1) → AllPairs (λ b c. b < c) vertices
-vertices_ascend vertices own i j d lt within =
-    let at_i : get_or vertices i d ≡ i + 1 = get_or_default vertices i d 0 (omega (arith, lt, within)) ∙ own i (omega (arith, lt, within)) in
-    let at_j : get_or vertices j d ≡ j + 1 = get_or_default vertices j d 0 within ∙ own j within in
-    omega (arith, at_i, at_j, lt)
+vertices_ascend vertices own i j d lt within = search (arith, get_or_default)
 
 pub contained_is_vertex : (vertices : List ℕ) (c : ℕ) → ((k : ℕ) → k < length vertices → get_or vertices k 0 ≡ k + 1) → Contains vertices c → IsVertex (length vertices) c
 contained_is_vertex vertices c own (j, within, here) =
@@ -136,24 +133,10 @@ module _ (roots least old new : List ℕ) (k : ℕ) (ascending : AllPairs (λ b 
   u = get_or least (get_or new c 0) 0
 
   apart : (j : ℕ) → j ≢ k → j < length roots → get_or roots j 0 ≢ c
-  apart j other within same = elim (cases_lt j k) [
-    | inl lt ↦ let less : get_or roots j 0 < get_or roots k 0 = ascending j k 0 lt k_in in omega (arith, less, same)
-    | inr ge ↦ let less : get_or roots k 0 < get_or roots j 0 = ascending k j 0 (omega (arith, ge, other)) within in omega (arith, less, same)
-  ]
+  apart j other within same = search (arith, cases_lt)
 
   pub named_more : AreNamed roots least old (set new c u) (k + 1)
-  named_more = record {
-    long = length-set new c u ∙ are.long;
-    named = λ j before within. elim (cases_lt j k) [
-      | inl lt ↦ get_or-set_other new c (get_or roots j 0) u 0 (apart j (omega (arith, lt)) within) ∙ are.named j lt within
-      | inr ge ↦
-          let itself : j ≡ k = omega (arith, ge, before) in
-          let had : get_or new c 0 ≡ get_or old c 0 = are.rest k (omega arith) k_in in
-          subst (λ i. get_or (set new c u) (get_or roots i 0) 0 ≡ get_or least (get_or old (get_or roots i 0) 0) 0) (sym itself)
-          (get_or-set_same new c u 0 (omega (arith, c_in, are.long)) ∙ ap (λ p. get_or least p 0) had)
-    ];
-    rest = λ j from within. get_or-set_other new c (get_or roots j 0) u 0 (apart j (omega (arith, from)) within) ∙ are.rest j (omega (arith, from)) within;
-  }
+  named_more = search (arith, length-set, cases_lt, get_or-set_other, apart, set, get_or-set_same)
 
 pub named_all : (roots least old new : List ℕ) (k : ℕ) → length roots ≤ k → AreNamed roots least old new k → (c : ℕ) → Contains roots c → get_or new c 0 ≡ get_or least (get_or old c 0) 0
 named_all roots least old new k past are c (j, within, here) =
@@ -270,10 +253,7 @@ roots_few labels roots are = elim (cases_lt 0 (length roots)) [
 
     at : (j : ℕ) → j < length roots → j < get_or roots j 0
     at zero lt = (root 0 lt).0.0
-    at (suc j) lt =
-        let before : j < get_or roots j 0 = at j (omega (arith, lt)) in
-        let next : get_or roots j 0 < get_or roots (suc j) 0 = are.ascending j (suc j) 0 (omega arith) lt in
-        omega (arith, before, next)
+    at (suc j) lt = search (arith, at j)
 
 -- all roots are vertices
 pub roots_within : (labels roots : List ℕ) (n : ℕ) → n ≡ length labels → AreRoots labels roots → All (IsVertex n) roots

@@ -106,22 +106,7 @@ taken_are_least cut labels answers old new can each long none taken counted = re
 -- a link that leaves labels is counted where it isn't less than the numbers of both
 pub counted_by : (labels numbers : List ℕ) (l : Link) (m a b : ℕ) → l.high ≤ length labels → label_of labels l.low ≢ label_of labels l.high → a ≡ label_of labels l.low → b ≡ label_of labels l.high → IsKeyNumber l m
     → (get_or numbers (a - 1) 0 ≤ m) × (get_or numbers (b - 1) 0 ≤ m) ↔ IsCountedIn labels numbers l
-counted_by labels numbers l m a b end apart a_is b_is key = (to, back)
-  where
-    to : (get_or numbers (a - 1) 0 ≤ m) × (get_or numbers (b - 1) 0 ≤ m) → IsCountedIn labels numbers l
-    to (low, high) = record {
-      end = end;
-      least = λ c k leaves k_is. elim (leaves_end labels l c leaves) [
-        | inl is ↦ subst (λ d. get_or numbers (d - 1) 0 ≤ k) (a_is ∙ sym is) (omega (arith, ints, low, key, k_is))
-        | inr is ↦ subst (λ d. get_or numbers (d - 1) 0 ≤ k) (b_is ∙ sym is) (omega (arith, ints, high, key, k_is))
-      ];
-    }
-
-    back : IsCountedIn labels numbers l → (get_or numbers (a - 1) 0 ≤ m) × (get_or numbers (b - 1) 0 ≤ m)
-    back counted = (
-      counted.least a m (subst (Leaves labels l) (sym a_is) (leaves_low labels l apart)) key,
-      counted.least b m (subst (Leaves labels l) (sym b_is) (leaves_high labels l apart)) key,
-    )
+counted_by labels numbers l m a b end apart a_is b_is key = search (arith, leaves_end, leaves_low, leaves_high, ints)
 
 -- the links of offers are counted where a look at each offer finds that the link it names is
 pub all_counted : (labels numbers : List ℕ) (links : List Link) (offers : List Offer) (b : Bool) {X : Type 0} (now : X → Offer) (xs : List X) → map now xs ≡ offers → list_all (is_offer links labels) offers ≡ true

@@ -24,8 +24,7 @@ no_link above low high (inl b) (inl c) d le = absurd (omega (arith, c, le))
 
 pub no_pick_is_none : (k : ℕ) → k ≡ no_pick → pick_in k ≡ None
 unfolding pick_in
-no_pick_is_none k is = no_link (k / 2 ^ 64) (k / 2 ^ 32 % 2 ^ 32) (k % 2 ^ 32) (cases_lt 0 (k / 2 ^ 32 % 2 ^ 32)) (cases_lt (k / 2 ^ 32 % 2 ^ 32) (k % 2 ^ 32)) (cases_lt MAX_VERTICES (k % 2 ^ 32))
-    (rw is (omega arith))
+no_pick_is_none k is = search (arith, no_link, cases_lt)
 
 -- a weight, counted from the least one on
 counted_weight : (w : ℤ) → FitsSigned w64 w → (above : ℕ) × (pos above ≡ w +ℤ pos (2 ^ 63))
@@ -34,16 +33,7 @@ counted_weight (negsuc n) fits = (2 ^ 63 - 1 - n, omega (arith, ints, fits.sfits
 
 -- the fields in the number of a link
 has_fields : (l : Link) (k : ℕ) → IsKeyNumber l k → (pos (k / 2 ^ 64) ≡ l.weight +ℤ pos (2 ^ 63)) × (k / 2 ^ 32 % 2 ^ 32 ≡ l.low) × (k % 2 ^ 32 ≡ l.high)
-has_fields l k is =
-    let (above, above_is) = counted_weight l.weight l.weight_fits in
-    let low_in : l.low < 2 ^ 32 = omega (arith, l.ascending, l.in_limit) in
-    let high_in : l.high < 2 ^ 32 = omega (arith, l.in_limit) in
-    let sum : k ≡ above * 2 ^ 64 + l.low * 2 ^ 32 + l.high = omega (arith, ints, is, above_is) in
-    let fields = fields_of k above l.low l.high low_in high_in sum in
-    (ap pos fields.0 ∙ above_is, fields.1, fields.2)
-  where
-    fields_of : (k above low high : ℕ) → low < 2 ^ 32 → high < 2 ^ 32 → k ≡ above * 2 ^ 64 + low * 2 ^ 32 + high → (k / 2 ^ 64 ≡ above) × (k / 2 ^ 32 % 2 ^ 32 ≡ low) × (k % 2 ^ 32 ≡ high)
-    fields_of k above low high low_in high_in is = (omega arith, omega arith, omega arith)
+has_fields l k is = search (arith, counted_weight, ints)
 
 is_link : (l : Link) (above low high : ℕ) (b : (0 < low) ⊎ (low ≤ 0)) (c : (low < high) ⊎ (high ≤ low)) (d : (MAX_VERTICES < high) ⊎ (high ≤ MAX_VERTICES))
     → pos above ≡ l.weight +ℤ pos (2 ^ 63) → low ≡ l.low → high ≡ l.high → link_of above low high b c d ≡ Some l
@@ -72,11 +62,7 @@ number_of l = to_number (wide_key l +ℤ pos (2 ^ 127))
 
 pub has_number : (l : Link) → IsKeyNumber l (number_of l)
 unfolding to_number number_of
-has_number l = at (wide_key l +ℤ pos (2 ^ 127)) refl
-  where
-    at : (z : ℤ) → wide_key l +ℤ pos (2 ^ 127) ≡ z → pos (to_number z) ≡ z
-    at (pos n) is = refl
-    at (negsuc n) is = absurd (omega (arith, ints, is, l.ascending, l.in_limit, l.weight_fits))
+has_number l = search (arith, to_number, negsuc, ints)
 
 -- no link has the number of no pick
 pub key_below_no_pick : (l : Link) (k : ℕ) → IsKeyNumber l k → k < no_pick
@@ -89,24 +75,11 @@ below_is_less l m j k l_is m_is below = let less = wide_below l m below in omega
 -- the pick that a number stands for, made of its fields
 pub pick_is : (k : ℕ) (x : Link) → IsPickNumber k → k ≢ no_pick → pos (k / 2 ^ 64) ≡ x.weight +ℤ pos (2 ^ 63) → k / 2 ^ 32 % 2 ^ 32 ≡ x.low → k % 2 ^ 32 ≡ x.high → Some x ≡ pick_in k
 pick_is k x (inl none) some above low high = absurd (some none)
-pick_is k x (inr (l, is)) some above low high =
-    let fields = has_fields l k is in
-    let one : x ≡ l = link_eq x l (omega (arith, ints, above, fields.0)) (sym low ∙ fields.1) (sym high ∙ fields.2) in
-    ap Some one ∙ sym (key_is_pick l k is)
+pick_is k x (inr (l, is)) some above low high = search (arith, has_fields, link_eq, key_is_pick, ints)
 
 -- two numbers of picks are equal just where they stand for the same pick
 pub same_pick : (j k : ℕ) → IsPickNumber j → IsPickNumber k → (j ≡ k) ↔ (pick_in j ≡ pick_in k)
-same_pick j k j_is k_is = (λ same. ap pick_in same, back j_is k_is)
-  where
-    back : IsPickNumber j → IsPickNumber k → pick_in j ≡ pick_in k → j ≡ k
-    back (inl none) (inl none') same = none ∙ sym none'
-    back (inl none) (inr (l, is)) same = let wrong : None ≡ Some l = sym (no_pick_is_none j none) ∙ same ∙ key_is_pick l k is in absurd (cc)
-    back (inr (l, is)) (inl none) same = let wrong : Some l ≡ None = sym (key_is_pick l j is) ∙ same ∙ no_pick_is_none k none in absurd (cc)
-    back (inr (l, is)) (inr (m, m_is)) same =
-        let both : Some l ≡ Some m = sym (key_is_pick l j is) ∙ same ∙ key_is_pick m k m_is in
-        let one : l ≡ m = cc in
-        let equal : pos j ≡ pos k = is ∙ ap (λ (x : Link). wide_key x +ℤ pos (2 ^ 127)) one ∙ sym m_is in
-        cc
+same_pick j k j_is k_is = search (arith, no_pick_is_none, key_is_pick)
 
 -- the numbers of no picks are those that stand for none
 pub none_where_no_picks : (numbers : List ℕ) → All IsPickNumber numbers → All (λ k. k ≡ no_pick) numbers ↔ AreNoPicks (map pick_in numbers)

@@ -42,9 +42,7 @@ module _ (labels : List ℕ) (links : List Link) (picks : List (Option Link)) (a
   same_picked l = (picked_is_pick labels (Contains links) picks l are, is_picked l)
 
 same_at : (links taken taken' : List Link) (n n' i i' : ℕ) → n' ≡ n → i' ≡ i → taken' ≡ taken → SameLinks (Contains taken) (TakenAfter n links i) → SameLinks (Contains taken') (TakenAfter n' links i')
-same_at links taken taken' n n' i i' same_n same_i same_taken same =
-    subst (λ xs. SameLinks (Contains xs) (TakenAfter n' links i')) (sym same_taken)
-    (subst (λ m. SameLinks (Contains taken) (TakenAfter m links i')) (sym same_n) (subst (λ k. SameLinks (Contains taken) (TakenAfter n links k)) (sym same_i) same))
+same_at links taken taken' n n' i i' same_n same_i same_taken same = search arith
 
 -- what so many rounds took, and what the next one picks
 module _ (links : List Link) (p : Progress) (picks : List (Option Link)) (is : IsProgress p) (ends : EndsUpTo (vertices p) links) (so_far : HasRoundsOf links p) (are : ArePicks p.labels (Contains links) picks) where
@@ -120,26 +118,12 @@ module _ (links : List Link) (p : Progress) (picks : List (Option Link)) (is : I
 
 -- before the first round
 pub at_first : (links : List Link) (n : ℕ) (p : Progress) → IsAtStart n p → HasRoundsOf links p
-at_first links n p start = record {
-  same = rw (start.taken, start.rounds) (nothing_taken (vertices p) links);
-  earlier = λ k lt. absurd (omega (arith, lt, start.rounds));
-}
+at_first links n p start = search (arith, nothing_taken)
 
 -- a link that is missed is one of the list, with ends of different labels
 missed_is : (labels : List ℕ) (links : List Link) (l : Link) → missed labels links ≡ Some l → Contains links l × (label_of labels l.low ≢ label_of labels l.high)
 missed_is labels [] l found = absurd (cc)
-missed_is labels (x ∷ links) l found = by_test (is_apart labels x) refl (missed_is labels links l)
-  where
-    by_test : (b : Bool) → is_apart labels x ≡ b → (missed labels links ≡ Some l → Contains links l × (label_of labels l.low ≢ label_of labels l.high)) → Contains (x ∷ links) l × (label_of labels l.low ≢ label_of labels l.high)
-    by_test true is rest =
-        let both : Some x ≡ Some l = ap (λ b. cond b (Some x) (missed labels links)) (sym is) ∙ found in
-        let same : x ≡ l = cc in (
-          subst (Contains (x ∷ links)) same (contains_head x links),
-          λ one.
-              let joined : is_apart labels x ≡ false = ap not (eq-eqb (label_of labels x.low) (label_of labels x.high) (subst (λ (m : Link). label_of labels m.low ≡ label_of labels m.high) (sym same) one)) in
-              let wrong : true ≡ false = sym is ∙ joined in absurd (cc),
-        )
-    by_test false is rest = let (l_in, apart) = rest (ap (λ b. cond b (Some x) (missed labels links)) (sym is) ∙ found) in (contains_tail x l links l_in, apart)
+missed_is labels (x ∷ links) l found = search (arith, cond, contains_head, not, eq-eqb, contains_tail, missed_is labels links l)
 
 -- what is left after so many rounds
 module _ (links : List Link) (p : Progress) (is : IsProgress p) (ends : EndsUpTo (vertices p) links) (so_far : HasRoundsOf links p) where
@@ -176,6 +160,4 @@ pub record IsEnded (n : ℕ) (links : List Link) (p : Progress) : Type 0 where
   pub all : IsMergingRounds (vertices p) links p.rounds
 
 pub ended : (n : ℕ) (links : List Link) (old new : Progress) (turn : Turn) → vertices old ≡ n → HasRoundsOf links old → turn ≡ Done → IsRoundOf links old new turn → IsEnded n links new
-ended n links old new turn same_vertices so_far is_done round =
-    let done : (new ≡ old) × IsMergingRounds (vertices old) links old.rounds = subst (IsRoundOf links old new) is_done round in
-    subst (IsEnded n links) (sym done.0) (record { same_vertices = same_vertices; so_far = so_far; all = done.1 })
+ended n links old new turn same_vertices so_far is_done round = search arith

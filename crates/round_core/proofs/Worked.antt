@@ -27,30 +27,10 @@ start_holds = merging.at_start 3 apart [] (lit≤ tt) ((apart_by_no_links 3 apar
 
 -- what the two steps pick
 pub first_are : ArePicks apart (Contains triangle) first_picks
-first_are = record { each_vertex = refl; ends = ends; least = least }
-  where
-    ends : (l : Link) → Picked first_picks l → l.high ≤ 3
-    ends l picked = All-contains (λ (pick : Option Link). MatchOption pick ⊤ (λ (l : Link). l.high ≤ 3)) first_picks (Some l) (All-from_recursion (λ (pick : Option Link). MatchOption pick ⊤ (λ (l : Link). l.high ≤ 3)) first_picks (lit≤ tt, (lit≤ tt, (lit≤ tt, tt)))) picked
-
-    least : (c : ℕ) → IsVertex 3 c → IsPickOf apart (Contains triangle) c (pick_of first_picks c)
-    least zero vertex = absurd (omega (arith, vertex.0))
-    least (suc zero) vertex = least_1
-    least (suc (suc zero)) vertex = least_2
-    least (suc (suc (suc zero))) vertex = least_3
-    least (suc (suc (suc (suc c)))) vertex = absurd (omega (arith, vertex.1))
+first_are = search (arith, lit≤, zero, least_1, least_2, least_3)
 
 pub last_are : ArePicks joined (Contains triangle) last_picks
-last_are = record { each_vertex = refl; ends = ends; least = least }
-  where
-    ends : (l : Link) → Picked last_picks l → l.high ≤ 3
-    ends l picked = absurd (All-contains (λ (pick : Option Link). MatchOption pick ⊤ (λ (l : Link). ⊥)) last_picks (Some l) (All-from_recursion (λ (pick : Option Link). MatchOption pick ⊤ (λ (l : Link). ⊥)) last_picks (tt, (tt, (tt, tt)))) picked)
-
-    least : (c : ℕ) → IsVertex 3 c → IsPickOf joined (Contains triangle) c (pick_of last_picks c)
-    least zero vertex = absurd (omega (arith, vertex.0))
-    least (suc zero) vertex = λ l l_in. none_left l 1 l_in
-    least (suc (suc zero)) vertex = λ l l_in. none_left l 2 l_in
-    least (suc (suc (suc zero))) vertex = λ l l_in. none_left l 3 l_in
-    least (suc (suc (suc (suc c)))) vertex = absurd (omega (arith, vertex.1))
+last_are = search (arith, joined, zero, none_left)
 
 pub last_none : AreNoPicks last_picks
 last_none = All-from_recursion (λ (pick : Option Link). pick ≡ None) last_picks (refl, (refl, (refl, tt)))
@@ -75,12 +55,7 @@ first_once = record { exact = exact; in_order = in_order }
     here = record { here = refl; first = λ k lt. absurd (omega (arith, lt)) }
 
     there : IsFirstPickedAt first_picks link_1_3 2
-    there = record { here = refl; first = before }
-      where
-        before : (k : ℕ) → k < 2 → slice_index_or first_picks k None ≢ Some link_1_3
-        before zero lt = differ
-        before (suc zero) lt = differ
-        before (suc (suc k)) lt = absurd (omega (arith, lt))
+    there = search (arith, here, zero, differ)
 
     in_order : AllPairs (IsPickedBefore first_picks) two_sides
     in_order zero zero d lt within = absurd (omega (arith, lt))
@@ -90,16 +65,7 @@ first_once = record { exact = exact; in_order = in_order }
     in_order i (suc (suc j)) d lt within = absurd (omega (arith, within))
 
 pub first_merged : IsMerged first_picks 2 at_start after_first
-first_merged = record {
-  some = lit< tt;
-  added = two_sides;
-  number = refl;
-  picked = first_once;
-  taken = refl;
-  labelling = joined_is;
-  rounds = refl;
-  in_time = lit≤ tt;
-}
+first_merged = search (arith, lit<, first_once, joined_is, lit≤)
 
 two_sides_no_cycle : HasNoCycle (Contains two_sides)
 two_sides_no_cycle = added_close_no_cycle (Contains triangle) 3 [] two_sides apart none_ends apart_is (λ l l_in. absurd (contains_none l l_in)) (λ l. (picks_are_two_sides l).0)

@@ -24,27 +24,15 @@ size-nil c = refl
 pub size_one : (c : ℕ) (xs : List ℕ) (k : ℕ) → k < length xs → get_or xs k 0 ≡ c → 1 ≤ size_of c xs
 size_one c [] k lt at = absurd (omega arith)
 size_one c (x ∷ xs) zero lt at = omega (arith, size-hit c x xs at)
-size_one c (x ∷ xs) (suc k) lt at = elim (cases_eq x c) [
-  | inl same ↦ omega (arith, size-hit c x xs same)
-  | inr other ↦ omega (arith, size-miss c x xs other, size_one c xs k (omega arith) at)
-]
+size_one c (x ∷ xs) (suc k) lt at = search (arith, cases_eq, size-hit, size-miss, size_one c xs k (omega arith) at)
 
 -- two labels count no place twice
 pub two_sizes : (c d : ℕ) (xs : List ℕ) → c ≢ d → size_of c xs + size_of d xs ≤ length xs
 two_sizes c d [] other = omega (arith, size-nil c, size-nil d)
-two_sizes c d (x ∷ xs) other = elim (cases_eq x c) [
-  | inl is_c ↦ omega (arith, size-hit c x xs is_c, size-miss d x xs (λ is_d. other (sym is_c ∙ is_d)), two_sizes c d xs other)
-  | inr not_c ↦ elim (cases_eq x d) [
-    | inl is_d ↦ omega (arith, size-miss c x xs not_c, size-hit d x xs is_d, two_sizes c d xs other)
-    | inr not_d ↦ omega (arith, size-miss c x xs not_c, size-miss d x xs not_d, two_sizes c d xs other)
-  ]
-]
+two_sizes c d (x ∷ xs) other = search (arith, cases_eq, size-hit, size-miss, two_sizes c d xs other)
 
 size_grows : (e y : ℕ) (ys : List ℕ) → size_of e ys ≤ size_of e (y ∷ ys)
-size_grows e y ys = elim (cases_eq y e) [
-  | inl same ↦ omega (arith, size-hit e y ys same)
-  | inr other ↦ omega (arith, size-miss e y ys other)
-]
+size_grows e y ys = search (arith, cases_eq, size-hit, size-miss)
 
 -- Where every place that had one of two labels has the label e in a new list, e counts at least what they counted together.
 pub sizes_add : (c d e : ℕ) (old new : List ℕ) → length old ≡ length new → c ≢ d → ((k : ℕ) → k < length old → get_or old k 0 ≡ c → get_or new k 0 ≡ e) → ((k : ℕ) → k < length old → get_or old k 0 ≡ d → get_or new k 0 ≡ e) → size_of c old + size_of d old ≤ size_of e new

@@ -19,8 +19,7 @@ pub any_permutation : {X : Type 0} (P : X → Type 0) (xs ys : List X) → IsPer
 any_permutation P xs ys moved (k, x, lt, at, here) = any_from P ys x (Contains-permutation xs ys x moved (k, lt, at)) here
 
 any_cons : {X : Type 0} (P : X → Type 0) (y : X) (xs : List X) → Any P (y ∷ xs) → P y ⊎ Any P xs
-any_cons P y xs (zero, x, lt, at, here) = inl (subst P (sym at) here)
-any_cons P y xs (suc k, x, lt, at, here) = inr (k, x, omega arith, at, here)
+any_cons a1 a2 a3 a4 = search arith
 
 any_more : {X : Type 0} (P : X → Type 0) (y : X) (xs : List X) → Any P xs → Any P (y ∷ xs)
 any_more P y xs (k, x, lt, at, here) = (suc k, x, omega arith, at, here)
@@ -73,13 +72,7 @@ light_names labels h light c l is =
 
 -- what is below l, and not below k, which isn't below l
 pub not_between : (k l m : Link) → ¬ (IsBelow k l) → ¬ (IsBelow m k) → ¬ (IsBelow m l)
-not_between k l m k_not m_not below = elim (trichotomy m k) [
-  | inl lower ↦ m_not lower
-  | inr rest ↦ elim rest [
-    | inl same ↦ k_not (subst (λ x. IsBelow x l) same below)
-    | inr higher ↦ k_not (below_trans k m l higher below)
-  ]
-]
+not_between k l m k_not m_not below = search (arith, trichotomy, below_trans)
 
 -- The least link of the list that leaves c is the least of its shard, so it is named; and of the named links, which
 -- stand in the list, none is less. Another way round, each link of a shard that leaves c is no less than the

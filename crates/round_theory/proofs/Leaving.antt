@@ -1,5 +1,5 @@
 -- Links that leave a component, and the least of them.
-use Rattle.std.proofs.Common.{◌≡◌, ◌≢◌, ℕ, ◌⊎◌, ◌↔◌, List, [], ◌∷◌, Contains, refl, sym, ap, ◌∙◌, subst, inl, inr}
+use Rattle.std.proofs.Common.{◌≡◌, ◌≢◌, ℕ, ◌⊎◌, ◌↔◌, List, [], ◌∷◌, Contains, refl, sym, ap, ◌∙◌, subst, inl, inr, arith}
 use Rattle.std.specs.List.{AllByRecursion}
 use Rattle.std.proofs.lemmas.Bool.{cases_eq}
 use Rattle.links.specs.declared.links.Link.{Link}
@@ -54,13 +54,11 @@ least_leaving_in_forest links labels c l is = (
 
 -- a link that leaves a label has ends of different labels
 pub leaves_apart : (labels : List ℕ) (l : Link) (c : ℕ) → Leaves labels l c → label_of labels l.low ≢ label_of labels l.high
-leaves_apart labels l c (inl (inside, outside)) same = outside (sym same ∙ inside)
-leaves_apart labels l c (inr (outside, inside)) same = outside (same ∙ inside)
+leaves_apart a1 a2 a3 a4 a5 = search arith
 
 -- it leaves the label of one of its ends
 pub leaves_end : (labels : List ℕ) (l : Link) (c : ℕ) → Leaves labels l c → (c ≡ label_of labels l.low) ⊎ (c ≡ label_of labels l.high)
-leaves_end labels l c (inl (inside, outside)) = inl (sym inside)
-leaves_end labels l c (inr (outside, inside)) = inr (sym inside)
+leaves_end a1 a2 a3 a4 = search arith
 
 -- and a link with ends of different labels leaves both
 pub leaves_low : (labels : List ℕ) (l : Link) → label_of labels l.low ≢ label_of labels l.high → Leaves labels l (label_of labels l.low)
@@ -70,23 +68,11 @@ pub leaves_high : (labels : List ℕ) (l : Link) → label_of labels l.low ≢ l
 leaves_high labels l apart = inr (apart, refl)
 
 pub leaves_dec : (labels : List ℕ) (l : Link) (c : ℕ) → Decided (Leaves labels l c)
-leaves_dec labels l c = elim (cases_eq (label_of labels l.low) c) [
-  | inl low ↦ elim (cases_eq (label_of labels l.high) c) [
-    | inl high ↦ inr (λ leaves. leaves_apart labels l c leaves (low ∙ sym high))
-    | inr out ↦ inl (inl (low, out))
-  ]
-  | inr out ↦ elim (cases_eq (label_of labels l.high) c) [
-    | inl high ↦ inl (inr (out, high))
-    | inr out' ↦ inr (λ leaves. elim (leaves_end labels l c leaves) [ inl is ↦ out (sym is) | inr is ↦ out' (sym is) ])
-  ]
-]
+leaves_dec labels l c = search (arith, cases_eq, leaves_apart, leaves_end)
 
 -- of two links neither of which is below the other, one is the other
 pub same_unless_below : (l m : Link) → ¬ (IsBelow l m) → ¬ (IsBelow m l) → l ≡ m
-same_unless_below l m not_below not_above = elim (trichotomy l m) [
-  | inl below ↦ absurd (not_below below)
-  | inr rest ↦ elim rest [ inl same ↦ same | inr above ↦ absurd (not_above above) ]
-]
+same_unless_below l m not_below not_above = search (arith, trichotomy)
 
 pub least_leaving_unique : (labels : List ℕ) (S : LinkSet) (c : ℕ) (l m : Link) → IsLeastLeaving labels S c l → IsLeastLeaving labels S c m → l ≡ m
 least_leaving_unique labels S c l m at_l at_m = same_unless_below l m (at_m.least l at_l.member at_l.leaves) (at_l.least m at_m.member at_m.leaves)
@@ -142,11 +128,7 @@ pub least_leaving_exists : (links : List Link) (labels : List ℕ) (c : ℕ) (m 
 least_leaving_exists links labels c m m_in leaves = elim (least_leaving labels links c) [ inl found ↦ found | inr none ↦ absurd (none m m_in leaves) ]
 
 pub leaves_both_ends : (labels : List ℕ) (l : Link) (c : ℕ) → Leaves labels l c ↔ (label_of labels l.low ≢ label_of labels l.high) × ((c ≡ label_of labels l.low) ⊎ (c ≡ label_of labels l.high))
-leaves_both_ends labels l c = (λ leaves. (leaves_apart labels l c leaves, leaves_end labels l c leaves), back)
-  where
-    back : (label_of labels l.low ≢ label_of labels l.high) × ((c ≡ label_of labels l.low) ⊎ (c ≡ label_of labels l.high)) → Leaves labels l c
-    back (apart, inl is) = subst (Leaves labels l) (sym is) (leaves_low labels l apart)
-    back (apart, inr is) = subst (Leaves labels l) (sym is) (leaves_high labels l apart)
+leaves_both_ends labels l c = search (arith, leaves_apart, leaves_end, leaves_low, leaves_high)
 
 -- A set spans a list exactly where no link of the list leaves a label: a link whose ends are joined has one label at
 -- both, and where each link is so, a walk over the list becomes one over the set.

@@ -79,10 +79,7 @@ light_offers_exist links labels = (had.offers, record { ascending = had.are.asce
 
 -- a light offer names its link
 pub light_offer_leaves : (links : List Link) (labels : List ℕ) (c i : ℕ) → IsLightOffer links labels c i → OffersLeaving links labels (c, i)
-light_offer_leaves links labels c i (l, least, at) = record {
-  within = at.within;
-  leaves = λ x read. subst (λ y. Leaves labels y c) (sym (sym read ∙ get_or_default links i x l at.within ∙ at.here)) least.leaves;
-}
+light_offer_leaves links labels c i (l, least, at) = search (arith, get_or_default)
 
 pub light_offers_leave : (links : List Link) (labels : List ℕ) (offers : List Offer) → AreLightOffers links labels offers → All (OffersLeaving links labels) offers
 light_offers_leave links labels offers are k d lt =

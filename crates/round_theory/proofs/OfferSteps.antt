@@ -16,10 +16,7 @@ use Rattle.round_theory.proofs.Leaving.{leaves_end, least_leaving_unique}
 
 -- a link stands first at one place
 first_place_unique : (links : List Link) (l : Link) (i j : ℕ) → IsFirstPlace links l i → IsFirstPlace links l j → i ≡ j
-first_place_unique links l i j at_i at_j = elim (cases_lt i j) [
-  | inl lt ↦ absurd (at_j.first i lt at_i.here)
-  | inr le ↦ elim (cases_lt j i) [ inl lt ↦ absurd (at_i.first j lt at_j.here) | inr le' ↦ omega arith ]
-]
+first_place_unique links l i j at_i at_j = search (arith, cases_lt)
 
 -- a label has one light offer at most
 light_offer_unique : (links : List Link) (labels : List ℕ) (c i j : ℕ) → IsLightOffer links labels c i → IsLightOffer links labels c j → i ≡ j
@@ -29,13 +26,7 @@ light_offer_unique links labels c i j (l, least, at) (m, least', at') =
 
 -- where all labels are vertices, so is each that a link leaves
 pub left_label_is_vertex : (labels : List ℕ) (l : Link) (c : ℕ) → AreLabels labels → l.high ≤ length labels → Leaves labels l c → IsVertex (length labels) c
-left_label_is_vertex labels l c are ends leaves = elim (leaves_end labels l c leaves) [
-  | inl is ↦ subst (IsVertex (length labels)) (sym is) (at l.low (low_vertex (length labels) l ends))
-  | inr is ↦ subst (IsVertex (length labels)) (sym is) (at l.high (high_vertex (length labels) l ends))
-]
-  where
-    at : (v : ℕ) → IsVertex (length labels) v → IsVertex (length labels) (label_of labels v)
-    at v (low, high) = let has = are.labelled v low high in (has.from_one, omega (arith, has.at_most_itself, high))
+left_label_is_vertex labels l c are ends leaves = search (arith, leaves_end, low_vertex, high_vertex)
 
 -- the offers for the labels below one
 pub record AreOffersBelow (links : List Link) (labels : List ℕ) (bound : ℕ) (offers : List Offer) : Type 0 where
@@ -47,10 +38,7 @@ module _ (links : List Link) (labels : List ℕ) (ends : EndsUpTo (length labels
   offer_vertex c i (l, least, at) = left_label_is_vertex labels l c all (set_ends (length labels) links ends l least.member) least.leaves
 
   pub offers_none : AreOffersBelow links labels 1 []
-  offers_none = record {
-    ascending = λ i j d lt in_range. absurd (omega arith);
-    exact = λ c i. (λ c_in. absurd (contains_none (c, i) c_in), λ (lt, offer). absurd (omega (arith, offer_vertex c i offer, lt)));
-  }
+  offers_none = search (arith, contains_none, offer_vertex)
 
   pub offers_all : (bound : ℕ) (offers : List Offer) → length labels < bound → AreOffersBelow links labels bound offers → AreLightOffers links labels offers
   offers_all bound offers past are = record {

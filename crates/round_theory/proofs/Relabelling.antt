@@ -42,11 +42,7 @@ pub record IsMoved (n from to : ℕ) (old new : List ℕ) : Type 0 where
   pub kept : (v : ℕ) → IsVertex n v → label_of old v ≢ from → label_of new v ≡ label_of old v
 
 pub moved_by_test : (n from to : ℕ) (old new : List ℕ) → length old ≡ n → length new ≡ n → ((k : ℕ) → k < length old → get_or new k 0 ≡ (if get_or old k 0 == from then to else get_or old k 0)) → IsMoved n from to old new
-moved_by_test n from to old new old_long new_long each = record {
-  each_vertex = new_long;
-  moved = λ v vertex same. each (v - 1) (omega (arith, vertex.0, vertex.1)) ∙ ap (λ b. cond b to (label_of old v)) (eq-eqb (label_of old v) from same);
-  kept = λ v vertex other. each (v - 1) (omega (arith, vertex.0, vertex.1)) ∙ ap (λ b. cond b to (label_of old v)) (ne_eqb (label_of old v) from other);
-}
+moved_by_test n from to old new old_long new_long each = search (arith, cond, eq-eqb, ne_eqb)
 
 -- One more link: the greater of its ends' labels gives way to the lesser. Each vertex stays joined to its label; and
 -- where the link joins it to further vertices, those have one of the two labels at least.
@@ -73,24 +69,15 @@ module _ (n : ℕ) (S : LinkSet) (old new : List ℕ) (l : Link) (is : IsLabelli
       (joins_trans (WithLink S l) l.low l.high b (joins_link (WithLink S l) l (inr refl)) (old_joined l.high b at_high.joined))
 
   greater_to_lesser : Joins (WithLink S l) (max a b) (min a b)
-  greater_to_lesser = elim (cases_lt b a) [
-    | inl lt ↦ let hi : a ≡ max a b = omega arith in let lo : b ≡ min a b = omega arith in subst (λ x. Joins (WithLink S l) x (min a b)) hi (subst (Joins (WithLink S l) a) lo labels_joined)
-    | inr le ↦ let hi : b ≡ max a b = omega arith in let lo : a ≡ min a b = omega arith in subst (λ x. Joins (WithLink S l) x (min a b)) hi (subst (Joins (WithLink S l) b) lo (joins_symm (WithLink S l) a b labels_joined))
-  ]
+  greater_to_lesser = search (arith, cases_lt, max, min, labels_joined, joins_symm)
 
   -- a new label isn't greater than the old one
   not_greater : (v : ℕ) → IsVertex n v → label_of new v ≤ label_of old v
-  not_greater v vertex = elim (cases_eq (label_of old v) (max a b)) [
-    | inl same ↦ omega (arith, moved.moved v vertex same, same)
-    | inr other ↦ omega (arith, moved.kept v vertex other)
-  ]
+  not_greater v vertex = search (arith, cases_eq, max)
 
   -- what had the label of one of the ends has the lesser of the two
   lesser_of : (v : ℕ) → IsVertex n v → (label_of old v ≡ a) ⊎ (label_of old v ≡ b) → label_of new v ≡ min a b
-  lesser_of v vertex either = elim (cases_eq (label_of old v) (max a b)) [
-    | inl same ↦ moved.moved v vertex same
-    | inr other ↦ moved.kept v vertex other ∙ elim either [ inl is_a ↦ omega (arith, is_a, other) | inr is_b ↦ omega (arith, is_b, other) ]
-  ]
+  lesser_of v vertex either = search (arith, cases_eq, max)
 
   pub labelling_one_more : IsLabelling n (WithLink S l) new
   labelling_one_more = record {

@@ -174,13 +174,7 @@ module _ (n : ℕ) (links : List Link) where
 
     -- at first each has one
     large_at_first : HasLargeComponents 0
-    large_at_first labels is l c l_in leaves = elim (leaves_end labels l c leaves) [
-      | inl low ↦ at_vertex l.low (low_vertex n l (set_ends n links ends l l_in)) (sym low)
-      | inr high ↦ at_vertex l.high (high_vertex n l (set_ends n links ends l l_in)) (sym high)
-    ]
-      where
-        at_vertex : (v : ℕ) → IsVertex n v → label_of labels v ≡ c → 1 ≤ size_of c labels
-        at_vertex v vertex has = size_one c labels (v - 1) (omega (arith, is.each_vertex, vertex.0, vertex.1)) has
+    large_at_first labels is l c l_in leaves = search (arith, leaves_end, low_vertex, set_ends, high_vertex, size_of, size_one)
 
     -- In a round a component that a link leaves is joined by its pick to another, which the pick leaves too; so a
     -- component that a link leaves after the round holds two of those before.

@@ -24,8 +24,7 @@ append_either xs ys l = (λ is_in. Contains-append_cases xs ys l is_in, back)
     back (inr in_ys) = Contains-append_right xs ys l in_ys
 
 pub ends_either : (n : ℕ) (S P : LinkSet) → HasEndsUpTo n S → HasEndsUpTo n P → HasEndsUpTo n (Either S P)
-ends_either n S P S_ends P_ends l (inl in_S) = S_ends l in_S
-ends_either n S P S_ends P_ends l (inr in_P) = P_ends l in_P
+ends_either a1 a2 a3 a4 a5 a6 a7 = search arith
 
 -- what a vertex is joined to is a vertex
 pub joined_vertex : (n : ℕ) (S : LinkSet) → HasEndsUpTo n S → (u v : ℕ) → Joins S u v → IsVertex n u → IsVertex n v
@@ -180,7 +179,4 @@ pub pick_is_new : (O : LinkSet) (n : ℕ) (taken : List Link) (labels : List ℕ
 pick_is_new O n taken labels ends is l pick = (pick.1.member, pick_apart n (Contains taken) O labels (set_ends n taken ends) is l pick)
 
 pub picked_from_both_sides : (O : LinkSet) (labels : List ℕ) (c d : ℕ) (l : Link) → IsLeastLeaving labels O c l → IsLeastLeaving labels O d l → c ≢ d → ((c ≡ label_of labels l.low) × (d ≡ label_of labels l.high)) ⊎ ((c ≡ label_of labels l.high) × (d ≡ label_of labels l.low))
-picked_from_both_sides O labels c d l for_c for_d other = elim (leaves_end labels l c for_c.leaves) [
-  | inl c_low ↦ elim (leaves_end labels l d for_d.leaves) [ inl d_low ↦ absurd (other (c_low ∙ sym d_low)) | inr d_high ↦ inl (c_low, d_high) ]
-  | inr c_high ↦ elim (leaves_end labels l d for_d.leaves) [ inl d_low ↦ inr (c_high, d_low) | inr d_high ↦ absurd (other (c_high ∙ sym d_high)) ]
-]
+picked_from_both_sides O labels c d l for_c for_d other = search (arith, leaves_end)

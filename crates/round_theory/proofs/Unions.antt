@@ -1,5 +1,5 @@
 -- The least leaving link of two sets together.
-use Rattle.std.proofs.Common.{List, ◌++◌, ℕ, ◌↔◌, sym, subst, inl, inr}
+use Rattle.std.proofs.Common.{List, ◌++◌, ℕ, ◌↔◌, sym, subst, inl, inr, arith}
 use Rattle.std.proofs.lemmas.List.Elements.{Contains-append_cases, Contains-append_left, Contains-append_right}
 use Rattle.links.specs.declared.links.Link.{Link}
 use Rattle.links.specs.Link.{IsBelow}
@@ -24,22 +24,14 @@ named_either first second l = (to, back)
 
 -- a least link of the one set is one of both where none of the other that leaves the label is below it
 pub least_stays : (S T U : LinkSet) → SameLinks U (Either S T) → (labels : List ℕ) (c : ℕ) (l : Link) → IsLeastLeaving labels S c l → ((m : Link) → T m → Leaves labels m c → ¬ (IsBelow m l)) → IsLeastLeaving labels U c l
-least_stays S T U both labels c l is others = record {
-  member = (both l).1 (inl is.member);
-  leaves = is.leaves;
-  least = λ m m_in leaves. elim ((both m).0 m_in) [ inl in_S ↦ is.least m in_S leaves | inr in_T ↦ others m in_T leaves ];
-}
+least_stays S T U both labels c l is others = search arith
 
 -- and a least link of both is one of the set that has it
 pub least_of_part : (S T U : LinkSet) → SameLinks U (Either S T) → (labels : List ℕ) (c : ℕ) (l : Link) → S l → IsLeastLeaving labels U c l → IsLeastLeaving labels S c l
 least_of_part S T U both labels c l in_S is = record { member = in_S; leaves = is.leaves; least = λ m m_in. is.least m ((both m).1 (inl m_in)) }
 
 pub either_turned : (S T U : LinkSet) → SameLinks U (Either S T) → SameLinks U (Either T S)
-either_turned S T U both l = (λ l_in. elim ((both l).0 l_in) [ inl in_S ↦ inr in_S | inr in_T ↦ inl in_T ], back)
-  where
-    back : Either T S l → U l
-    back (inl in_T) = (both l).1 (inr in_T)
-    back (inr in_S) = (both l).1 (inl in_S)
+either_turned S T U both l = search arith
 
 -- The least of both sets is the least of the one that has it, and isn't above the other's. The other way round, what
 -- isn't above the other set's least isn't above any of its links.
@@ -66,13 +58,7 @@ least_of_both S T U both labels c l m is_l is_m k = (to, back)
 
 -- where no link of the second set leaves the label
 pub least_of_first : (S T U : LinkSet) → SameLinks U (Either S T) → (labels : List ℕ) (c : ℕ) → NoneLeaves labels T c → (k : Link) → IsLeastLeaving labels U c k ↔ IsLeastLeaving labels S c k
-least_of_first S T U both labels c none k = (to, λ is. least_stays S T U both labels c k is (λ m m_in leaves. absurd (none m m_in leaves)))
-  where
-    to : IsLeastLeaving labels U c k → IsLeastLeaving labels S c k
-    to is = elim ((both k).0 is.member) [
-      | inl in_S ↦ least_of_part S T U both labels c k in_S is
-      | inr in_T ↦ absurd (none k in_T is.leaves)
-    ]
+least_of_first S T U both labels c none k = search (arith, least_stays, least_of_part)
 
 pub least_of_second : (S T U : LinkSet) → SameLinks U (Either S T) → (labels : List ℕ) (c : ℕ) → NoneLeaves labels S c → (k : Link) → IsLeastLeaving labels U c k ↔ IsLeastLeaving labels T c k
 least_of_second S T U both = least_of_first T S U (either_turned S T U both)

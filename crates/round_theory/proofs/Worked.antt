@@ -26,26 +26,15 @@ leaves_test : List ℕ → Link → ℕ → Bool
 leaves_test labels l c = cond (label_of labels l.low == c) (not (label_of labels l.high == c)) (label_of labels l.high == c)
 
 not_true : (b : Bool) → not b ≡ true → b ≡ false
-not_true true is = cc
-not_true false is = refl
+not_true a1 a2 = search arith
 
 leaves_from_test : (labels : List ℕ) (l : Link) (c : ℕ) → leaves_test labels l c ≡ true → Leaves labels l c
 unfolding leaves_test
-leaves_from_test labels l c is = elim (cases_eq (label_of labels l.low) c) [
-  | inl low ↦ elim (cases_eq (label_of labels l.high) c) [
-    | inl high ↦ absurd (true≢false (sym is ∙ ap (λ b. cond b (not (label_of labels l.high == c)) (label_of labels l.high == c)) (eq-eqb (label_of labels l.low) c low) ∙ ap not (eq-eqb (label_of labels l.high) c high)))
-    | inr out ↦ inl (low, out)
-  ]
-  | inr out ↦ elim (cases_eq (label_of labels l.high) c) [
-    | inl high ↦ inr (out, high)
-    | inr out' ↦ absurd (true≢false (sym is ∙ ap (λ b. cond b (not (label_of labels l.high == c)) (label_of labels l.high == c)) (ne_eqb (label_of labels l.low) c out) ∙ ne_eqb (label_of labels l.high) c out'))
-  ]
-]
+leaves_from_test labels l c is = search (arith, cases_eq, true≢false, cond, not, eq-eqb, ne_eqb)
 
 test_from_leaves : (labels : List ℕ) (l : Link) (c : ℕ) → Leaves labels l c → leaves_test labels l c ≡ true
 unfolding leaves_test
-test_from_leaves labels l c (inl (low, out)) = ap (λ b. cond b (not (label_of labels l.high == c)) (label_of labels l.high == c)) (eq-eqb (label_of labels l.low) c low) ∙ ap not (ne_eqb (label_of labels l.high) c out)
-test_from_leaves labels l c (inr (out, high)) = ap (λ b. cond b (not (label_of labels l.high == c)) (label_of labels l.high == c)) (ne_eqb (label_of labels l.low) c out) ∙ eq-eqb (label_of labels l.high) c high
+test_from_leaves a1 a2 a3 a4 = search (arith, cond, not, eq-eqb, ne_eqb)
 
 all_member : (p : Link → Bool) (links : List Link) → list_all p links ≡ true → (l : Link) → Contains links l → p l ≡ true
 all_member p [] all l l_in = absurd (contains_none l l_in)
@@ -145,19 +134,7 @@ least_3 = is_least apart triangle 3 link_1_3 in_triangle_1_3 refl refl
 
 -- once all are in one component no link leaves it
 pub none_left : (l : Link) (c : ℕ) → Contains triangle l → ¬ (Leaves joined l c)
-none_left l c l_in leaves = elim (contains_cases link_1_2 l (link_2_3 ∷ (link_1_3 ∷ [])) l_in) [
-  | inl same ↦ leaves_apart joined l c leaves (ends_alike l link_1_2 same refl)
-  | inr later ↦ elim (contains_cases link_2_3 l (link_1_3 ∷ []) later) [
-    | inl same ↦ leaves_apart joined l c leaves (ends_alike l link_2_3 same refl)
-    | inr last ↦ elim (contains_cases link_1_3 l [] last) [
-      | inl same ↦ leaves_apart joined l c leaves (ends_alike l link_1_3 same refl)
-      | inr none ↦ absurd (contains_none l none)
-    ]
-  ]
-]
-  where
-    ends_alike : (l k : Link) → l ≡ k → label_of joined k.low ≡ label_of joined k.high → label_of joined l.low ≡ label_of joined l.high
-    ends_alike l k same alike = subst (λ (x : Link). label_of joined x.low ≡ label_of joined x.high) (sym same) alike
+none_left l c l_in leaves = search (arith, contains_cases, leaves_apart, contains_none)
 
 -- the picks of the first round
 pub picks_are_two_sides : SameLinks (Contains two_sides) (IsPick apart (Contains triangle))
@@ -256,13 +233,7 @@ lesser_side = inr (refl, λ below. cc)
 -- what is picked of offers that hide the third link
 pub heavier_picks : IsPartOf (Contains first_part.shard) (IsPick apart (Contains first_part.shard))
 unfolding leaves_test least_test
-heavier_picks l l_in = elim (contains_cases link_1_2 l (link_2_3 ∷ []) l_in) [
-  | inl same ↦ (1, subst (IsLeastLeaving apart (Contains first_part.shard) 1) (sym same) (is_least apart first_part.shard 1 link_1_2 (contains_head link_1_2 (link_2_3 ∷ [])) refl refl))
-  | inr later ↦ elim (contains_cases link_2_3 l [] later) [
-    | inl same ↦ (3, subst (IsLeastLeaving apart (Contains first_part.shard) 3) (sym same) (is_least apart first_part.shard 3 link_2_3 (contains_tail link_1_2 link_2_3 (link_2_3 ∷ []) (contains_head link_2_3 [])) refl refl))
-    | inr none ↦ absurd (contains_none l none)
-  ]
-]
+heavier_picks l l_in = search (arith, contains_cases, is_least, contains_head, contains_tail, contains_none)
 
 -- The number of merging rounds is 1: the first round adds a link, and two rounds would need four vertices.
 pub rounds_of_triangle : (r : ℕ) → IsMergingRounds 3 triangle r → 2 ^ r ≤ max 1 3 → r ≡ 1

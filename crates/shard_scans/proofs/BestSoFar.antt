@@ -14,9 +14,7 @@ pub one_read : (links : List Link) (i : ℕ) (l m : Link) → i < length links �
 one_read links i l m within l_read m_read = l_read ∙ get_or_default links i l m within ∙ sym m_read
 
 le_false : (o : Ordering) → is_le o ≡ false → o ≡ Greater
-le_false Less is = cc
-le_false Equal is = cc
-le_false Greater is = refl
+le_false a1 a2 = search arith
 
 -- what the test for `<=` of two links says
 pub not_below_from_le : (l x : Link) → is_le (key_cmp l x) ≡ true → ¬ (IsBelow x l)
@@ -30,21 +28,14 @@ below_from_gt l x gt = key_cmp_total.antisymm x l ∙ ap ordering_reverse (le_fa
 
 -- a link that comes first before another, which comes first before a third
 below_then_first : (l x m : Link) (p q : ℕ) → IsBelow x l → ComesFirst l p m q → IsBelow x m
-below_then_first l x m p q below (inl lower) = below_trans x l m below lower
-below_then_first l x m p q below (inr (same, le)) = subst (IsBelow x) same below
+below_then_first a1 a2 a3 a4 a5 a6 a7 = search (arith, below_trans)
 
 pub first_then_first : (l x m : Link) (p i q : ℕ) → ComesFirst l p x i → ComesFirst x i m q → ComesFirst l p m q
-first_then_first l x m p i q (inl below) (inl lower) = inl (below_trans l x m below lower)
-first_then_first l x m p i q (inl below) (inr (same, le)) = inl (subst (IsBelow l) same below)
-first_then_first l x m p i q (inr (same, le)) (inl lower) = inl (subst (λ k. IsBelow k m) (sym same) lower)
-first_then_first l x m p i q (inr (same, le)) (inr (same', le')) = inr (same ∙ same', omega (arith, le, le'))
+first_then_first a1 a2 a3 a4 a5 a6 a7 a8 = search (arith, below_trans)
 
 -- a link that isn't below an earlier one comes behind it
 pub first_from_le : (l x : Link) (p i : ℕ) → ¬ (IsBelow x l) → p ≤ i → ComesFirst l p x i
-first_from_le l x p i not_below le = elim (trichotomy l x) [
-  | inl below ↦ inl below
-  | inr rest ↦ elim rest [ inl same ↦ inr (same, le) | inr above ↦ absurd (not_below above) ]
-]
+first_from_le l x p i not_below le = search (arith, trichotomy)
 
 -- the link at a place, alone
 pub best_alone : (links : List Link) (labels : List ℕ) (c i : ℕ) (x : Link) → i < length links → x ≡ get_or links i x → Leaves labels x c → IsBestPlace links labels i (i + 1) c i

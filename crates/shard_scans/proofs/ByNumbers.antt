@@ -30,9 +30,7 @@ written_back n xs ys size = subst (λ k. take k (ys ++ drop (length ys) xs) ≡ 
 -- a list over whose first elements f is written
 module _ {X : Type 0} (f : X → X) (xs ys : List X) (i : ℕ) (so_far : ys ≡ map f (take i xs) ++ drop i xs) where
   pub next_stands : (d : X) → i < length xs → get_or ys i d ≡ get_or xs i d
-  next_stands d lt =
-      ap (λ t. get_or t i d) (so_far ∙ ap (λ t. map f (take i xs) ++ t) (drop_more xs i d lt))
-      ∙ get_or_at (map f (take i xs)) _ _ d i (length-map (take i xs) f ∙ omega (arith, length-take i xs, lt))
+  next_stands d lt = search (arith, drop_more, get_or_at, length-map, length-take)
 
   pub all_over : length xs ≤ i → ys ≡ map f xs
   all_over le = so_far ∙ ap (λ t. map f t ++ drop i xs) (take_all i xs le) ∙ ap (λ t. map f xs ++ t) (drop_all i xs le) ∙ append-nil (map f xs)
@@ -43,10 +41,7 @@ module _ (marks labels : List ℕ) where
   own_label v vertex = get_or-map (number_of marks) labels (v - 1) 0 0 (omega (arith, vertex))
 
   pub own_coarsens : Coarsens (numbered_labels marks labels) labels
-  own_coarsens = record {
-    vertices = length-map labels (number_of marks);
-    together = λ u v u_low u_high v_low v_high same. own_label u (u_low, u_high) ∙ ap (number_of marks) same ∙ sym (own_label v (v_low, v_high));
-  }
+  own_coarsens = search (arith, length-map, own_label)
 
   module _ (names : List ℕ) (l : Link) (ends : l.high ≤ length labels) (has : (label_of labels l.low ≡ label_of labels l.high) ⊎ HasNumbers labels marks names l) where
     own_low : label_of (numbered_labels marks labels) l.low ≡ number_of marks (label_of labels l.low)
@@ -57,25 +52,11 @@ module _ (marks labels : List ℕ) where
 
     -- the link leaves the number of a label that it leaves
     pub leaves_own : (c : ℕ) → IsMarked marks c → Leaves labels l c → Leaves (numbered_labels marks labels) l (number_of marks c)
-    leaves_own c c_is (inl (at, apart)) = elim has [
-      | inl same ↦ absurd (apart (sym same ∙ at))
-      | inr is ↦ inl (own_low ∙ ap (number_of marks) at, λ same. apart (numbers_apart marks (label_of labels l.high) c is.high_marked c_is (sym own_high ∙ same)))
-    ]
-    leaves_own c c_is (inr (apart, at)) = elim has [
-      | inl same ↦ absurd (apart (same ∙ at))
-      | inr is ↦ inr (λ same. apart (numbers_apart marks (label_of labels l.low) c is.low_marked c_is (sym own_low ∙ same)), own_high ∙ ap (number_of marks) at)
-    ]
+    leaves_own a1 a2 a3 = search (arith, own_low, numbers_apart, own_high)
 
     -- a number that it leaves is that of a label that it leaves
     pub leaves_back : (p : ℕ) → Leaves (numbered_labels marks labels) l p → (c : ℕ) × IsMarked marks c × HasItsName marks names c × (number_of marks c ≡ p) × Leaves labels l c
-    leaves_back p (inl (at, apart)) = elim has [
-      | inl same ↦ absurd (apart (own_high ∙ ap (number_of marks) (sym same) ∙ sym own_low ∙ at))
-      | inr is ↦ (label_of labels l.low, is.low_marked, is.low_named, sym own_low ∙ at, inl (refl, λ same. apart (own_high ∙ ap (number_of marks) same ∙ sym own_low ∙ at)))
-    ]
-    leaves_back p (inr (apart, at)) = elim has [
-      | inl same ↦ absurd (apart (own_low ∙ ap (number_of marks) same ∙ sym own_high ∙ at))
-      | inr is ↦ (label_of labels l.high, is.high_marked, is.high_named, sym own_high ∙ at, inr (λ same. apart (own_low ∙ ap (number_of marks) same ∙ sym own_high ∙ at), refl))
-    ]
+    leaves_back a1 a2 = search (arith, own_high, own_low)
 
     pub leaves_again : (c : ℕ) → IsMarked marks c → Leaves (numbered_labels marks labels) l (number_of marks c) → Leaves labels l c
     leaves_again c c_is leaves =
@@ -110,13 +91,7 @@ module _ (links : List Link) (labels marks names : List ℕ) (ends : EndsUpTo (l
 
     -- the labels that a link leaves have numbers
     left_has_number : (l : Link) (place c : ℕ) → place < length links → l ≡ get_or links place l → Leaves labels l c → IsMarked marks c × HasItsName marks names c
-    left_has_number l place c in_list read leaves = elim (has place l in_list read) [
-      | inl same ↦ absurd (leaves_apart labels l c leaves same)
-      | inr is ↦ elim (leaves_end labels l c leaves) [
-        | inl low ↦ subst (λ k. IsMarked marks k × HasItsName marks names k) (sym low) (is.low_marked, is.low_named)
-        | inr high ↦ subst (λ k. IsMarked marks k × HasItsName marks names k) (sym high) (is.high_marked, is.high_named)
-      ]
-    ]
+    left_has_number l place c in_list read leaves = search (arith, leaves_apart, leaves_end)
 
     -- a light offer is kept for the number of its label
     light_kept : (c place : ℕ) → IsLightOffer links labels c place → ((number_of marks c < length table + 1) × IsKept table (number_of marks c) place) × HasItsName marks names c
@@ -180,6 +155,4 @@ module _ (links : List Link) (labels marks names : List ℕ) (ends : EndsUpTo (l
 
       -- and so they are once they are written back over the pairs
       pub written_light : (n : ℕ) (read written : List Offer) → length written ≡ n → read ≡ pairs → written ≡ map (offered names) read → AreLightOffers links labels (take n (written ++ drop (length written) pairs))
-      written_light n read written size read_is written_is =
-          let is : take n (written ++ drop (length written) pairs) ≡ map (offered names) pairs = written_back n pairs written size ∙ written_is ∙ ap (λ (t : List Offer). map (offered names) t) read_is in
-          subst (AreLightOffers links labels) (sym is) light_by_numbers
+      written_light n read written size read_is written_is = search (arith, written_back, light_by_numbers)

@@ -8,23 +8,15 @@ use Rattle.shard_scans.proofs.BestSoFar.{one_read}
 
 -- what is quiet stays so under labels that coarsen
 pub quiet_coarser : (labels finer : List ℕ) (l : Link) → Coarsens labels finer → IsInside finer l → IsInside labels l
-quiet_coarser labels finer l coarsens quiet = record {
-  labelled = omega (arith, coarsens.vertices, quiet.labelled);
-  one_label = coarsens.together l.low l.high (omega (arith, l.from_one)) (omega (arith, l.ascending, quiet.labelled)) (omega (arith, l.from_one, l.ascending)) quiet.labelled quiet.one_label;
-}
+quiet_coarser labels finer l coarsens quiet = search arith
 
 -- vertices of one label have one under labels that coarsen
 pub one_label_coarser : (labels finer : List ℕ) (u v : ℕ) → Coarsens labels finer → HaveOneLabel finer u v → HaveOneLabel labels u v
-one_label_coarser labels finer u v coarsens (at_u, at_v, same) = (
-  (at_u.0, omega (arith, coarsens.vertices, at_u.1)),
-  (at_v.0, omega (arith, coarsens.vertices, at_v.1)),
-  coarsens.together u v at_u.0 at_u.1 at_v.0 at_v.1 same,
-)
+one_label_coarser labels finer u v coarsens (at_u, at_v, same) = search arith
 
 -- so parallel links stay parallel
 parallel_coarser : (labels finer : List ℕ) (l m : Link) → Coarsens labels finer → AreParallel finer l m → AreParallel labels l m
-parallel_coarser labels finer l m coarsens (inl (low, high)) = inl (one_label_coarser labels finer l.low m.low coarsens low, one_label_coarser labels finer l.high m.high coarsens high)
-parallel_coarser labels finer l m coarsens (inr (low, high)) = inr (one_label_coarser labels finer l.low m.high coarsens low, one_label_coarser labels finer l.high m.low coarsens high)
+parallel_coarser a1 a2 a3 a4 a5 a6 = search (arith, one_label_coarser)
 
 -- and what is laid aside stays so
 aside_coarser : (links : List Link) (labels finer : List ℕ) (from to : ℕ) → Coarsens labels finer → AreAside links finer from to → AreAside links labels from to
@@ -46,8 +38,7 @@ live_coarser links labels finer from to (p ∷ places) coarsens (le, aside, rest
 
 -- a link that is parallel to a quiet one is quiet
 quiet_parallel : (labels : List ℕ) (l m : Link) → IsInside labels l → AreParallel labels l m → IsInside labels m
-quiet_parallel labels l m quiet (inl (low, high)) = record { labelled = high.1.1; one_label = sym low.2 ∙ quiet.one_label ∙ high.2 }
-quiet_parallel labels l m quiet (inr (low, high)) = record { labelled = low.1.1; one_label = sym high.2 ∙ sym quiet.one_label ∙ low.2 }
+quiet_parallel a1 a2 a3 a4 a5 = search arith
 
 module _ (links : List Link) (labels : List ℕ) where
   -- the places lie in the range
@@ -86,19 +77,11 @@ module _ (links : List Link) (labels : List ℕ) where
 
   -- before the first live place all links are quiet
   pub front_is_quiet : (to : ℕ) → AreAside links labels 0 to → (q : ℕ) (l : Link) → q < to → l ≡ get_or links q l → IsInside labels l
-  front_is_quiet to aside q l before_end read = elim (aside q l (omega arith) before_end read) [
-    | inl quiet ↦ quiet
-    | inr by ↦ absurd (omega (arith, by.just_before))
-  ]
+  front_is_quiet to aside q l before_end read = search arith
 
   -- one more link is laid aside
   aside_more : (from at : ℕ) → AreAside links labels from at → ((l : Link) → l ≡ get_or links at l → IsAside links labels from at l) → AreAside links labels from (at + 1)
-  aside_more from at aside here q l from_start before_end read = elim (cases_lt q at) [
-    | inl lt ↦ aside q l from_start lt read
-    | inr later ↦
-        let same : q ≡ at = omega (arith, later, before_end) in
-        subst (λ k. IsAside links labels from k l) (sym same) (here l (subst (λ k. l ≡ get_or links k l) same read))
-  ]
+  aside_more from at aside here q l from_start before_end read = search (arith, cases_lt)
 
   -- the range goes on over a quiet link
   pub live_goes_on : (from at : ℕ) (places : List ℕ) → AreLive links labels from at places → ((l : Link) → l ≡ get_or links at l → IsInside labels l) → AreLive links labels from (at + 1) places
@@ -122,20 +105,7 @@ module _ (links : List Link) (labels : List ℕ) where
 
   -- what is laid aside on both sides of a quiet link is so with it: the links that it outdoes are quiet too
   aside_over : (from p to : ℕ) → AreAside links labels from p → ((l : Link) → l ≡ get_or links p l → IsInside labels l) → AreAside links labels (p + 1) to → AreAside links labels from to
-  aside_over from p to aside quiet behind q l from_start before_end read = elim (cases_lt q p) [
-    | inl lt ↦ aside q l from_start lt read
-    | inr later ↦ elim (cases_lt p q) [
-      | inl after ↦ elim (behind q l (omega (arith, after)) before_end read) [
-        | inl is ↦ inl is
-        | inr by ↦
-            let at : by.place ≡ p = omega (arith, by.just_before) in
-            inl (quiet_parallel labels by.earlier l (quiet by.earlier (subst (λ k. by.earlier ≡ get_or links k by.earlier) at by.here)) by.parallel)
-      ]
-      | inr not_after ↦
-          let at : q ≡ p = omega (arith, later, not_after) in
-          inl (quiet l (subst (λ k. l ≡ get_or links k l) at read))
-    ]
-  ]
+  aside_over from p to aside quiet behind q l from_start before_end read = search (arith, cases_lt, quiet_parallel)
 
   -- so a live place whose link falls quiet may be left out
   pub live_without : (from p to : ℕ) (places : List ℕ) → from ≤ p → AreAside links labels from p → ((l : Link) → l ≡ get_or links p l → IsInside labels l) → AreLive links labels (p + 1) to places → AreLive links labels from to places

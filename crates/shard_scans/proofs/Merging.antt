@@ -32,11 +32,7 @@ pub record AreMerged (links : List Link) (labels : List ℕ) (from at to done : 
 module _ (links : List Link) (labels : List ℕ) (from at to : ℕ) where
   -- at first none is merged, and in the end each is
   pub merged_none : (table : List Best) → AreBest links labels from at table → AreMerged links labels from at to 0 table
-  merged_none table are = record {
-    each_vertex = are.each_vertex;
-    merged = λ c vertex le. absurd (omega (arith, vertex.0, le));
-    rest = λ c vertex lt. are.best c vertex;
-  }
+  merged_none table are = search arith
 
   pub merged_all : (table : List Best) (done : ℕ) → length labels ≤ done → AreMerged links labels from at to done table → AreBest links labels from to table
   merged_all table done all are = record { each_vertex = are.each_vertex; best = λ c vertex. are.merged c vertex (omega (arith, vertex.1, all)) }
@@ -56,15 +52,7 @@ module _ (links : List Link) (labels : List ℕ) (from at to : ℕ) where
 
     -- no link of the later part leaves the label
     pub merged_skip : next.place ≡ no_best.place → AreMerged links labels from at to (i + 1) table
-    merged_skip none = record {
-      each_vertex = are.each_vertex;
-      merged = λ c c_vertex c_le. elim (cases_eq c (i + 1)) [
-        | inl is ↦ subst (λ k. Keeps links labels from to k (best_of table k)) (sym is)
-            (keeps_out links labels from at to (i + 1) (best_of table (i + 1)) le (kept_none links labels at to (i + 1) next next_keeps few none) (are.rest (i + 1) vertex (omega arith)))
-        | inr other ↦ are.merged c c_vertex (omega (arith, c_le, other))
-      ];
-      rest = λ c c_vertex lt. are.rest c c_vertex (omega (arith, lt));
-    }
+    merged_skip none = search (arith, cases_eq, keeps_out, kept_none, next_keeps, vertex)
 
     -- the lesser one is kept
     pub merged_next : from ≤ at → (after : Best) → KeepsLesser links next (get_or table i d) after → next.place ≢ no_best.place → AreMerged links labels from at to (i + 1) (set table i after)

@@ -29,10 +29,7 @@ module _ (links : List Link) (labels : List ℕ) (words : List MarkWord) (names 
 
   -- they are listed, by what they are written with once the numbers have their names
   pub numbers_are_listed : AreListed links labels names live
-  numbers_are_listed = record {
-    live = subst (AreLiveLinks links labels) (sym (shown_again marks names within by_labels live listed.by_numbers)) listed.live_are;
-    have_names = have_names marks names within by_labels live listed.by_numbers;
-  }
+  numbers_are_listed = search (arith, shown_again, within, have_names)
 
   -- of a link that is listed the ends have numbers
   listed_has_numbers : (k : ℕ) (l : Link) → k < length (places_of by_labels) → l ≡ get_or links (get_or (places_of by_labels) k 0) l → HasNumbers labels marks names l
@@ -55,18 +52,7 @@ module _ (links : List Link) (labels : List ℕ) (words : List MarkWord) (names 
 
   -- and those of a link that is parallel to it
   parallel_has_numbers : (e l : Link) → AreParallel labels e l → HasNumbers labels marks names e → HasNumbers labels marks names l
-  parallel_has_numbers e l (inl (low, high)) is = record {
-    low_marked = subst (IsMarked marks) low.2 is.low_marked;
-    high_marked = subst (IsMarked marks) high.2 is.high_marked;
-    low_named = subst (HasItsName marks names) low.2 is.low_named;
-    high_named = subst (HasItsName marks names) high.2 is.high_named;
-  }
-  parallel_has_numbers e l (inr (low, high)) is = record {
-    low_marked = subst (IsMarked marks) high.2 is.high_marked;
-    high_marked = subst (IsMarked marks) low.2 is.low_marked;
-    low_named = subst (HasItsName marks names) high.2 is.high_named;
-    high_named = subst (HasItsName marks names) low.2 is.low_named;
-  }
+  parallel_has_numbers a1 a2 a3 a4 = search arith
 
   -- of each link the ends have one label, or they have numbers
   pub next_are_numbered : AreNumbered links labels marks names

@@ -24,16 +24,7 @@ one_one = refl
 
 -- one more bit of a word
 ones_next : (w k : ℕ) → count_ones (w % 2 ^ (1 + k)) ≡ bit_at w k + count_ones (w % 2 ^ k)
-ones_next w k =
-    let high = w / 2 ^ k % 2 ^ 1 in
-    let cat : count_ones (high * 2 ^ k + w % 2 ^ k) ≡ count_ones high + count_ones (w % 2 ^ k) = ones_cat k high (w % 2 ^ k) (mod_below w (2 ^ k) (pow_pos k)) in
-    let one : count_ones high ≡ high = elim (cases_eq high 0) [
-      | inl none ↦ ap count_ones none ∙ no_ones ∙ sym none
-      | inr some ↦
-          let is : high ≡ 1 = omega (arith, some) in
-          ap count_ones is ∙ one_one ∙ sym is
-    ] in
-    ap count_ones (mod-pow-add w 1 k) ∙ cat ∙ ap (λ n. n + count_ones (w % 2 ^ k)) one
+ones_next w k = search (arith, count_ones, ones_cat, mod_below, pow_pos, cases_eq, no_ones, one_one, mod-pow-add)
 
 module _ (marks : List ℕ) where
   -- more labels have more marks
@@ -50,9 +41,7 @@ module _ (marks : List ℕ) where
 
   -- a marked label is counted
   counts_itself : (c : ℕ) → IsMarked marks c → number_of marks c ≡ marked_to marks c
-  counts_itself c is =
-      let next : suc (c - 1) ≡ c = omega (arith, is.from_one) in
-      ap (λ b. marked_to marks (c - 1) + b) (sym is.bit) ∙ ap (marked_to marks) next
+  counts_itself c is = search arith
 
   -- the first so many labels of a word
   pub marked_within : (at k : ℕ) → k ≤ 64 → marked_to marks (k + at * 64) ≡ count_ones (get_or marks at 0 % 2 ^ k) + marked_to marks (at * 64)
@@ -86,22 +75,10 @@ module _ (marks : List ℕ) where
   numbers_ascend c d is lt = omega (arith, counts_itself c is, marked_rise c (d - 1) (omega (arith, lt)))
 
   pub numbers_apart : (c d : ℕ) → IsMarked marks c → IsMarked marks d → number_of marks c ≡ number_of marks d → c ≡ d
-  numbers_apart c d c_is d_is same = elim (cases_lt c d) [
-    | inl lt ↦ absurd (omega (arith, same, numbers_ascend c d c_is lt))
-    | inr le ↦ elim (cases_lt d c) [
-      | inl lt ↦ absurd (omega (arith, same, numbers_ascend d c d_is lt))
-      | inr ge ↦ omega (arith, le, ge)
-    ]
-  ]
+  numbers_apart c d c_is d_is same = search (arith, cases_lt, numbers_ascend)
 
   pub ascends_back : (c d : ℕ) → IsMarked marks c → IsMarked marks d → number_of marks c < number_of marks d → c < d
-  ascends_back c d c_is d_is lt = elim (cases_lt c d) [
-    | inl less ↦ less
-    | inr le ↦ elim (cases_eq c d) [
-      | inl same ↦ absurd (omega (arith, lt, ap (number_of marks) same))
-      | inr other ↦ absurd (omega (arith, lt, numbers_ascend d c d_is (omega (arith, le, other))))
-    ]
-  ]
+  ascends_back c d c_is d_is lt = search (arith, cases_lt, cases_eq, numbers_ascend)
 
 -- a bit is set
 abbrev pub with_bit : ℕ → ℕ → ℕ
@@ -144,16 +121,7 @@ module _ (marks : List ℕ) (label : ℕ) (from_one : 1 ≤ label) (within : (la
   ]
 
   pub mark_more : (c : ℕ) → IsMarked new c ↔ ((c ≡ label) ⊎ IsMarked marks c)
-  mark_more c = elim (cases_eq c label) [
-    | inl same ↦ (λ is. inl same, λ either. subst (IsMarked new) (sym same) itself)
-    | inr other ↦ (
-      λ is. inr (record { from_one = is.from_one; in_words = omega (arith, is.in_words, long); bit = sym (other_bit c is.from_one other) ∙ is.bit }),
-      λ either. elim either [
-        | inl same ↦ absurd (other same)
-        | inr is ↦ record { from_one = is.from_one; in_words = omega (arith, is.in_words, long); bit = other_bit c is.from_one other ∙ is.bit }
-      ],
-    )
-  ]
+  mark_more c = search (arith, cases_eq, itself, long, other_bit)
 
 abbrev marks_in : MarkWord → ℕ
 marks_in w = w.marks
@@ -161,9 +129,7 @@ marks_in w = w.marks
 -- a bit of a word is set
 marks_set : (words : List MarkWord) (i bit : ℕ) (w new : MarkWord) → i < length words → w ≡ get_or words i w → new.marks ≡ with_bit w.marks bit
     → marks_of (set words i new) ≡ set (marks_of words) i (with_bit (get_or (marks_of words) i 0) bit)
-marks_set words i bit w new within read new_is =
-    map-set marks_in words i new
-    ∙ ap (set (marks_of words) i) (new_is ∙ ap (λ m. with_bit m bit) (ap marks_in read ∙ sym (get_or-map marks_in words i w 0 within)))
+marks_set words i bit w new within read new_is = search (arith, map-set, set, get_or-map)
 
 -- what marks the words have once the bit of a label is set in its word
 module _ (words : List MarkWord) (label : ℕ) (from_one : 1 ≤ label) (within : (label - 1) / 64 < length words) (w new : MarkWord) (read : w ≡ get_or words ((label - 1) / 64) w)
@@ -195,10 +161,7 @@ number_is inside words c w same counted within inside_read =
 
 -- the number of a marked label has a place among the names
 pub number_within_names : (words : List MarkWord) (names : List ℕ) → length names ≡ marked_in (marks_of words) (length words) → (c : ℕ) → IsMarked (marks_of words) c → number_of (marks_of words) c ≤ length names
-number_within_names words names size c is =
-    let within : number_of (marks_of words) c ≤ marked_in (marks_of words) (length words) =
-    subst (λ n. number_of (marks_of words) c ≤ marked_in (marks_of words) n) (length-map words marks_in) (number_within (marks_of words) c is) in
-    omega (arith, size, within)
+number_within_names words names size c is = search (arith, length-map, number_within)
 
 pub number_has_place : (words : List MarkWord) (names : List ℕ) (c : ℕ) → length names ≡ marked_in (marks_of words) (length words) → IsMarked (marks_of words) c → number_of (marks_of words) c - 1 < length names
 number_has_place words names c size is = omega (arith, number_within_names words names size c is)
@@ -209,15 +172,7 @@ module _ (marks names : List ℕ) (d : ℕ) (d_is : IsMarked marks d) where
   named_here within = get_or-set_same names (number_of marks d - 1) d 0 within
 
   pub named_stays : (c : ℕ) → IsMarked marks c → HasItsName marks names c → HasItsName marks (set names (number_of marks d - 1) d) c
-  named_stays c c_is is = elim (cases_eq (number_of marks c - 1) (number_of marks d - 1)) [
-    | inl same ↦
-        let one : c ≡ d = numbers_apart marks c d c_is d_is (omega (arith, same)) in
-        elim (cases_lt (number_of marks d - 1) (length names)) [
-          | inl within ↦ subst (λ k. HasItsName marks (set names (number_of marks d - 1) d) k) (sym one) (named_here within)
-          | inr past ↦ absurd (omega (arith, past, same, is, c_is.from_one, get_or_past names (number_of marks c - 1) 0 (omega (arith, past, same))))
-        ]
-    | inr other ↦ get_or-set_other names (number_of marks d - 1) (number_of marks c - 1) d 0 other ∙ is
-  ]
+  named_stays c c_is is = search (arith, cases_eq, numbers_apart, cases_lt, set, named_here, get_or_past, get_or-set_other)
 
 -- one more word says how many are marked before it
 module _ (words : List MarkWord) (i total : ℕ) (w : MarkWord) (within : i < length words) (read : w ≡ get_or words i w) (total_is : total ≡ marked_in (marks_of words) i) where
@@ -243,25 +198,8 @@ module _ (words : List MarkWord) (i total : ℕ) (w : MarkWord) (within : i < le
 
   pub told_before : ((k : ℕ) (d : MarkWord) → k < i → (get_or words k d).before ≡ marked_in (marks_of words) k)
       → (k : ℕ) (d : MarkWord) → k < i + 1 → (get_or (set words i noted) k d).before ≡ marked_in (marks_of (set words i noted)) k
-  told_before before k d lt = elim (cases_lt k i) [
-    | inl less ↦
-        let other : k ≢ i = omega (arith, less) in
-        ap (λ (x : MarkWord). x.before) (get_or-set_other words i k noted d other) ∙ before k d less ∙ ap (λ m. marked_in m k) (sym noted_marks)
-    | inr le ↦
-        let at : k ≡ i = omega (arith, le, lt) in
-        subst (λ n. (get_or (set words i noted) n d).before ≡ marked_in (marks_of (set words i noted)) n) (sym at)
-        (ap (λ (x : MarkWord). x.before) (get_or-set_same words i noted d within) ∙ total_is ∙ ap (λ m. marked_in m i) (sym noted_marks))
-  ]
+  told_before before k d lt = search (arith, cases_lt, get_or-set_other, noted_marks, set, get_or-set_same)
 
 -- a new name has a word
 pub new_name_has_word : (labels : List ℕ) (name words : ℕ) → AreLabels labels → words ≡ length labels / 64 + 1 → (1 ≤ new_name labels name) × ((new_name labels name - 1) / 64 < words)
-new_name_has_word labels name words are size = elim (cases_lt (name - 1) (length labels)) [
-  | inl within ↦
-      let v = name - 1 + 1 in
-      let vertex : IsVertex (length labels) v = (omega arith, omega (arith, within)) in
-      let label = label_vertex labels are v vertex in
-      let at : v - 1 ≡ name - 1 = omega arith in
-      let is : label_of labels v ≡ new_name labels name = ap (λ k. get_or labels k 0) at ∙ get_or_default labels (name - 1) 0 1 within in
-      subst (λ c. (1 ≤ c) × ((c - 1) / 64 < words)) is (label.0, omega (arith, label.1, size))
-  | inr past ↦ subst (λ c. (1 ≤ c) × ((c - 1) / 64 < words)) (sym (get_or_past labels (name - 1) 1 past)) (omega arith, omega (arith, size))
-]
+new_name_has_word labels name words are size = search (arith, cases_lt, label_vertex, get_or_default, get_or_past)

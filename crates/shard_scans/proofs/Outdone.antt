@@ -11,10 +11,7 @@ use Rattle.shard_scans.proofs.BestSoFar.{first_then_first, best_longer}
 
 -- of parallel links one leaves a label where another does
 parallel_leaves : (labels : List ℕ) (l m : Link) (c : ℕ) → AreParallel labels l m → Leaves labels m c → Leaves labels l c
-parallel_leaves labels l m c (inl (low, high)) (inl (at, apart)) = inl (low.2 ∙ at, λ same. apart (sym high.2 ∙ same))
-parallel_leaves labels l m c (inl (low, high)) (inr (apart, at)) = inr (λ same. apart (sym low.2 ∙ same), high.2 ∙ at)
-parallel_leaves labels l m c (inr (low, high)) (inl (at, apart)) = inr (λ same. apart (sym low.2 ∙ same), high.2 ∙ at)
-parallel_leaves labels l m c (inr (low, high)) (inr (apart, at)) = inl (low.2 ∙ at, λ same. apart (sym high.2 ∙ same))
+parallel_leaves a1 a2 a3 a4 a5 a6 = search arith
 
 module _ (links : List Link) (labels : List ℕ) (from at to : ℕ) (seen : from < at) (le : at ≤ to) (aside : AreAside links labels at to) where
   -- a link that is laid aside leaves a label only where an earlier one does that comes first
@@ -40,9 +37,4 @@ module _ (links : List Link) (labels : List ℕ) (from at to : ℕ) (seen : from
 
   -- so a table that has seen the earlier one stays as it is
   pub bests_over : (count : ℕ) (table : List Best) → AreBestUpTo count links labels from at table → AreBestUpTo count links labels from to table
-  bests_over count table are = record {
-    each_vertex = are.each_vertex;
-    best = λ c vertex.
-        let keeps = are.best c vertex in
-        record { best = keeps.best; says = keeps.says; is = best_over c keeps.best keeps.is };
-  }
+  bests_over count table are = search (arith, best_over)

@@ -1,5 +1,5 @@
 -- Live links under new labels, without those whose ends fall together.
-use Rattle.std.proofs.Common.{◌≡◌, ◌≢◌, ℕ, ◌+◌, List, [], ◌∷◌, ◌++◌, length, get_or, All, cond, refl, sym, ap, ◌∙◌, subst, inl, inr}
+use Rattle.std.proofs.Common.{◌≡◌, ◌≢◌, ℕ, ◌+◌, List, [], ◌∷◌, ◌++◌, length, get_or, All, cond, refl, sym, ap, ◌∙◌, subst, inl, inr, arith}
 use Rattle.std.proofs.lemmas.Bool.Decides.{eqb_tells}
 use Rattle.std.proofs.lemmas.List.Elements.{All-cons, All-head, All-nil, All-tail}
 use Rattle.links.specs.declared.links.Link.{Link}
@@ -11,23 +11,14 @@ use Rattle.shard_scans.proofs.Written.{relabelled_written, relabelled_stands, li
 
 module _ (labels : List ℕ) where
   pub packed_same : (l : LiveLink) (live : List LiveLink) → label_of labels l.low ≡ label_of labels l.high → packed labels (l ∷ live) ≡ packed labels live
-  packed_same l live same = elim (eqb_tells (label_of labels l.low) (label_of labels l.high)) [
-    | inl (test, is) ↦ ap (λ b. cond b (packed labels live) (relabelled labels l ∷ packed labels live)) test
-    | inr (test, other) ↦ absurd (other same)
-  ]
+  packed_same l live same = search (arith, eqb_tells, cond)
 
   pub packed_apart : (l : LiveLink) (live : List LiveLink) → label_of labels l.low ≢ label_of labels l.high → packed labels (l ∷ live) ≡ relabelled labels l ∷ packed labels live
-  packed_apart l live apart = elim (eqb_tells (label_of labels l.low) (label_of labels l.high)) [
-    | inl (test, is) ↦ absurd (apart is)
-    | inr (test, other) ↦ ap (λ b. cond b (packed labels live) (relabelled labels l ∷ packed labels live)) test
-  ]
+  packed_apart l live apart = search (arith, eqb_tells, cond)
 
   pub packed_append : (xs ys : List LiveLink) → packed labels (xs ++ ys) ≡ packed labels xs ++ packed labels ys
   packed_append [] ys = refl
-  packed_append (x ∷ xs) ys = elim (eqb_tells (label_of labels x.low) (label_of labels x.high)) [
-    | inl (test, same) ↦ packed_same x (xs ++ ys) same ∙ packed_append xs ys ∙ ap (λ t. t ++ packed labels ys) (sym (packed_same x xs same))
-    | inr (test, apart) ↦ packed_apart x (xs ++ ys) apart ∙ ap (λ t. relabelled labels x ∷ t) (packed_append xs ys) ∙ ap (λ t. t ++ packed labels ys) (sym (packed_apart x xs apart))
-  ]
+  packed_append (x ∷ xs) ys = search (arith, eqb_tells, packed_same, packed_apart, packed_append xs ys)
 
   -- what holds of each under its labels holds of all that stay
   pub packed_all : (P : LiveLink → Type 0) (live : List LiveLink) → All (λ l. P (relabelled labels l)) live → All P (packed labels live)

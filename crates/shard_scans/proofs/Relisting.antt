@@ -17,10 +17,7 @@ module _ (marks names : List ℕ) (within : (c : ℕ) → IsMarked marks c → n
   name_of c d is at = get_or_default names (number_of marks c - 1) d 0 (omega (arith, within c is)) ∙ at
 
   pub named_again : (e : LiveLink) → AreBothMarked marks e → AreBothNamed marks names e → named names (numbered marks e) ≡ e
-  named_again e is at =
-      let low = name_of e.low (number_of marks e.low) is.0 at.0 in
-      let high = name_of e.high (number_of marks e.high) is.1 at.1 in
-      λ k. record { low = low k; high = high k; place = e.place }
+  named_again e is at = search (arith, name_of)
 
   module _ (by_labels live : List LiveLink) (are : AreByNumbers marks names by_labels live) where
     pub number_at : (k : ℕ) (d : LiveLink) → k < length by_labels → get_or live k d ≡ numbered marks (get_or by_labels k d)
@@ -38,11 +35,7 @@ module _ (marks names : List ℕ) (within : (c : ℕ) → IsMarked marks c → n
         ∙ named_again (get_or by_labels k d) (are.marked k d in_labels) (are.named_are k d in_labels))
 
     pub have_names : HaveNames names live
-    have_names k d lt =
-        let in_labels : k < length by_labels = omega (arith, lt, by_numbers_long) in
-        let is = are.marked k d in_labels in
-        subst (λ (e : LiveLink). IsVertex (length names) e.low × IsVertex (length names) e.high) (sym (number_at k d in_labels))
-        ((omega arith, within (get_or by_labels k d).low is.0), (omega arith, within (get_or by_labels k d).high is.1))
+    have_names k d lt = search (arith, by_numbers_long, number_at)
 
 -- the next list
 module _ (labels marks names names' changed : List ℕ) (marked : HaveMarks labels marks names)
@@ -51,13 +44,7 @@ module _ (labels marks names names' changed : List ℕ) (marked : HaveMarks labe
   -- of the label of a number's name
   at_end : (x : ℕ) → IsVertex (length names) x → IsVertex (length labels) (get_or names (x - 1) x)
       → (label_of changed x ≡ number_of marks (label_of labels (get_or names (x - 1) x))) × IsMarked marks (label_of labels (get_or names (x - 1) x)) × HasItsName marks names' (label_of labels (get_or names (x - 1) x))
-  at_end x vertex name_vertex =
-      let i = x - 1 in
-      let within : i < length names = omega (arith, vertex) in
-      let v = get_or names i x in
-      let same : get_or names i 0 ≡ v = get_or_default names i 0 x within in
-      let is : new_name labels (get_or names i 0) ≡ label_of labels v = ap (new_name labels) same ∙ get_or_default labels (v - 1) 1 0 (omega (arith, name_vertex)) in
-      (number_is i within ∙ ap (number_of marks) is, subst (IsMarked marks) is (marked i within), subst (HasItsName marks names') is (name_is i within))
+  at_end x vertex name_vertex = search (arith, get_or_default)
 
   abbrev Ends : LiveLink → Type 0
   Ends l = IsVertex (length names) l.low × IsVertex (length names) l.high

@@ -35,16 +35,11 @@ lesser_key_is_below l m k j k_is j_is test =
 
 -- the key of no link is less than none
 pub no_key_is_lesser : (l : Link) (k : ℤ) → k ≡ short_key l.weight → ¬ (lt_z (to_z w32 (of_z w32 no_best.key)) (to_z w32 (of_z w32 k)) ≡ true)
-no_key_is_lesser l k k_is test =
-    not_above_all l.weight l.weight_fits (less_by_test no_best.key (short_key l.weight) (subst (λ b. lt_z no_best.key b ≡ true) (key_is l.weight k l.weight_fits k_is) test))
+no_key_is_lesser l k k_is test = search (arith, not_above_all, less_by_test, key_is)
 
 -- a table of nothing keeps the best places of no links
 pub best_of_none : (count : ℕ) (links : List Link) (labels : List ℕ) (from : ℕ) → AreBestUpTo count links labels from from (replicate count no_best)
-best_of_none count links labels from = record {
-  each_vertex = length-replicate count no_best;
-  best = λ c vertex. subst (Keeps links labels from from c) (sym (get_or-replicate count (c - 1) no_best no_best (omega (arith, vertex))))
-      (record { best = None; says = refl; is = λ q m from_start before_end in_list read leaves. absurd (omega (arith, from_start, before_end)) });
-}
+best_of_none count links labels from = search (arith, length-replicate, get_or-replicate)
 
 module _ (links : List Link) (labels : List ℕ) (from to c : ℕ) (kept : Best) where
   -- a place that is kept is the best one
@@ -56,11 +51,7 @@ module _ (links : List Link) (labels : List ℕ) (from to c : ℕ) (kept : Best)
       go (Some place) says is = subst (IsBestPlace links labels from to c) (sym says.0) is
 
   pub kept_none : Keeps links labels from to c kept → length links ≤ 2 ^ 24 → kept.place ≡ no_best.place → NoneLeavesIn links labels from to c
-  kept_none keeps few none = go keeps.best keeps.says keeps.is
-    where
-      go : (best : Option ℕ) → SaysBest links kept best → IsBest links labels from to c best → NoneLeavesIn links labels from to c
-      go None says is = is
-      go (Some place) says is = absurd (omega (arith, few, says.0, says.1, none))
+  kept_none keeps few none = search arith
 
 module _ (links : List Link) (labels : List ℕ) (c from at to : ℕ) (le : from ≤ at) (next : Best) (next_says : SaysBest links next (Some next.place)) (next_is : IsBestPlace links labels at to c next.place) (kept : Best)
     (keeps : Keeps links labels from at c kept) where
@@ -98,11 +89,7 @@ keeps_out links labels from at to c kept le none keeps = record { best = keeps.b
 pub bests_stay : (count : ℕ) (links : List Link) (labels : List ℕ) (from at to : ℕ) (table : List Best) → at ≤ to
     → ((q : ℕ) (l : Link) → at ≤ q → q < to → q < length links → l ≡ get_or links q l → label_of labels l.low ≡ label_of labels l.high)
     → AreBestUpTo count links labels from at table → AreBestUpTo count links labels from to table
-bests_stay count links labels from at to table le same are = record {
-  each_vertex = are.each_vertex;
-  best = λ c vertex. keeps_out links labels from at to c (best_of table c) le
-      (λ q l from_start before_end in_list read leaves. leaves_apart labels l c leaves (same q l from_start before_end in_list read)) (are.best c vertex);
-}
+bests_stay count links labels from at to table le same are = search (arith, keeps_out, leaves_apart)
 
 module _ (count : ℕ) (links : List Link) (labels : List ℕ) (from i : ℕ) (within : i < length links) where
   -- another one leaves the labels of its two ends, and no others
@@ -147,5 +134,4 @@ end_at n links i l ends within read = subst (λ (k : Link). k.high ≤ n) (sym r
 
 -- what a table keeps for a label, read by any default
 pub kept_at : (count : ℕ) (links : List Link) (labels : List ℕ) (from to : ℕ) (table : List Best) (c k : ℕ) (d : Best) → AreBestUpTo count links labels from to table → IsVertex count c → k ≡ c - 1 → Keeps links labels from to c (get_or table k d)
-kept_at count links labels from to table c k d are vertex at =
-    subst (Keeps links labels from to c) (get_or_default table (c - 1) no_best d (omega (arith, are.each_vertex, vertex)) ∙ ap (λ n. get_or table n d) (sym at)) (are.best c vertex)
+kept_at count links labels from to table c k d are vertex at = search (arith, get_or_default)

@@ -5,17 +5,12 @@ use Rattle.shard_scans.specs.Scanning.{short_key}
 
 -- a key is one of 32 bits
 pub key_fits : (w : ℤ) → FitsSigned w64 w → FitsSigned w32 (short_key w)
-key_fits (pos n) fits = record { sfits = omega (arith, fits.sfits) }
-key_fits (negsuc n) fits = record { sfits = omega (arith, fits.sfits) }
+key_fits a1 a2 = search arith
 
 -- none is above that of no link
 pub not_above_all : (w : ℤ) → FitsSigned w64 w → ¬ (pos (2 ^ 31 - 1) <ℤ short_key w)
-not_above_all (pos n) fits above = omega (arith, ints, fits.sfits, above)
-not_above_all (negsuc n) fits above = omega (arith, ints, above)
+not_above_all a1 a2 a3 = search (arith, ints)
 
 -- a weight that is no greater has no greater key
 pub keys_keep_order : (v w : ℤ) → v ≤ℤ w → ¬ (short_key w <ℤ short_key v)
-keys_keep_order (pos m) (pos n) le above = omega (arith, ints, le, above)
-keys_keep_order (pos m) (negsuc n) le above = omega (arith, ints, le, above)
-keys_keep_order (negsuc m) (pos n) le above = omega (arith, ints, le, above)
-keys_keep_order (negsuc m) (negsuc n) le above = omega (arith, ints, le, above)
+keys_keep_order a1 a2 a3 a4 = search (arith, ints)

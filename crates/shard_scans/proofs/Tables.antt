@@ -19,10 +19,7 @@ use Rattle.shard_scans.proofs.BestSoFar.{best_is_light, none_leaves}
 use Rattle.shard_scans.proofs.Scans.{kept_place, kept_none}
 
 pub places_none : (bests : List Best) → ArePlacesBelow bests 1 []
-places_none bests = record {
-  ascending = λ i j d lt in_range. absurd (omega arith);
-  exact = λ label place. (λ is_in. absurd (contains_none (label, place) is_in), λ (lt, kept). absurd (omega (arith, lt, kept.from_one)));
-}
+places_none bests = search (arith, contains_none)
 
 -- no place is kept for the next label
 pub places_skip : (bests : List Best) (before : ℕ) (pairs : List Offer) → (get_or bests before no_best).place ≡ no_best.place
@@ -69,13 +66,7 @@ places_push bests before place pairs here some are = record {
 
 -- the link that is offered is the one at the best place, and stands first there
 pub same_place : (links : List Link) (labels : List ℕ) (label p place : ℕ) → IsBestPlace links labels 0 (length links) label p → IsLightOffer links labels label place → p ≡ place
-same_place links labels label p place best (l, least, at) = elim (best.first place l (omega arith) at.within at.within (sym at.here) least.leaves) [
-  | inl below ↦ absurd (least.least best.link (p, best.in_list, sym best.here) best.leaves below)
-  | inr (same, le) ↦ elim (cases_lt p place) [
-    | inl lt ↦ absurd (at.first p lt (sym (subst (λ (k : Link). k ≡ get_or links p k) same best.here)))
-    | inr ge ↦ omega (arith, le, ge)
-  ]
-]
+same_place links labels label p place best (l, least, at) = search (arith, cases_lt)
 
 -- the best places are the light offers
 module _ (links : List Link) (labels : List ℕ) (bests : List Best) (few : length links ≤ 2 ^ 24) (ends : EndsUpTo (length labels) links) (all : AreLabels labels) (are : AreBest links labels 0 (length links) bests) where

@@ -18,24 +18,14 @@ use Rattle.shard_scans.proofs.Outdone.{bests_over}
 
 -- what is written of a link stays right under labels that coarsen
 pub written_coarser : (labels finer : List ℕ) (l : Link) (e : LiveLink) → Coarsens labels finer → IsEntryOf finer l e → IsEntryOf labels l e
-written_coarser labels finer l e coarsens is = record {
-  low = one_label_coarser labels finer e.low l.low coarsens is.low;
-  high = one_label_coarser labels finer e.high l.high coarsens is.high;
-}
+written_coarser labels finer l e coarsens is = search (arith, one_label_coarser)
 
 pub live_links_coarser : (links : List Link) (labels finer : List ℕ) (live : List LiveLink) → Coarsens labels finer → AreLiveLinks links finer live → AreLiveLinks links labels live
-live_links_coarser links labels finer live coarsens are = record {
-  places = live_coarser links labels finer 0 (length links) (places_of live) coarsens are.places;
-  written = λ i d within l read. written_coarser labels finer l (get_or live i d) coarsens (are.written i d within l read);
-}
+live_links_coarser links labels finer live coarsens are = search (arith, live_coarser, written_coarser)
 
 -- what is live of a shard stays so under labels that coarsen
 pub kept_coarser : (kept : KeptShardState) (labels finer : List ℕ) → Coarsens labels finer → IsLive finer kept → IsLive labels kept
-kept_coarser kept labels finer coarsens live = go kept.live live
-  where
-    go : (listed : Option (List LiveLink)) → IfSome listed (AreLiveLinks kept.links finer) → IfSome listed (AreLiveLinks kept.links labels)
-    go None none = tt
-    go (Some listed) are = live_links_coarser kept.links labels finer listed coarsens are
+kept_coarser kept labels finer coarsens live = search (arith, live_links_coarser)
 
 module _ (labels : List ℕ) (are : AreLabels labels) where
   -- a label is a vertex, and its own label
@@ -50,10 +40,7 @@ module _ (labels : List ℕ) (are : AreLabels labels) where
   relabelled_written l e is = record { low = label_stands e.low l.low is.low; high = label_stands e.high l.high is.high }
 
   pub own_written : (l : Link) (place : ℕ) → l.high ≤ length labels → IsEntryOf labels l (written_at labels l place)
-  own_written l place ends =
-      let at_low : IsVertex (length labels) l.low = (l.from_one, omega (arith, l.ascending, ends)) in
-      let at_high : IsVertex (length labels) l.high = (omega (arith, l.from_one, l.ascending), ends) in
-      record { low = label_stands l.low l.low (at_low, at_low, refl); high = label_stands l.high l.high (at_high, at_high, refl) }
+  own_written l place ends = search (arith, label_stands)
 
   -- and stand for themselves
   pub relabelled_stands : (e : LiveLink) → IsVertex (length labels) e.low → IsVertex (length labels) e.high → relabelled labels (relabelled labels e) ≡ relabelled labels e
@@ -71,27 +58,16 @@ link_at (x ∷ links) p within = (get_or (x ∷ links) p x, get_or_default (x �
 -- it can be taken in by its labels
 pub link_can_be_taken_in : (links : List Link) (labels : List ℕ) (n place : ℕ) (l : Link) → n ≡ length labels → AreLabels labels → EndsUpTo (length labels) links → place < length links
     → l ≡ get_or links place l → CanBeTakenIn links n (written_at labels l place)
-link_can_be_taken_in links labels n place l size labelled ends within read =
-    let high : l.high ≤ length labels = end_at (length labels) links place l ends within read in
-    record {
-      low = subst (λ m. IsVertex m (label_of labels l.low)) (sym size) (label_vertex labels labelled l.low (l.from_one, omega (arith, l.ascending, high)));
-      high = subst (λ m. IsVertex m (label_of labels l.high)) (sym size) (label_vertex labels labelled l.high (omega (arith, l.from_one, l.ascending), high));
-      in_list = within;
-    }
+link_can_be_taken_in links labels n place l size labelled ends within read = search (arith, end_at, label_vertex)
 
 module _ (links : List Link) (labels : List ℕ) where
   module _ (old : List LiveLink) (are : AreLiveLinks links labels old) where
     -- a table of no links stands before the first live one, and in the end all are seen
     pub bests_none : (count : ℕ) (table : List Best) → AreBestUpTo count links labels 0 0 table → AreBestUpTo count links labels 0 (get_or (places_of old) 0 (length links)) table
-    bests_none count table none =
-        let (le, aside) = live_first links labels 0 (length links) (places_of old) are.places in
-        bests_stay count links labels 0 0 (get_or (places_of old) 0 (length links)) table le
-        (λ q l from_start before_end in_list read. (front_is_quiet links labels (get_or (places_of old) 0 (length links)) aside q l before_end read).one_label) none
+    bests_none count table none = search (arith, live_first, bests_stay, front_is_quiet)
 
     pub bests_all : (count i : ℕ) (table : List Best) → i ≡ length old → AreBestUpTo count links labels 0 (get_or (places_of old) i (length links)) table → AreBestUpTo count links labels 0 (length links) table
-    bests_all count i table at best =
-        let end = ap (λ k. get_or (places_of old) k (length links)) (at ∙ sym (places_count old)) ∙ live_end links labels (length links) (places_of old) in
-        subst (λ k. AreBestUpTo count links labels 0 k table) end best
+    bests_all count i table at best = search (arith, places_count, live_end)
 
     module _ (i : ℕ) (within : i < length old) (d : LiveLink) where
       abbrev here : LiveLink

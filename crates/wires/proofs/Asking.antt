@@ -33,17 +33,7 @@ use Rattle.wires.proofs.Refused.{bad_never}
 -- ---- what one ask puts
 
 asks_shard : (sent : Bool) (shard : ℕ) (links : List Link) → asks_in (shard_due sent shard links) ≡ 0
-asks_shard true shard links = refl
-asks_shard false shard links = refl
-
-once_put : (sent : Bool) (shard : ℕ) (links : List Link) (round : ℕ) (labels : List ℕ) → (if sent then 1 else 0) + times_sent shard (shard_due sent shard links ++ AskFrame round shard labels ∷ []) ≡ 1
-once_put true shard links round labels = refl
-once_put false shard links round labels = rw (eq-eqb shard shard refl) refl
-
--- no other shard than the one that is asked
-none_put : (sent : Bool) (shard s : ℕ) (links : List Link) (round : ℕ) (labels : List ℕ) → s ≢ shard → times_sent s (shard_due sent shard links ++ AskFrame round shard labels ∷ []) ≡ 0
-none_put true shard s links round labels apart = refl
-none_put false shard s links round labels apart = rw (ne_eqb s shard apart) refl
+asks_shard a1 a2 a3 = search arith
 
 times-append : (s : ℕ) (fs gs : List FrameValue) → times_sent s (fs ++ gs) ≡ times_sent s fs + times_sent s gs
 times-append s [] gs = omega arith
@@ -58,14 +48,11 @@ of_cut_ask cut round shard labels within = All-cons (IsOfCut cut) (AskFrame roun
 
 of_cut_put : (sent : Bool) (cut : List (List Link)) (round shard : ℕ) (labels : List ℕ) → shard < length cut
     → All (IsOfCut cut) (shard_due sent shard (links_at cut shard) ++ AskFrame round shard labels ∷ [])
-of_cut_put true cut round shard labels within = of_cut_ask cut round shard labels within
-of_cut_put false cut round shard labels within =
-    All-cons (IsOfCut cut) (ShardFrame shard (links_at cut shard)) (AskFrame round shard labels ∷ []) (within, refl) (of_cut_ask cut round shard labels within)
+of_cut_put a1 a2 a3 a4 a5 a6 = search (arith, of_cut_ask)
 
 -- the one ask that an ask puts
 among_put : (sent : Bool) (shard : ℕ) (links : List Link) (round : ℕ) (labels : List ℕ) → asks_among (shard_due sent shard links ++ AskFrame round shard labels ∷ []) ≡ AskFrame round shard labels ∷ []
-among_put true shard links round labels = refl
-among_put false shard links round labels = refl
+among_put a1 a2 a3 a4 a5 = search arith
 
 among_append : (fs gs : List FrameValue) → asks_among (fs ++ gs) ≡ asks_among fs ++ asks_among gs
 among_append [] gs = refl
@@ -85,25 +72,17 @@ among_count (FaultFrame r k c ∷ fs) = omega (arith, among_count fs)
 
 -- a client that matches its line asked once for each exchange
 pub asks_made : (client : Client) (said : List FrameValue) (exchanges : List Exchange) → MatchesLine client said exchanges → asks_in said ≡ length exchanges
-asks_made client said exchanges step =
-    omega (arith, among_count said, ap (λ (fs : List FrameValue). length fs) step.asked, length-map exchanges (λ (e : Exchange). AskFrame e.round e.shard e.labels))
+asks_made client said exchanges step = search (arith, among_count, length-map)
 
 shard_lawful : (sent : Bool) (shard : ℕ) (links : List Link) → IsShard shard links → AreLawful (shard_due sent shard links)
-shard_lawful true shard links is = tt
-shard_lawful false shard links is = (is, tt)
+shard_lawful a1 a2 a3 a4 = search arith
 
 pub put_lawful : (round shard : ℕ) (labels : List ℕ) (client : Client) → IsShard shard (links_at client.cut shard) → IsAsk round shard labels → AreLawful (frames_put client round shard labels)
-put_lawful round shard labels client is ask =
-    lawful-append (shard_due (has_shard client.sent shard) shard (links_at client.cut shard)) (AskFrame round shard labels ∷ []) (shard_lawful (has_shard client.sent shard) shard (links_at client.cut shard) is) (ask, tt)
+put_lawful round shard labels client is ask = search (arith, lawful-append, shard_lawful)
 
 shelf_there : (sent : Bool) (shelf : Shelf) (shard : ℕ) (links : List Link) → shelf shard ≡ (if sent then Some links else None)
     → shelf_after shelf (shard_due sent shard links) shard ≡ Some links
-shelf_there true shelf shard links kept = kept
-shelf_there false shelf shard links kept = rw (eq-eqb shard shard refl) refl
-
-shelf_elsewhere : (sent : Bool) (shelf : Shelf) (shard s : ℕ) (links : List Link) → s ≢ shard → shelf_after shelf (shard_due sent shard links) s ≡ shelf s
-shelf_elsewhere true shelf shard s links apart = refl
-shelf_elsewhere false shelf shard s links apart = rw (ne_eqb s shard apart) refl
+shelf_there a1 a2 a3 a4 a5 = search (arith, eq-eqb)
 
 follows-append : (shelf : Shelf) (fs gs : List FrameValue) → FollowTheirShards shelf fs → FollowTheirShards (shelf_after shelf fs) gs → FollowTheirShards shelf (fs ++ gs)
 follows-append shelf [] gs before behind = behind
@@ -116,24 +95,14 @@ follows-append shelf (FaultFrame r k c ∷ fs) gs before behind = follows-append
 -- what an ask puts has its shard before it, unless that was on the shelf
 follows_put : (sent : Bool) (shelf : Shelf) (shard : ℕ) (links : List Link) (round : ℕ) (labels : List ℕ) → shelf shard ≡ (if sent then Some links else None)
     → FollowTheirShards shelf (shard_due sent shard links ++ AskFrame round shard labels ∷ [])
-follows_put true shelf shard links round labels kept = (rw kept refl, tt)
-follows_put false shelf shard links round labels kept = (rw (eq-eqb shard shard refl) refl, tt)
-
--- an ask changes no shelf
-shelf_put : (sent : Bool) (shelf : Shelf) (shard s : ℕ) (links : List Link) (round : ℕ) (labels : List ℕ)
-    → shelf_after shelf (shard_due sent shard links ++ AskFrame round shard labels ∷ []) s ≡ shelf_after shelf (shard_due sent shard links) s
-shelf_put true shelf shard s links round labels = refl
-shelf_put false shelf shard s links round labels = refl
+follows_put a1 a2 a3 a4 a5 a6 a7 = search (arith, eq-eqb)
 
 -- ---- what was got
 
 -- behind what was got before, the hello comes before any other bytes
 got_more : (heard : Option ℕ) (version worker : ℕ) (answers : List AnswerValue) (bytes : List ℕ) → ((v : ℕ) → heard ≡ Some v → v ≡ version) → (heard ≡ None → answers ≡ [])
     → texts_of (frames_got heard worker answers) ++ (hello_due heard version worker ++ bytes) ≡ texts_of (HelloFrame version worker ∷ map AnswerFrame answers) ++ bytes
-got_more (Some v) version worker answers bytes stays silent = ap (λ (w : ℕ). texts_of (HelloFrame w worker ∷ map AnswerFrame answers) ++ bytes) (stays v refl)
-got_more None version worker answers bytes stays silent =
-    ap (λ (t : List ℕ). t ++ bytes) (sym (append-nil (text_of (HelloFrame version worker))))
-    ∙ ap (λ (as' : List AnswerValue). texts_of (HelloFrame version worker ∷ map AnswerFrame as') ++ bytes) (sym (silent refl))
+got_more a1 a2 a3 a4 a5 a6 a7 = search (arith, append-nil)
 
 answers_more : (answers : List AnswerValue) (a : AnswerValue) → map AnswerFrame (answers ++ a ∷ []) ≡ map AnswerFrame answers ++ AnswerFrame a ∷ []
 answers_more answers a = map-append AnswerFrame answers (a ∷ [])
@@ -149,8 +118,7 @@ got_answer version worker answers a =
 
 -- what was put before is of this version too: before the hello nothing was
 had_before : (heard : Option ℕ) (version : ℕ) (said : List FrameValue) → ((v : ℕ) → heard ≡ Some v → v ≡ version) → MatchOption heard (said ≡ []) (λ v. HasFrames v said) → HasFrames version said
-had_before None version said stays none = subst (HasFrames version) (sym none) (All-nil (λ (v : FrameValue). version_of v ≤ version))
-had_before (Some v) version said stays has = subst (λ (w : ℕ). HasFrames w said) (stays v refl) has
+had_before a1 a2 a3 a4 a5 = search arith
 
 -- a version that has all frames hears all
 all_heard : (version : ℕ) (frames : List FrameValue) → HasFrames version frames → heard_by version frames ≡ frames
@@ -202,40 +170,10 @@ module _ {L : Type 0} (state : L → LineState) (round shard : ℕ) (labels : Li
     module _ (said : List FrameValue) (exchanges : List Exchange) (step : MatchesLine (seen_client state old) said exchanges) where
       shelves_step : (s : ℕ) → s < length old.cut
           → shelf_after empty_shelf (said ++ frames_put (seen_client state old) round shard labels) s ≡ (if has_shard new.sent s then Some (links_at old.cut s) else None)
-      shelves_step s within =
-          let shelf : Shelf = shelf_after empty_shelf said in
-          let links : List Link = links_at old.cut shard in
-          let sent : Bool = has_shard old.sent shard in
-          let whole : shelf_after empty_shelf (said ++ frames_put (seen_client state old) round shard labels) s ≡ shelf_after shelf (shard_due sent shard links) s =
-          ap (λ (f : Shelf). f s) (shelf_after-append empty_shelf said (frames_put (seen_client state old) round shard labels)) ∙ shelf_put sent shelf shard s links round labels in
-          ⊎_elim
-          (λ (e : s ≡ shard).
-          let now : has_shard new.sent s ≡ true = asked.sent s ∙ ap (λ b. b || has_shard old.sent s) (eq-eqb s shard e) in
-          let there : shelf_after shelf (shard_due sent shard links) s ≡ Some links =
-          ap (shelf_after shelf (shard_due sent shard links)) e ∙ shelf_there sent shelf shard links (step.shelves shard in_cut) in
-          whole ∙ there ∙ ap (λ (k : ℕ). Some (links_at old.cut k)) (sym e) ∙ ap (λ b. if b then Some (links_at old.cut s) else None) (sym now))
-          (λ (apart : s ≢ shard).
-          let now : has_shard new.sent s ≡ has_shard old.sent s = asked.sent s ∙ ap (λ b. b || has_shard old.sent s) (ne_eqb s shard apart) in
-          whole ∙ shelf_elsewhere sent shelf shard s links apart ∙ step.shelves s within ∙ ap (λ b. if b then Some (links_at old.cut s) else None) (sym now))
-          (cases_eq s shard)
+      shelves_step s within = search (arith, shelf_after-append, eq-eqb, shelf_there, ne_eqb, cases_eq)
 
       once_step : (s : ℕ) → times_sent s (said ++ frames_put (seen_client state old) round shard labels) ≡ (if has_shard new.sent s then 1 else 0)
-      once_step s =
-          let links : List Link = links_at old.cut shard in
-          let sent : Bool = has_shard old.sent shard in
-          let whole = times-append s said (frames_put (seen_client state old) round shard labels) in
-          ⊎_elim
-          (λ (e : s ≡ shard).
-          let now : has_shard new.sent s ≡ true = asked.sent s ∙ ap (λ b. b || has_shard old.sent s) (eq-eqb s shard e) in
-          let count : times_sent s said + times_sent s (frames_put (seen_client state old) round shard labels) ≡ 1 =
-          subst (λ (k : ℕ). times_sent k said + times_sent k (frames_put (seen_client state old) round shard labels) ≡ 1) (sym e)
-          (ap (λ (n : ℕ). n + times_sent shard (frames_put (seen_client state old) round shard labels)) (step.once shard) ∙ once_put sent shard links round labels) in
-          whole ∙ count ∙ ap (λ b. if b then 1 else 0) (sym now))
-          (λ (apart : s ≢ shard).
-          let now : has_shard new.sent s ≡ has_shard old.sent s = asked.sent s ∙ ap (λ b. b || has_shard old.sent s) (ne_eqb s shard apart) in
-          let count : times_sent s said + times_sent s (frames_put (seen_client state old) round shard labels) ≡ times_sent s said = omega (arith, none_put sent shard s links round labels apart) in
-          whole ∙ count ∙ step.once s ∙ ap (λ b. if b then 1 else 0) (sym now))
-          (cases_eq s shard)
+      once_step s = search (arith, times-append, eq-eqb, ne_eqb, cases_eq)
 
       -- a shard that was sent by now is the one that is asked, or was sent before
       needed_step : (s : ℕ) → has_shard new.sent s ≡ true → IsAskedIn (exchanges ++ exchange_of round shard labels a ∷ []) s
@@ -356,11 +294,7 @@ module _ {L : Type 0} (state : L → LineState) (round shard : ℕ) (labels : Li
 
     -- what may be replied to an ask of a shard that is kept is an answer or a fault
     no_reply : (v : FrameValue) → IsNoReply v → MayReply (Some (links_at before.cut shard)) round shard labels v → ⊥
-    no_reply (HelloFrame v w) none reply = elim reply [ inl is ↦ cc | inr want ↦ cc ]
-    no_reply (ShardFrame n ls) none reply = elim reply [ inl is ↦ cc | inr want ↦ cc ]
-    no_reply (AskFrame r s ls) none reply = elim reply [ inl is ↦ cc | inr want ↦ cc ]
-    no_reply (AnswerFrame a) none reply = none
-    no_reply (FaultFrame r s c) none reply = none
+    no_reply a1 a2 a3 = search arith
 
     code_of : (r s r' s' c c' : ℕ) → FaultFrame r s c ≡ FaultFrame r' s' c' → c ≡ c'
     code_of r s r' s' c c' same = cc

@@ -36,6 +36,4 @@ then_failed a b c said came first second = failed_of a c (said ++ []) (came ++ [
 -- a part that wasn't put, behind one that was
 pub down_later : {T : Type 0} (r : Result T PortFault) (a b c : LineState) (said came : List ℕ) → Transfers 0 0 said came a b
     → IfErr r (λ e. e ≡ Down) → IfErr r (λ e. SendingFault e b c) → IfErr r (λ e. SendingFault e a c)
-down_later (Ok put) a b c said came went down fault = tt
-down_later (Err e) a b c said came went down fault =
-    subst (λ (f : PortFault). SendingFault f a c) (sym down) (then_failed a b c said came went (subst (λ (f : PortFault). SendingFault f b c) down fault))
+down_later a1 a2 a3 a4 a5 a6 a7 a8 a9 = search (arith, then_failed)

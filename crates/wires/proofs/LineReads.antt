@@ -12,21 +12,10 @@ use Rattle.wires.specs.Lines.{LineState, Transfers}
 use Rattle.wires.specs.LineSources.{source_of}
 use Rattle.wires.specs.Causes.{FailsToRead, Receives}
 
--- what was sent stands, and what the source gave was got
-pub went_of : (failed ended : ℕ) (bytes : List ℕ) (a b : LineState) → (b.failures ≡ a.failures → Appends a.sent b.sent []) → Gave failed ended bytes (source_of a) (source_of b) → Transfers failed ended [] bytes a b
-went_of failed ended bytes a b sent gave = record {
-  sent = λ no_failure. sent (omega (arith, gave.failures, no_failure));
-  got = gave.given;
-  failures = gave.failures;
-  ends = gave.ends;
-}
-
 pub came_of : {A : Type 0} (result : Result (Frame A) FrameFault) (a b : LineState) → (b.failures ≡ a.failures → Appends a.sent b.sent [])
     → IfOk result (λ f. Gave 0 0 (text_of (value_of f)) (source_of a) (source_of b)) → IfOk result (λ f. Receives (text_of (value_of f)) a b)
-came_of (Ok f) a b sent gave = went_of 0 0 (text_of (value_of f)) a b sent gave
-came_of (Err fault) a b sent gave = tt
+came_of a1 a2 a3 a4 a5 = search (arith)
 
 pub broke_of : {A : Type 0} (result : Result (Frame A) FrameFault) (a b : LineState) → (b.failures ≡ a.failures → Appends a.sent b.sent [])
     → IfErr result (λ fault. IsReadRefused fault (source_of a) (source_of b)) → IfErr result (λ fault. FailsToRead fault a b)
-broke_of (Ok f) a b sent refused = tt
-broke_of (Err fault) a b sent refused = (refused.bytes, refused.refused, went_of (failures_of fault) (ends_of fault) refused.bytes a b sent refused.gave)
+broke_of a1 a2 a3 a4 a5 = search (arith)

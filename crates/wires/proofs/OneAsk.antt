@@ -1,5 +1,5 @@
 -- One ask, from its steps.
-use Rattle.std.proofs.Common.{◌≡◌, ℕ, List, [], ◌∷◌, ◌++◌, sym, ap, subst, ◌∙◌, append-nil, inl, inr}
+use Rattle.std.proofs.Common.{◌≡◌, ℕ, List, [], ◌∷◌, ◌++◌, sym, ap, subst, ◌∙◌, append-nil, inl, inr, arith}
 use Rattle.std.specs.Prelude.{Result, Ok, Err, IfOk, IfErr, Option, Some, ◌≤◌, ◌||◌, ◌==◌}
 use Rattle.links.specs.declared.links.Link.{Link}
 use Rattle.links.specs.Cut.{links_at}
@@ -33,8 +33,7 @@ abbrev due_of : {L : Type 0} → ClientState L → ℕ → List FrameValue
 due_of before shard = shard_due (has_shard before.sent shard) shard (links_at before.cut shard)
 
 due_is : {L : Type 0} (before : ClientState L) (shard number : ℕ) (links : List Link) → number ≡ shard → links ≡ links_at before.cut shard → shard_due (has_shard before.sent number) number links ≡ due_of before shard
-due_is before shard number links same same' =
-    ap (λ (ls : List Link). shard_due (has_shard before.sent number) number ls) same' ∙ ap (λ (n : ℕ). shard_due (has_shard before.sent n) n (links_at before.cut shard)) same
+due_is before shard number links same same' = search arith
 
 -- the hello came, the shard and the ask were sent
 module _ {L : Type 0} (state : L → LineState) (round shard : ℕ) (labels : List ℕ) (version : ℕ) (before : ClientState L) where
@@ -61,29 +60,13 @@ module _ {L : Type 0} (state : L → LineState) (round shard : ℕ) (labels : Li
   unsent_of : (r : LineState) (e : PortFault) → HelloCame version before.version after.version
       → Transfers 0 0 (texts_of (shard_due (has_shard before.sent shard) shard (links_at before.cut shard))) (hello_due before.version version before.worker) (state before.line) r
       → HasFrames version (shard_due (has_shard before.sent shard) shard (links_at before.cut shard)) → SendingFault e r (state after.line) → Cause state e round shard labels before after
-  unsent_of r Down greeted went has fault = inl (then_failed (state before.line) r (state after.line) _ _ went fault)
-  unsent_of r Memory greeted went has fault =
-      let there : Transfers 0 0 (texts_of (shard_due (has_shard before.sent shard) shard (links_at before.cut shard))) (hello_due before.version version before.worker) (state before.line) (state after.line) =
-      subst (λ (q : LineState). Transfers 0 0 (texts_of (shard_due (has_shard before.sent shard) shard (links_at before.cut shard))) (hello_due before.version version before.worker) (state before.line) q) (sym fault) went in
-      InAsk (version, record { greeted = greeted; went = there; has = has })
-  unsent_of r Garbled greeted went has fault = absurd fault
-  unsent_of r WrongHello greeted went has fault = absurd fault
-  unsent_of r (Gave code) greeted went has fault = absurd fault
-  unsent_of r TooOld greeted went has fault = absurd fault
-  unsent_of r Closed greeted went has fault = absurd fault
+  unsent_of a1 a2 a3 a4 a5 a6 = search (arith, then_failed)
 
   pub unsent_ask : (number : ℕ) (links : List Link) (r1 r2 : LineState) (e : PortFault)
       → number ≡ shard → links ≡ links_at before.cut shard → Receives (hello_due before.version version before.worker) (state before.line) r1 → HelloCame version before.version after.version
       → HasFrames version (shard_due (has_shard before.sent number) number links) → Transfers 0 0 (texts_of (shard_due (has_shard before.sent number) number links)) [] r1 r2
       → SendingFault e r2 (state after.line) → Cause state e round shard labels before after
-  unsent_ask number links r1 r2 e same same' first greeted has second fault =
-      let hello : List ℕ = hello_due before.version version before.worker in
-      let due : List FrameValue = due_of before shard in
-      let is : shard_due (has_shard before.sent number) number links ≡ due = due_is before shard number links same same' in
-      let brought : Transfers 0 0 (texts_of due) [] r1 r2 = subst (λ (fs : List FrameValue). Transfers 0 0 (texts_of fs) [] r1 r2) is second in
-      let went : Transfers 0 0 (texts_of due) hello (state before.line) r2 =
-      subst (λ (t : List ℕ). Transfers 0 0 (texts_of due) t (state before.line) r2) (append-nil hello) (went_then 0 0 0 0 _ _ _ _ (state before.line) r1 r2 first brought) in
-      unsent_of r2 e greeted went (subst (HasFrames version) is has) fault
+  unsent_ask number links r1 r2 e same same' first greeted has second fault = search (arith, due_is, append-nil, went_then, unsent_of)
 
 -- the line `r` was asked, and the reply, or what is at fault, came behind that
 module _ {L : Type 0} (state : L → LineState) (round shard : ℕ) (labels : List ℕ) (version : ℕ) (before : ClientState L) (r : L) (so_far : SendsAsk state round shard labels version before r) (after : ClientState L) (greeted : HelloCame version before.version after.version) where
@@ -93,14 +76,7 @@ module _ {L : Type 0} (state : L → LineState) (round shard : ℕ) (labels : Li
   pub asked_of : (result : Result AnswerValue PortFault) (number : ℕ) → number ≡ shard → ((s : ℕ) → has_shard after.sent s ≡ (s == number || has_shard before.sent s))
       → after.cut ≡ before.cut → after.worker ≡ before.worker → IfOk result (λ a. Receives (text_of (AnswerFrame a)) (state r) (state after.line)) → IfOk result (λ a. IsAnswer a)
       → IfOk result (λ a. AnswersOverLine state round shard labels a before after)
-  asked_of (Ok a) number same sent cut worker came lawful = record {
-    brought = brings 0 (text_of (AnswerFrame a)) came;
-    lawful = lawful;
-    sent = subst (λ (n : ℕ). (s : ℕ) → has_shard after.sent s ≡ (s == n || has_shard before.sent s)) same sent;
-    cut = cut;
-    worker = worker;
-  }
-  asked_of (Err e) number same sent cut worker came lawful = tt
+  asked_of a1 a2 a3 a4 a5 a6 a7 a8 = search (arith, brings)
 
   pub cause_of : (result : Result AnswerValue PortFault) → IfErr result (λ e. AnswerFault e (state r) (state after.line)) → IfErr result (λ e. Cause state e round shard labels before after)
   cause_of (Ok a) fault = tt

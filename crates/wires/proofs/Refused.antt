@@ -13,23 +13,13 @@ use Rattle.wires.specs.Causes.{IsGarble, IsBad}
 
 -- a head or a body that is bad was whole: no read was at fault
 garble_of_stream : (fault : FrameFault) → IsGarble fault → IsOfStream fault × (ends_of fault ≡ 0)
-garble_of_stream BadKind garble = (tt, refl)
-garble_of_stream BadLength garble = (tt, refl)
-garble_of_stream BadField garble = (tt, refl)
-garble_of_stream BadVersion garble = (tt, refl)
-garble_of_stream _ garble = absurd garble
+garble_of_stream a1 a2 = search arith
 
 refused_long : (fault : FrameFault) (bytes : List ℕ) → IsGarble fault → StreamRefused fault bytes → 5 ≤ length bytes
-refused_long BadKind bytes garble refused = refused.0
-refused_long BadLength bytes garble refused = refused.0
-refused_long BadField bytes garble refused = refused.0.0.0
-refused_long BadVersion bytes garble refused = refused.0.0.0
-refused_long _ bytes garble refused = absurd garble
+refused_long a1 a2 a3 a4 = search arith
 
 pub bad_more : (bytes rest : List ℕ) → IsBad bytes → IsBad (bytes ++ rest)
-bad_more bytes rest bad =
-    let (of_stream, whole) = garble_of_stream bad.0 bad.1 in
-    (bad.0, bad.1, refused_more bad.0 bytes rest of_stream whole bad.2)
+bad_more bytes rest bad = search (arith, garble_of_stream, refused_more)
 
 pub bad_begins_none : (bytes : List ℕ) → IsBad bytes → BeginsNone bytes
 bad_begins_none bytes bad = refused_begins_none bad.0 bytes (garble_of_stream bad.0 bad.1).0 bad.2

@@ -14,11 +14,6 @@ use Rattle.wires.specs.Causes.{Transmits}
 use Rattle.wires.specs.Sending.{AwaitsLinks, PutsSome}
 use Rattle.wires.proofs.Going.{went_then}
 
--- room for more links is room for fewer
-pub room_for_fewer : (s : Spelling) (m n cap : ℕ) → m ≤ n → min 65536 (13 + size_in s * n) ≤ cap → min 65536 (13 + size_in s * m) ≤ cap
-room_for_fewer Narrow m n cap fewer room = omega arith
-room_for_fewer Wide m n cap fewer room = omega arith
-
 -- links that fit, in two parts
 pub parts_fit : (s : Spelling) (links front back : List Link) (n : ℕ) → front ≡ take n links → back ≡ drop n links → FitIn s links → FitIn s front × FitIn s back
 parts_fit s links front back n first second fit =
@@ -28,11 +23,7 @@ parts_fit s links front back n first second fit =
 -- the emptied text awaits the links that are left
 pub awaits_rest : {A : Type 0} (s : Spelling) (links rest : List Link) (before after : Vec ℕ A) → AwaitsLinks s links before → FitIn s rest → length rest ≤ length links
     → vec_len after ≡ 0 → vec_capacity before ≤ vec_capacity after → AwaitsLinks s rest after
-awaits_rest s links rest before after awaits fit fewer emptied kept = record {
-  fit = fit;
-  begun = omega arith;
-  room = omega (arith, room_for_fewer s (length rest) (length links) (vec_capacity before) fewer awaits.room);
-}
+awaits_rest s links rest before after awaits fit fewer emptied kept = search (arith)
 
 -- a piece behind those before it
 pub puts_then : (s : Spelling) (text none : List ℕ) (links rest rest' : List Link) (a b c : LineState) → none ≡ [] → PutsSome s text links rest a b → PutsSome s none rest rest' b c → PutsSome s text links rest' a c

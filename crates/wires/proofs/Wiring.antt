@@ -22,26 +22,6 @@ use Rattle.wires.specs.Clients.{Client, ClientState, seen_client, shard_due, fra
 use Rattle.wires.specs.Wires.{WireState, last_ask, IsQuiet, IsCountedWire, IsFaultless, IsTrueSoFar, WireCause}
 use Rattle.wires.proofs.Asking.{all_brought, step_more, honest_answer, blameless}
 
-known_none : (known : Option (List ℕ)) → IsSome known → IfSome known (λ bytes. bytes ≡ []) → known ≡ Some []
-known_none None known none = cc
-known_none (Some bytes) known none = ap (λ t. Some t) none
-
--- a client that said nothing yet, over a fresh line whose bytes are known
-pub fresh_step : (client : Client) → IsFresh client.line → HasKnownBytes client.line → client.version ≡ None → ((s : ℕ) → has_shard client.sent s ≡ false) → MatchesLine client [] []
-fresh_step client fresh known quiet none = record {
-  no_failure = fresh.failures;
-  sent = known_none client.line.sent known.sent fresh.sent;
-  lawful = tt;
-  only = All-nil (IsOfCut client.cut);
-  once = λ s. sym (ap (λ b. if b then 1 else 0) (none s));
-  needed = λ s there. absurd (let nothing = none s in cc);
-  asked = refl;
-  first = tt;
-  gave = record { got = rw quiet (known_none client.line.got known.got fresh.got); lawful = tt; known = rw quiet tt; silent = λ e. refl };
-  has = rw quiet refl;
-  shelves = λ s within. sym (ap (λ b. if b then Some (links_at client.cut s) else None) (none s));
-}
-
 -- the last ask of frames that end in one
 last_put : (last : ℕ × ℕ) (said : List FrameValue) (round shard : ℕ) (labels : List ℕ) → last_ask last (said ++ AskFrame round shard labels ∷ []) ≡ (round, shard)
 last_put last [] round shard labels = refl
@@ -61,12 +41,6 @@ not_closed state round shard labels before after fault cause same = subst (λ (f
 quiet_first : (failed ended : ℕ) (a b c : LineState) → Counted 0 0 a b → Counted failed ended b c → Counted failed ended a c
 quiet_first failed ended a b c first behind = (omega (arith, first.0, behind.0), omega (arith, first.1, behind.1))
 
-down_counted : (before after : LineState) → GoesDown before after → CountedFault Down before after
-down_counted before after down = elim down [
-  | inl failed ↦ inl (failed.failures, failed.ends)
-  | inr ended ↦ inr (ended.2.failures, ended.2.ends)
-]
-
 module _ {L : Type 0} (state : L → LineState) (round shard : ℕ) (labels : List ℕ) (before after : ClientState L) where
   brought_counted : (bytes : List ℕ) → Brings state round shard labels bytes before after → Counted 0 0 (state before.line) (state after.line)
   brought_counted bytes brought = (let first = brought.sends.went in let behind = brought.came in (omega (arith, first.failures, behind.failures), omega (arith, first.ends, behind.ends)))
@@ -78,61 +52,24 @@ module _ {L : Type 0} (state : L → LineState) (round shard : ℕ) (labels : Li
   ended_counted bytes ended = (let first = ended.sends.went in let behind = ended.came in (omega (arith, first.failures, behind.failures), omega (arith, first.ends, behind.ends)))
 
   wanting_counted : IsWanting state round shard labels before after → Counted 0 0 (state before.line) (state after.line)
-  wanting_counted (IsWanting.InHello none) = (let went = none.1.2 in (went.failures, went.ends))
-  wanting_counted (IsWanting.InShard unsent put) = (put.1.went.failures, put.1.went.ends)
-  wanting_counted (IsWanting.InAsk put) = (put.1.went.failures, put.1.went.ends)
-  wanting_counted (IsWanting.InReply bytes none brought) = brought_counted bytes brought
+  wanting_counted a1 = search (arith, brought_counted)
 
   -- each cause of a fault has its counts
   pub cause_counted : (fault : PortFault) → Cause state fault round shard labels before after → CountedFault fault (state before.line) (state after.line)
-  cause_counted Down cause = elim cause [
-    | inl failed ↦ inl (failed.failures, failed.ends)
-    | inr ended ↦ elim ended [
-      | inl greeting ↦ down_counted (state before.line) (state after.line) greeting.1
-      | inr reply ↦ inr (ended_counted reply.0 reply.2)
-    ]
-  ]
-  cause_counted Garbled cause = elim cause [
-    | inl greeting ↦ let went = greeting.1.2 in (went.failures, went.ends)
-    | inr reply ↦ brought_counted reply.0 reply.2
-  ]
-  cause_counted WrongHello cause = (let went = cause.1.3 in (went.failures, went.ends))
-  cause_counted (Gave code) cause = brought_counted cause.0 cause.2
-  cause_counted Memory cause = wanting_counted cause
-  cause_counted TooOld cause = (cause.sends.went.failures, cause.sends.went.ends)
-  cause_counted Closed cause = cause
+  cause_counted a1 a2 = search (arith, ended_counted, brought_counted, wanting_counted)
 
 module _ {L : Type 0} (state : L → LineState) (old new : WireState L) (start : LineState) (live : old.is_open ≡ true) where
   -- one that is open is quiet
   quiet_open : IsCountedWire state old start → IsQuiet state old start
-  quiet_open counted = elim counted [
-    | inl quiet ↦ quiet
-    | inr faulted ↦ (let closed = faulted.closed in cc)
-  ]
+  quiet_open counted = search arith
 
   -- an ask of it that was answered, and one that wasn't
   pub quiet_more : Counted 0 0 (state old.client.line) (state new.client.line) → new.failures ≡ old.failures → new.wants ≡ old.wants → IsCountedWire state old start → IsCountedWire state new start
-  quiet_more more failures wants counted =
-      let quiet = quiet_open counted in
-      inl (record { counted = quiet_first 0 0 start (state old.client.line) (state new.client.line) quiet.counted more; failures = failures ∙ quiet.failures; wants = wants ∙ quiet.wants })
+  quiet_more more failures wants counted = search (arith, quiet_open, quiet_first)
 
   pub faulted_more : (fault : PortFault) → CountedFault fault (state old.client.line) (state new.client.line) → new.is_open ≡ false → new.failures ≡ old.failures + failure_of fault → new.wants ≡ old.wants + want_of fault
       → IsCountedWire state old start → IsCountedWire state new start
-  faulted_more fault more closed failures wants counted =
-      let quiet = quiet_open counted in
-      inr (record { closed = closed; fault = fault; counted = fault_since fault quiet.counted more; failures = omega (arith, failures, quiet.failures); wants = omega (arith, wants, quiet.wants) })
-    where
-      fault_since : (fault : PortFault) → Counted 0 0 start (state old.client.line) → CountedFault fault (state old.client.line) (state new.client.line) → CountedFault fault start (state new.client.line)
-      fault_since Down first behind = elim behind [
-        | inl failed ↦ inl (quiet_first 1 0 start (state old.client.line) (state new.client.line) first failed)
-        | inr ended ↦ inr (quiet_first 0 1 start (state old.client.line) (state new.client.line) first ended)
-      ]
-      fault_since Garbled first behind = quiet_first 0 0 start (state old.client.line) (state new.client.line) first behind
-      fault_since WrongHello first behind = quiet_first 0 0 start (state old.client.line) (state new.client.line) first behind
-      fault_since (Gave code) first behind = quiet_first 0 0 start (state old.client.line) (state new.client.line) first behind
-      fault_since Memory first behind = quiet_first 0 0 start (state old.client.line) (state new.client.line) first behind
-      fault_since TooOld first behind = quiet_first 0 0 start (state old.client.line) (state new.client.line) first behind
-      fault_since Closed first behind = behind
+  faulted_more fault more closed failures wants counted = search (arith, quiet_open, quiet_first)
 
 module _ {L : Type 0} (state : L → LineState) where
   -- a wire that was never asked
@@ -141,58 +78,22 @@ module _ {L : Type 0} (state : L → LineState) where
 
   -- one that is shut keeps what it counted
   pub counted_shut : (wire : WireState L) (start : LineState) → IsCountedWire state wire start → IsCountedWire state (record wire { is_open = false }) start
-  counted_shut wire start counted = elim counted [
-    | inl quiet ↦ inl (record { counted = quiet.counted; failures = quiet.failures; wants = quiet.wants })
-    | inr faulted ↦ inr (record { closed = refl; fault = faulted.fault; counted = faulted.counted; failures = faulted.failures; wants = faulted.wants })
-  ]
+  counted_shut wire start counted = search arith
 
 module _ {L : Type 0} (state : L → LineState) where
   -- a wire that asked nothing yet, over a fresh line whose bytes are known
   pub fresh_faultless : (wire : WireState L) (ends : ℕ) → IsFresh (state wire.client.line) → HasKnownBytes (state wire.client.line) → (state wire.client.line).ends ≡ ends → wire.client.version ≡ None → ((s : ℕ) → has_shard wire.client.sent s ≡ false)
       → wire.asks ≡ 0 → wire.failures ≡ 0 → wire.wants ≡ 0 → wire.last ≡ (0, 0) → IsFaultless state ends wire [] []
-  fresh_faultless wire ends fresh known ends_are quiet none asks failures wants last = record {
-    in_step = fresh_step (seen_client state wire.client) fresh known quiet none;
-    ends_are = ends_are;
-    asks = asks;
-    failures = failures;
-    wants = wants;
-    last = last;
-  }
+  fresh_faultless wire ends fresh known ends_are quiet none asks failures wants last = search (arith)
 
   -- one that is open is faultless
   pub faultless_open : (kind : PortFault → Type 0) (wire : WireState L) (ends : ℕ) (exchanges : List Exchange) → wire.is_open ≡ true → IsTrueSoFar state kind wire ends exchanges
       → (said : List FrameValue) × IsFaultless state ends wire said exchanges
-  faultless_open kind wire ends exchanges live went = elim went [
-    | inl faultless ↦ faultless
-    | inr failed ↦ cc
-  ]
+  faultless_open kind wire ends exchanges live went = search arith
 
   -- one that is shut stays what it was
   pub went_shut : (kind : PortFault → Type 0) (wire : WireState L) (ends : ℕ) (exchanges : List Exchange) → IsTrueSoFar state kind wire ends exchanges → IsTrueSoFar state kind (record wire { is_open = false }) ends exchanges
-  went_shut kind wire ends exchanges went = elim went [
-    | inl on ↦ let faultless = on.1 in
-        inl (on.0, record { in_step = faultless.in_step; ends_are = faultless.ends_are; asks = faultless.asks; failures = faultless.failures; wants = faultless.wants; last = faultless.last })
-    | inr off ↦ let failed = off.1 in
-        inr (
-          refl,
-          record {
-            before = failed.before;
-            said = failed.said;
-            faultless = failed.faultless;
-            was_open = failed.was_open;
-            same_cut = failed.same_cut;
-            same_worker = failed.same_worker;
-            fault = failed.fault;
-            is_kind = failed.is_kind;
-            in_cut = failed.in_cut;
-            labels = failed.labels;
-            cause = failed.cause;
-            asks = failed.asks;
-            failures = failed.failures;
-            wants = failed.wants;
-          },
-        )
-  ]
+  went_shut kind wire ends exchanges went = search arith
 
   -- ---- one ask of an open wire
 
@@ -257,14 +158,7 @@ module _ {L : Type 0} (state : L → LineState) where
 
     module _ (line line' : ℕ → Type 0) (kept : (w : ℕ) → line w → line' w) (serves : (w : ℕ) → line' w → ServesSoFar w (state new.line)) (honest : line old.client.worker × ((ends : ℕ) × (exchanges : List Exchange) × IsTrueSoFar state kind old ends exchanges)) where
       pub light_answer : (a : AnswerValue) → AnswersOverLine state round shard labels a old.client new → IsHonestAnswer old.client.cut round shard labels a
-      light_answer a asked =
-          let (carries, some) = honest in
-          let (ends, exchanges, went) = some in
-          served_answer a asked ends exchanges went (serves old.client.worker (kept old.client.worker carries))
+      light_answer a asked = search (arith, served_answer)
 
       pub blameless_fault : (fault : PortFault) → EndsUpTo (length labels) (links_at old.client.cut shard) → Cause state fault round shard labels old.client new → IsBlameless fault
-      blameless_fault fault ends cause =
-          let (carries, some) = honest in
-          let (found, exchanges, went) = some in
-          let (said, faultless) = faultless_open kind old found exchanges live went in
-          blameless state round shard labels old.client new said exchanges faultless.in_step below (serves old.client.worker (kept old.client.worker carries)) in_cut is ask fault ends cause
+      blameless_fault fault ends cause = search (arith, faultless_open, blameless)

@@ -1,4 +1,4 @@
-use Rattle.std.proofs.Common.{All, ap, map, option_map, refl, subst, sym, ◌∙◌}
+use Rattle.std.proofs.Common.{All, ap, map, option_map, refl, subst, sym, ◌∙◌, arith}
 use Rattle.std.specs.Prelude.{IsSome}
 use Rattle.std.specs.String.{string_bytes}
 use Rattle.clap.specs.Words.{kind_of}
@@ -14,14 +14,10 @@ returns-in-Err-Usage-clause-wrong g c = λ wrong.
     (status, refl, same)
 
 pub returns-in-Ok-clause-obeys : goal.returns-in-Ok-clause-obeys
-returns-in-Ok-clause-obeys g c = λ lawful.
-    let taken = c.in-Ok.ensures in
-    rw (taken.workers, taken.shards, taken.plain, taken.report, taken.progress, taken.files) at c.obey.ensures.obeys
+returns-in-Ok-clause-obeys g c = search arith
 
 pub returns-in-Err-Memory-clause-obeys : goal.returns-in-Err-Memory-clause-obeys
-returns-in-Err-Memory-clause-obeys g c = λ lawful.
-    let words = map g.S.AsStr.text c.args.words.now in
-    wants_memory_of (files_named words) (asked_by words) _ _ _ _ c.write_fault.ensures
+returns-in-Err-Memory-clause-obeys g c = search (arith, wants_memory_of)
 
 pub returns-in-Ok-clause-leaves_input : goal.returns-in-Ok-clause-leaves_input
 returns-in-Ok-clause-leaves_input g c = λ some all.

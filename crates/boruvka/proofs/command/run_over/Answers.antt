@@ -5,15 +5,7 @@ use Rattle.boruvka.proofs.Endings.{done_status, flushed_at_end, own_end, refused
 use Rattle.boruvka.proofs.command.run_over.Goals as goal
 
 pub returns-clause-ends : goal.returns-clause-ends
-returns-clause-ends g c = record {
-  result = c.run_lines.result;
-  status_is = status_by_report _ _ _ c.without_lines-ended.ensures c.write_end.ensures.status;
-  ran = c.run_lines.ensures.ran;
-  reported = rw c.without_lines-ended.ensures at c.write_end.ensures.reported;
-  judged = record { malformed = c.run_lines.ensures.malformed; lawful = c.run_lines.ensures.lawful };
-  served = c.run_lines.ensures.served;
-  ends_well = c.run_lines.ensures.ends_well;
-}
+returns-clause-ends g c = search (arith, status_by_report)
 
 pub returns-clause-kept : goal.returns-clause-kept
 returns-clause-kept g c =
@@ -27,8 +19,7 @@ returns-clause-kept g c =
     }
 
 pub returns-clause-malformed : goal.returns-clause-malformed
-returns-clause-malformed g c = λ bytes has nothing.
-    refused_status bytes c.run_lines.result _ (status_by_report _ _ _ c.without_lines-ended.ensures c.write_end.ensures.status) (c.run_lines.ensures.malformed bytes has nothing)
+returns-clause-malformed g c = search (arith, refused_status, status_by_report)
 
 pub returns-clause-blameless : goal.returns-clause-blameless
 returns-clause-blameless g c = λ served five.
@@ -38,5 +29,4 @@ returns-clause-blameless g c = λ served five.
     absurd (omega (arith, five, few))
 
 pub returns-clause-done : goal.returns-clause-done
-returns-clause-done g c = λ served has.
-    done_status c.run_lines.result _ _ _ (status_by_report _ _ _ c.without_lines-ended.ensures c.write_end.ensures.status) (c.run_lines.ensures.ends_well served has)
+returns-clause-done g c = search (arith, done_status, status_by_report)

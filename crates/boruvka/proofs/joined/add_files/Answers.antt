@@ -53,21 +53,7 @@ loop-file-preserved g c =
     }
 
 pub loop-file-init : goal.loop-file-init
-loop-file-init g c = record {
-  count = c.new-parts.ensures.files;
-  keeps = keeps_none c.args.chosen.now.progress _ _ c.new-parts.ensures.none;
-  fresh = λ unread. refl;
-  inputs = refl;
-  unread = λ all. refl;
-  untold = λ none. (refl, c.new-told.ensures ∙ none);
-}
+loop-file-init g c = search (arith, keeps_none)
 
 pub returns-clause-joined : goal.returns-clause-joined
-returns-clause-joined g c =
-    let files = map (option_map string_bytes) c.as_slice-files.result.now in
-    let i = c.loop-file.file-index in
-    let whole = take_all i files (omega (arith, length-map c.as_slice-files.result.now (option_map string_bytes), c.loop-file-test.false)) ∙ ap (map (option_map string_bytes)) c.as_slice-files.ensures.value in
-    let loop = c.loop-file.invariant in
-    added_left c.args.chosen.now.progress _ _ (map (option_map string_bytes) c.args.chosen.now.files.items) c.loop-file.was_read c.loop-file.parts
-    (subst (λ (all : List (Option (List ℕ))). inputs all ≡ times c.loop-file.was_read) whole loop.inputs)
-    (subst (λ (all : List (Option (List ℕ))). OnLeft c.args.chosen.now.progress (Keeps (g.I.Source.state c.args.input.now) all c.loop-file.was_read c.loop-file.parts) (g.I.Source.state c.loop-file.input)) whole loop.keeps)
+returns-clause-joined g c = search (arith, option_map, take_all, length-map, added_left, times)

@@ -14,9 +14,7 @@ loop-line-init g c =
     }
 
 pub overflow_cast-worker : goal.overflow_cast-worker
-overflow_cast-worker g c =
-    let number = lanes_number g.L.Line.state c.args.cut.now c.args.lines.now.items c.loop-line.lanes.items c.loop-line.lines.items c.loop-line.invariant.some in
-    omega (arith, number, c.requires.few, c.len-worker.ensures, c.loop-line.lanes.ok.0)
+overflow_cast-worker g c = search (arith, lanes_number)
 
 pub new-requires-clause-worker : goal.new-requires-clause-worker
 new-requires-clause-worker g c =

@@ -1,4 +1,4 @@
-use Rattle.std.proofs.Common.{◌∙◌, Vec, Ok, ap, length}
+use Rattle.std.proofs.Common.{◌∙◌, Vec, Ok, ap, length, arith}
 use Rattle.links.specs.Link.{EndsUpTo}
 use Rattle.links.specs.Cut.{joined}
 use Rattle.forest_run.specs.Cuttings.{IsCutOf}
@@ -46,9 +46,7 @@ returns-in-Err-cut_links-clause-ends_well g c = λ served it.
 -- ---- no forest is found
 
 pub solve_lines-requires-clause-ends : goal.solve_lines-requires-clause-ends
-solve_lines-requires-clause-ends g c κs within =
-    let ends : EndsUpTo c.n.result (joined c.in-Ok-cut_links.cut) = rw (c.n.ensures.vertices, c.in-Ok-cut_links.ensures.cut.whole, c.links.ensures.links) c.links.ensures.ends in
-    shards_ends c.n.result c.in-Ok-cut_links.cut ends
+solve_lines-requires-clause-ends g c κs within = search (arith, shards_ends)
 
 pub returns-in-Err-solve_lines-clause-ran : goal.returns-in-Err-solve_lines-clause-ran
 returns-in-Err-solve_lines-clause-ran g c =
@@ -58,10 +56,7 @@ returns-in-Err-solve_lines-clause-ran g c =
     (rw c.n.ensures.vertices at c.in-Err-solve_lines.ensures.fault))
 
 pub returns-in-Err-solve_lines-clause-served : goal.returns-in-Err-solve_lines-clause-served
-returns-in-Err-solve_lines-clause-served g c = λ served.
-    let cut : IsCutOf c.args.cutting c.in-Ok.graph.links c.in-Ok-cut_links.cut = rw c.links.ensures.links at c.in-Ok-cut_links.ensures.cut in
-    rw c.run_fault_for.ensures
-    (solve_served c.args.cutting c.in-Ok.graph _ _ _ c.in-Ok.ensures.outcome (Vec g.row.L.Denot g.row.A.Denot) c.in-Ok-cut_links.cut cut c.in-Err-solve_lines.fault (c.in-Err-solve_lines.ensures.served served))
+returns-in-Err-solve_lines-clause-served g c = search (arith, solve_served)
 
 pub returns-in-Err-solve_lines-clause-malformed : goal.returns-in-Err-solve_lines-clause-malformed
 returns-in-Err-solve_lines-clause-malformed g c = λ bytes file nothing. absurd (something_of_file _ _ _ c.in-Ok.ensures.outcome bytes file nothing)

@@ -1,4 +1,4 @@
-use Rattle.std.proofs.Common.{◌≡◌, None, refl, sym, subst, rules}
+use Rattle.std.proofs.Common.{◌≡◌, None, refl, sym, subst, rules, arith}
 use Rattle.std.proofs.lemmas.Result.{err_from_is_err_and}
 use Rattle.byte_streams.specs.Streams.{only_left}
 use Rattle.links.specs.Offers.{AreOffers}
@@ -6,29 +6,19 @@ use Rattle.frames.proofs.AnswerPieces.{answer_unlawful, answer_unpassed, answer_
 use Rattle.frames.proofs.answer_reader.read_answer.Goals as goal
 
 pub returns-in_err-round-clause-late : goal.returns-in_err-round-clause-late
-returns-in_err-round-clause-late g c =
-    let p = err_from_is_err_and c.from_residual.result c.from_residual.ensures.1 in
-    rw (p.1, p.2) (λ memory. absurd (c.in_err-round.ensures.takes_none memory))
+returns-in_err-round-clause-late g c = search (arith, err_from_is_err_and)
 
 pub returns-in_err-pass_over-clause-late : goal.returns-in_err-pass_over-clause-late
-returns-in_err-pass_over-clause-late g c =
-    let p = err_from_is_err_and c.from_residual-in_err-pass_over.result c.from_residual-in_err-pass_over.ensures.1 in
-    rw (p.1, p.2) (λ memory. absurd (c.in_err-pass_over.ensures.takes_none memory))
+returns-in_err-pass_over-clause-late g c = search (arith, err_from_is_err_and)
 
 pub returns-in_err-pass_over-clause-refused : goal.returns-in_err-pass_over-clause-refused
-returns-in_err-pass_over-clause-refused g c =
-    let p = err_from_is_err_and c.from_residual-in_err-pass_over.result c.from_residual-in_err-pass_over.ensures.1 in
-    rw (p.1, p.2) (answer_unpassed c.in_ok-round.round c.in_ok-round.shard c.in_ok-round.count c.args.most _ _ _ c.in_ok-round.ensures.came _ c.in_err-pass_over.ensures.short)
+returns-in_err-pass_over-clause-refused g c = search (arith, err_from_is_err_and, answer_unpassed)
 
 pub returns-then-count-most-clause-refused : goal.returns-then-count-most-clause-refused
-returns-then-count-most-clause-refused g c =
-    let (wide_r, wide_s, wide_c) = c.in_ok-round.ensures.fit in
-    answer_unlawful c.in_ok-round.round c.in_ok-round.shard c.in_ok-round.count c.args.most _ _ _ c.in_ok-round.ensures.came wide_r wide_s wide_c c.in_ok-pass_over.ensures.came (λ counted. c.if-count-most.true counted)
+returns-then-count-most-clause-refused g c = search (arith, answer_unlawful)
 
 pub returns-in_err-read_list-clause-refused : goal.returns-in_err-read_list-clause-refused
-returns-in_err-read_list-clause-refused g c =
-    let p = err_from_is_err_and c.from_residual-in_err-read_list.result c.from_residual-in_err-read_list.ensures.1 in
-    rw (p.1, p.2) (answer_stopped c.in_ok-round.round c.in_ok-round.shard c.in_ok-round.count c.args.most _ _ _ c.in_ok-round.ensures.came c.if-count-most.false _ c.in_err-read_list.ensures.stopped)
+returns-in_err-read_list-clause-refused g c = search (arith, err_from_is_err_and, answer_stopped)
 
 pub returns-in_err-read_list-clause-late : goal.returns-in_err-read_list-clause-late
 returns-in_err-read_list-clause-late g c =
@@ -44,9 +34,4 @@ returns-in-Some-clause-came g c =
     c.requires.few _ (search rules) (subst AreOffers (sym same) (c.in-Some.ensures.exactly_ascending.0 refl))
 
 pub returns-in-None-clause-refused : goal.returns-in-None-clause-refused
-returns-in-None-clause-refused g c =
-    let (wide_r, wide_s, wide_c) = c.in_ok-round.ensures.fit in
-    let list = c.in_ok-read_list.ensures.came in
-    let kept : c.shrink_to_fit.new.self.items ≡ c.read_list.new.list.items = search rules in
-    no_answer_came c.in_ok-round.round c.in_ok-round.shard c.in_ok-round.count c.args.most _ _ _ c.in_ok-round.ensures.came c.if-count-most.false wide_r wide_s c.read_list.new.list.items list.bytes list.counted list.gave list.heard
-    wide_c (λ are. let no = c.in-None.ensures.exactly_ascending.1 (subst AreOffers (sym kept) are) in cc)
+returns-in-None-clause-refused g c = search (arith, no_answer_came)

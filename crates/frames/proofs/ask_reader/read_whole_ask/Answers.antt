@@ -10,30 +10,19 @@ use Rattle.frames.proofs.ask_reader.read_whole_ask.Goals.{then-shard-ge-MAX_SHAR
 use Rattle.frames.proofs.ask_reader.read_whole_ask.Goals as goal
 
 pub returns-in_err-round-clause-late : goal.returns-in_err-round-clause-late
-returns-in_err-round-clause-late g c =
-    let p = err_from_is_err_and c.from_residual.result c.from_residual.ensures.1 in
-    rw (p.1, p.2) (λ memory. absurd (c.in_err-round.ensures.takes_none memory))
+returns-in_err-round-clause-late g c = search (arith, err_from_is_err_and)
 
 pub returns-in_err-pass_over-clause-late : goal.returns-in_err-pass_over-clause-late
-returns-in_err-pass_over-clause-late g c =
-    let p = err_from_is_err_and c.from_residual-in_err-pass_over.result c.from_residual-in_err-pass_over.ensures.1 in
-    rw (p.1, p.2) (λ memory. absurd (c.in_err-pass_over.ensures.takes_none memory))
+returns-in_err-pass_over-clause-late g c = search (arith, err_from_is_err_and)
 
 pub returns-in_err-pass_over-clause-refused : goal.returns-in_err-pass_over-clause-refused
-returns-in_err-pass_over-clause-refused g c =
-    let p = err_from_is_err_and c.from_residual-in_err-pass_over.result c.from_residual-in_err-pass_over.ensures.1 in
-    rw (p.1, p.2) (ask_unpassed c.in_ok-round.round c.in_ok-round.shard c.in_ok-round.count c.args.most _ _ _ c.in_ok-round.ensures.came _ c.in_err-pass_over.ensures.short)
+returns-in_err-pass_over-clause-refused g c = search (arith, err_from_is_err_and, ask_unpassed)
 
 pub returns-then-shard-ge-MAX_SHARDS-clause-refused : goal.returns-then-shard-ge-MAX_SHARDS-clause-refused
-returns-then-shard-ge-MAX_SHARDS-clause-refused g c =
-    let (wide_r, wide_s, wide_c) = c.in_ok-round.ensures.fit in
-    ask_unlawful c.in_ok-round.round c.in_ok-round.shard c.in_ok-round.count c.args.most _ _ _ c.in_ok-round.ensures.came wide_r wide_s wide_c c.in_ok-pass_over.ensures.came
-    (λ low counted. elim c.then-shard-ge-MAX_SHARDS.branch [ then-shard-ge-MAX_SHARDS-via-then-shard-ge-MAX_SHARDS w ↦ omega arith | then-shard-ge-MAX_SHARDS-via-else-shard-ge-MAX_SHARDS+then-count-most w ↦ w.if-count-most.true counted ])
+returns-then-shard-ge-MAX_SHARDS-clause-refused g c = search (arith, ask_unlawful, then-shard-ge-MAX_SHARDS-via-then-shard-ge-MAX_SHARDS, then-shard-ge-MAX_SHARDS-via-else-shard-ge-MAX_SHARDS+then-count-most)
 
 pub returns-in_err-read_list-clause-refused : goal.returns-in_err-read_list-clause-refused
-returns-in_err-read_list-clause-refused g c =
-    let p = err_from_is_err_and c.from_residual-in_err-read_list.result c.from_residual-in_err-read_list.ensures.1 in
-    rw (p.1, p.2) (ask_stopped c.in_ok-round.round c.in_ok-round.shard c.in_ok-round.count c.args.most _ _ _ c.in_ok-round.ensures.came c.if-shard-ge-MAX_SHARDS.false c.if-count-most.false _ c.in_err-read_list.ensures.stopped)
+returns-in_err-read_list-clause-refused g c = search (arith, err_from_is_err_and, ask_stopped)
 
 pub returns-in_err-read_list-clause-late : goal.returns-in_err-read_list-clause-late
 returns-in_err-read_list-clause-late g c =
@@ -50,11 +39,4 @@ returns-in-Some-clause-came g c =
     labels count (subst (λ (t : List ℕ). Gave 0 0 t (g.S.Source.state c.read_three.new.source) (g.S.Source.state c.read_list.new.source)) (sym spelled) list.gave) (rw c.in-Some.ensures.same_labels (c.in-Some.ensures.exactly_labels.0 refl))
 
 pub returns-in-None-clause-refused : goal.returns-in-None-clause-refused
-returns-in-None-clause-refused g c =
-    let (wide_r, wide_s, wide_c) = c.in_ok-round.ensures.fit in
-    let list = c.in_ok-read_list.ensures.came in
-    let numbers = c.read_list.new.list.items in
-    let kept : c.shrink_to_fit.new.self.items ≡ numbers = search rules in
-    let count : length numbers ≡ c.args.most = omega (arith, ap length list.heard.0, list.counted, bytes_of numbers) in
-    no_ask_read c.in_ok-round.round c.in_ok-round.shard c.in_ok-round.count c.args.most _ _ _ c.in_ok-round.ensures.came c.if-shard-ge-MAX_SHARDS.false c.if-count-most.false wide_r
-    numbers count (subst (λ (t : List ℕ). Gave 0 0 t (g.S.Source.state c.read_three.new.source) (g.S.Source.state c.read_list.new.source)) (sym list.heard.0) list.gave) wide_s wide_c BadField list.heard.1 (refl, λ are. let no = c.in-None.ensures.exactly_labels.1 (subst AreLabels (sym kept) are) in cc)
+returns-in-None-clause-refused g c = search (arith, bytes_of, no_ask_read)

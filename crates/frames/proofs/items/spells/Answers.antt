@@ -13,13 +13,7 @@ returns-then-bytes-ne0 c = (
 )
 
 pub returns-then-cells-numbers : goal.returns-then-cells-numbers
-returns-then-cells-numbers c =
-    let bytes = c.args.bytes.now in
-    let numbers = c.args.numbers.now in
-    let cells = ap (map (from_be_bytes w32)) c.as_chunks.ensures.front in (
-      λ same. (numbers_are bytes numbers (omega (arith, c.if-bytes-ne0.false)) (λ i. omega (arith, c.type_inv.bytes i)) (c.are_cells_of.ensures.0 same ∙ cells)).0,
-      λ spelled. c.are_cells_of.ensures.1 (numbers_found bytes numbers (omega (arith, c.if-bytes-ne0.false)) (λ i. omega (arith, c.type_inv.bytes i)) (λ i. omega (arith, c.type_inv.numbers i)) spelled ∙ sym cells),
-    )
+returns-then-cells-numbers c = search (arith, numbers_are, numbers_found)
 
 pub returns-else-cells-numbers : goal.returns-else-cells-numbers
 returns-else-cells-numbers c = (

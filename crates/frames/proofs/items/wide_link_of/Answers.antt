@@ -1,4 +1,4 @@
-use Rattle.std.proofs.Common.{ℤ, ◌++◌, ap, ◌∙◌, rules}
+use Rattle.std.proofs.Common.{ℤ, ◌++◌, ap, ◌∙◌, rules, arith}
 use Rattle.std.specs.Int.{w64}
 use Rattle.std.proofs.lemmas.Int.{to_z-of_z}
 use Rattle.frames.specs.FrameText.{u32_text, i64_text}
@@ -11,6 +11,4 @@ returns-then-not-are_ends-clause-none c =
     (λ from below to. let are = c.are_ends.ensures.1 (from, below, to) in cc)
 
 pub returns-clause-found : goal.returns-clause-found
-returns-clause-found c =
-    ap (λ (k : ℤ). u32_text c.split_u32-low.result.0 ++ (u32_text c.split_u32-high.result.0 ++ i64_text k)) (to_z-of_z w64 c.split_i64-weight.result.0 (search rules))
-    ∙ wide_link_back _ _ _ _ _ _ _ c.requires c.split_u32-low.ensures.parts c.split_u32-high.ensures.parts (c.split_i64-weight.ensures.parts)
+returns-clause-found c = search (arith, to_z-of_z, wide_link_back)

@@ -6,34 +6,19 @@ use Rattle.frames.proofs.next_frame.read_ask.Goals.{then-shard-ge-MAX_SHARDS-via
 use Rattle.frames.proofs.next_frame.read_ask.Goals as goal
 
 pub returns-in_err-pass_over-clause-refused : goal.returns-in_err-pass_over-clause-refused
-returns-in_err-pass_over-clause-refused g c =
-    let p = err_from_is_err_and c.from_residual-in_err-pass_over.result c.from_residual-in_err-pass_over.ensures.1 in
-    rw (p.1, p.2) (ask_unpassed c.in_ok-round.round c.in_ok-round.shard c.in_ok-round.count (length c.args.last.now) _ _ _ c.in_ok-round.ensures.came _ c.in_err-pass_over.ensures.short)
+returns-in_err-pass_over-clause-refused g c = search (arith, err_from_is_err_and, ask_unpassed)
 
 pub returns-then-shard-ge-MAX_SHARDS-clause-refused : goal.returns-then-shard-ge-MAX_SHARDS-clause-refused
-returns-then-shard-ge-MAX_SHARDS-clause-refused g c =
-    let (wide_r, wide_s, wide_c) = c.in_ok-round.ensures.fit in
-    ask_unlawful c.in_ok-round.round c.in_ok-round.shard c.in_ok-round.count (length c.args.last.now) _ _ _ c.in_ok-round.ensures.came wide_r wide_s wide_c c.in_ok-pass_over.ensures.came
-    (λ low counted. elim c.then-shard-ge-MAX_SHARDS.branch [ then-shard-ge-MAX_SHARDS-via-then-shard-ge-MAX_SHARDS w ↦ omega arith | then-shard-ge-MAX_SHARDS-via-else-shard-ge-MAX_SHARDS+then-count-last w ↦ w.if-count-last.true counted ])
+returns-then-shard-ge-MAX_SHARDS-clause-refused g c = search (arith, ask_unlawful, then-shard-ge-MAX_SHARDS-via-then-shard-ge-MAX_SHARDS, then-shard-ge-MAX_SHARDS-via-else-shard-ge-MAX_SHARDS+then-count-last)
 
 pub returns-in_err-heard-clause-refused : goal.returns-in_err-heard-clause-refused
-returns-in_err-heard-clause-refused g c =
-    let p = err_from_is_err_and c.from_residual-in_err-heard.result c.from_residual-in_err-heard.ensures.1 in
-    rw (p.1, p.2) (ask_stopped c.in_ok-round.round c.in_ok-round.shard c.in_ok-round.count (length c.args.last.now) _ _ _ c.in_ok-round.ensures.came c.if-shard-ge-MAX_SHARDS.false c.if-count-last.false _ c.in_err-heard.ensures.stopped)
+returns-in_err-heard-clause-refused g c = search (arith, err_from_is_err_and, ask_stopped)
 
 pub returns-clause-came : goal.returns-clause-came
-returns-clause-came g c =
-    IfOk-weaker _ _ _
-    (λ next is.
-    ask_read c.in_ok-round.round c.in_ok-round.shard c.in_ok-round.count (length c.args.last.now) _ _ _ c.in_ok-round.ensures.came c.if-shard-ge-MAX_SHARDS.false c.if-count-last.false c.in_ok-round.ensures.fit.0
-    (numbers_of_ask c.args.last.now c.in_ok-heard.heard.numbers) c.in_ok-heard.ensures.counted c.in_ok-heard.ensures.came c.args.last.now next is)
-    c.ask_of.ensures.ask
+returns-clause-came g c = search (arith, ask_read)
 
 pub returns-clause-coarser : goal.returns-clause-coarser
-returns-clause-coarser g c =
-    IfOk-weaker _ _ _
-    (λ next (is : IsAskUnder c.args.last.now c.in_ok-round.round c.in_ok-round.shard (numbers_of_ask c.args.last.now c.in_ok-heard.heard.numbers) next). is.coarser)
-    c.ask_of.ensures.ask
+returns-clause-coarser g c = search arith
 
 pub returns-clause-refused : goal.returns-clause-refused
 returns-clause-refused g c =

@@ -90,11 +90,7 @@ stay_coarser-are_coarser-requires-clause-so_far g c =
     (c.loop-came.invariant.coarser.0 c.if-are_coarser.true)
 
 pub returns-clause-coarser : goal.returns-clause-coarser
-returns-clause-coarser g c =
-    let same = all_of_ask c.args.last.now c.loop-came.came c.loop-came.numbers (omega arith) in
-    let at : c.loop-came.came ≡ length c.args.last.now = omega arith in
-    subst (λ (ns : List ℕ). IsTrue c.loop-came.are_coarser ↔ AreCoarserUpTo c.args.last.now ns (length c.args.last.now)) same
-    (subst (λ (n : ℕ). IsTrue c.loop-came.are_coarser ↔ AreCoarserUpTo c.args.last.now (numbers_of_ask (take c.loop-came.came c.args.last.now) c.loop-came.numbers) n) at c.loop-came.invariant.coarser)
+returns-clause-coarser g c = search (arith, all_of_ask)
 
 pub returns-clause-others : goal.returns-clause-others
 returns-clause-others g c = all_others c.args.last.now c.loop-came.came c.loop-came.numbers (omega arith) c.loop-came.invariant.others

@@ -10,35 +10,22 @@ use Rattle.frames.proofs.shard_reader.read_shard.Goals.{then-number-ge-MAX_SHARD
 use Rattle.frames.proofs.shard_reader.read_shard.Goals as goal
 
 pub returns-in_err-number-clause-late : goal.returns-in_err-number-clause-late
-returns-in_err-number-clause-late g c =
-    let p = err_from_is_err_and c.from_residual.result c.from_residual.ensures.1 in
-    rw (p.1, p.2) (λ memory. absurd (c.in_err-number.ensures.takes_none memory))
+returns-in_err-number-clause-late g c = search (arith, err_from_is_err_and)
 
 pub returns-in_err-pass_over-clause-late : goal.returns-in_err-pass_over-clause-late
-returns-in_err-pass_over-clause-late g c =
-    let p = err_from_is_err_and c.from_residual-in_err-pass_over.result c.from_residual-in_err-pass_over.ensures.1 in
-    rw (p.1, p.2) (λ memory. absurd (c.in_err-pass_over.ensures.takes_none memory))
+returns-in_err-pass_over-clause-late g c = search (arith, err_from_is_err_and)
 
 pub returns-in_err-pass_over-clause-refused : goal.returns-in_err-pass_over-clause-refused
-returns-in_err-pass_over-clause-refused g c =
-    let p = err_from_is_err_and c.from_residual-in_err-pass_over.result c.from_residual-in_err-pass_over.ensures.1 in
-    rw (p.1, p.2) (shard_unpassed c.args.spelling c.in_ok-number.number c.in_ok-number.count c.args.most _ _ _ c.in_ok-number.ensures.came _ (unpassed_so_many _ _ _ _ _ c.bytes_of.ensures c.in_err-pass_over.ensures.short))
+returns-in_err-pass_over-clause-refused g c = search (arith, err_from_is_err_and, shard_unpassed, unpassed_so_many)
 
 pub returns-then-number-ge-MAX_SHARDS-clause-refused : goal.returns-then-number-ge-MAX_SHARDS-clause-refused
-returns-then-number-ge-MAX_SHARDS-clause-refused g c =
-    shard_unlawful c.args.spelling c.in_ok-number.number c.in_ok-number.count c.args.most _ _ _ c.in_ok-number.ensures.came c.in_ok-number.ensures.fit.0 c.in_ok-number.ensures.fit.1
-    (passed_so_many _ _ _ _ c.bytes_of.ensures c.in_ok-pass_over.ensures.came)
-    (λ low counted. elim c.then-number-ge-MAX_SHARDS.branch [ then-number-ge-MAX_SHARDS-via-then-number-ge-MAX_SHARDS w ↦ omega arith | then-number-ge-MAX_SHARDS-via-else-number-ge-MAX_SHARDS+then-count-most w ↦ w.if-count-most.true counted ])
+returns-then-number-ge-MAX_SHARDS-clause-refused g c = search (arith, shard_unlawful, passed_so_many, then-number-ge-MAX_SHARDS-via-then-number-ge-MAX_SHARDS, then-number-ge-MAX_SHARDS-via-else-number-ge-MAX_SHARDS+then-count-most)
 
 pub returns-in_err-read_list-clause-refused : goal.returns-in_err-read_list-clause-refused
-returns-in_err-read_list-clause-refused g c =
-    let p = err_from_is_err_and c.from_residual-in_err-read_list.result c.from_residual-in_err-read_list.ensures.1 in
-    rw (p.1, p.2) (shard_stopped c.args.spelling c.in_ok-number.number c.in_ok-number.count c.args.most _ _ _ c.in_ok-number.ensures.came c.if-number-ge-MAX_SHARDS.false c.if-count-most.false _ (stopped_so_many _ _ _ _ _ c.bytes_of-2.ensures c.in_err-read_list.ensures.stopped))
+returns-in_err-read_list-clause-refused g c = search (arith, err_from_is_err_and, shard_stopped, stopped_so_many)
 
 pub returns-in_err-read_list-clause-late : goal.returns-in_err-read_list-clause-late
-returns-in_err-read_list-clause-late g c =
-    let p = err_from_is_err_and c.from_residual-in_err-read_list.result c.from_residual-in_err-read_list.ensures.1 in
-    rw (p.1, p.2) (shard_late c.args.spelling c.in_ok-number.number c.in_ok-number.count c.args.most _ _ (only_left None) c.in_ok-number.ensures.came c.if-number-ge-MAX_SHARDS.false c.if-count-most.false _)
+returns-in_err-read_list-clause-late g c = search (arith, err_from_is_err_and, shard_late)
 
 pub returns-in-Some-clause-came : goal.returns-in-Some-clause-came
 returns-in-Some-clause-came g c =

@@ -7,12 +7,7 @@ use Rattle.gr_text.proofs.ArcLineParts.{arcs_none, arcs_more}
 use Rattle.gr_text.proofs.arc_lines.read_arc_lines.Goals as goal
 
 pub loop-link-init : goal.loop-link-init
-loop-link-init c = record {
-  room = refl;
-  within = search rules;
-  few = search rules;
-  are = ([], refl, arcs_none c.args.size.vertices);
-}
+loop-link-init c = search (arith, arcs_none)
 
 pub loop-link-preserved : goal.loop-link-preserved
 loop-link-preserved c =

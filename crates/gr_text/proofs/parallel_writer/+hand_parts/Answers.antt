@@ -17,7 +17,4 @@ returns g t c =
     rw is (out_then_out _ _ _ _ _ _ _ _ _ (rw c.split_at.ensures.front at c.in_ok-total.ensures.whole) (rw c.split_at-2.ensures.back at c.hand_parts.ensures))
 
 pub hand_parts-requires : goal.hand_parts-requires
-hand_parts-requires g t c = λ κs lives.
-    let is : c.args.bytes.now ≡ c.in-Some.field-0-0.now ∷ c.in-Some.of_others.now = search rules in
-    let fit : AllByRecursion (λ part. part ≤ PART_ROOM) c.in-Some.of_others.now = (subst (AllByRecursion (λ part. part ≤ PART_ROOM)) is c.requires.fit).1 in
-    (omega (arith, ap length is), (search rules, (c.in_ok-total.ensures.again, (omega (arith, c.split_at-2.ensures.back_len, c.requires.room, ap length is), fit))))
+hand_parts-requires g t c = search arith

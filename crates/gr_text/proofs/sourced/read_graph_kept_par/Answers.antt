@@ -1,4 +1,4 @@
-use Rattle.std.proofs.Common.{[], subst, cond, Err, ◌∙◌}
+use Rattle.std.proofs.Common.{[], subst, cond, Err, ◌∙◌, arith}
 use Rattle.limits.specs.declared.TheConstants.{MAX_BYTES}
 use Rattle.gr_text.specs.Kept.{HasFollowed, IsKeptReadOf}
 use Rattle.gr_text.proofs.Sourcing.{nothing_fed, nothing_kept, read_to_end}
@@ -11,15 +11,7 @@ pub read_pieces-requires-clause-kept : goal.read_pieces-requires-clause-kept
 read_pieces-requires-clause-kept g c = ([], nothing_kept _ _ _ c.new-reader.result c.requires.none c.requires.nothing c.new-reader.ensures.nothing)
 
 pub returns-then-threads-lt2 : goal.returns-then-threads-lt2
-returns-then-threads-lt2 g c =
-    let source = g.S.Source in
-    let keep = g.K.Keep in
-    let before = source.state c.args.source.now in
-    let reader = c.new-reader in
-    record {
-      outcome = subst (λ k. IsKeptReadOf keep.drops k (keep.dropped c.read_rest.new.keeper) c.read_rest.result before (source.state c.read_rest.new.source)) reader.ensures.limit
-          (c.read_rest.ensures before (nothing_fed _ _ _ reader.result before c.requires.none c.requires.nothing reader.ensures.nothing));
-    }
+returns-then-threads-lt2 g c = search (arith, nothing_fed)
 
 pub returns-in-Ok-true : goal.returns-in-Ok-true
 returns-in-Ok-true g c =

@@ -1,11 +1,9 @@
-use Rattle.std.proofs.Common.{rules, ◌∙◌}
+use Rattle.std.proofs.Common.{rules, ◌∙◌, arith}
 use Rattle.gr_text.proofs.Sourcing.{fed_kept, piece_fed, links_kept, ends_behind, breaks_off, read_up_to, memory_lacks}
 use Rattle.gr_text.proofs.sourced.read_pieces.Goals as goal
 
 pub keep-requires-clause-kept : goal.keep-requires-clause-kept
-keep-requires-clause-kept g c =
-    let (text, kept) = c.loop-read.invariant.kept in
-    (_, fed_kept _ _ text _ c.in_default.ensures.fed kept)
+keep-requires-clause-kept g c = search (arith, fed_kept)
 
 pub loop-read-preserved : goal.loop-read-preserved
 loop-read-preserved g c =
@@ -31,8 +29,7 @@ returns-in-Err-clause-followed g c = λ before first.
     (λ swap text read. c.line.ensures.line_but swap text read so_far.clean) c.in-Err.ensures.gave
 
 pub returns-in-Ok-eq0-clause-followed : goal.returns-in-Ok-eq0-clause-followed
-returns-in-Ok-eq0-clause-followed g c = λ before first.
-    ends_behind _ before _ _ (c.loop-read.invariant.followed before first) (c.in-Ok-eq0.ensures.gave.1 (search rules))
+returns-in-Ok-eq0-clause-followed g c = search (arith, ends_behind)
 
 pub returns-in-Err-feed-clause-followed : goal.returns-in-Err-feed-clause-followed
 returns-in-Err-feed-clause-followed g c = λ before first.

@@ -23,10 +23,7 @@ returns-in-Err-clause-judged c = λ lines bytes counts (arc, says, kept).
     ])
 
 pub returns-in-Ok-clause-judged : goal.returns-in-Ok-clause-judged
-returns-in-Ok-clause-judged c = λ lines bytes counts (arc, says, kept).
-    let judged = c.in-Ok.ensures.judged arc kept in
-    subst (λ (s : Option ProblemSize). Judges (verdict.Adds c.in-Ok.link) s c.args.count lines bytes) (sym c.in-Some.is)
-    (arc, says, judged.0, c.if-count-size.false, judged.1)
+returns-in-Ok-clause-judged c = search arith
 
 pub returns-in-Ok-clause-fits : goal.returns-in-Ok-clause-fits
 returns-in-Ok-clause-fits c = (c.in-Some.size, c.in-Some.is, c.in-Ok.ensures.fits, omega arith)

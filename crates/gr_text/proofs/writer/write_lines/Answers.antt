@@ -1,19 +1,13 @@
-use Rattle.std.proofs.Common.{rules}
+use Rattle.std.proofs.Common.{rules, arith}
 use Rattle.std.proofs.lemmas.Result.{err_from_is_err_and}
 use Rattle.gr_text.proofs.ForestLines.{header_out, header_prefix, lines_more, lines_prefix, lines_out, lines_flushed, lines_unflushed, stopped}
 use Rattle.gr_text.proofs.writer.write_lines.Goals as goal
 
 pub returns-in_err-written : goal.returns-in_err-written
-returns-in_err-written g c =
-    let p = err_from_is_err_and c.from_residual.result c.from_residual.ensures.1 in
-    rw (p.1, p.2) (stopped _ _ _ _ _ _ (header_prefix _ _ _ _ _ _ c.links-left.ensures.links (rw (c.as_slice.ensures, c.header.ensures.line) at c.in_err-written.ensures.part)))
+returns-in_err-written g c = search (arith, err_from_is_err_and, stopped, header_prefix)
 
 pub loop-left-init : goal.loop-left-init
-loop-left-init g c = record {
-  ready = c.requires.ready;
-  can = c.in_ok-written.ensures.again;
-  out = header_out _ _ _ _ _ _ c.links-left.ensures.links (rw (c.as_slice.ensures, c.header.ensures.line) at c.in_ok-written.ensures.whole);
-}
+loop-left-init g c = search (arith, header_out)
 
 pub returns-in_err-total : goal.returns-in_err-total
 returns-in_err-total g c =
@@ -21,11 +15,7 @@ returns-in_err-total g c =
     rw (p.1, p.2) (stopped _ _ _ _ _ _ (lines_prefix _ _ _ _ _ _ _ c.loop-left.invariant.out c.in_err-total.ensures.put.part))
 
 pub loop-left-preserved : goal.loop-left-preserved
-loop-left-preserved g c = record {
-  ready = c.put_lines.ensures.ready;
-  can = c.in_ok-total.ensures.put.again;
-  out = rw c.split_at.ensures.back (lines_more _ _ _ _ _ _ _ _ c.loop-left.invariant.out c.in_ok-total.ensures.put.whole);
-}
+loop-left-preserved g c = search (arith, lines_more)
 
 pub returns-in-Ok : goal.returns-in-Ok
 returns-in-Ok g c = record {

@@ -9,10 +9,7 @@ differ : (a b : ℕ) → IsTrue (not (eqb a b)) → a ≢ b
 differ a b is same = let no = subst (λ t. IsTrue (not t)) (eq-eqb a b same) is in cc
 
 one : (k : ℕ) → k < 2 → false ≡ (k == 0) → k ≡ 1
-one k lt some = elim (cases_eq k 0) [
-  | inl none ↦ absurd (let no : false ≡ true = some ∙ eq-eqb k 0 none in cc)
-  | inr other ↦ omega (arith, lt, other)
-]
+one k lt some = search (arith, cases_eq, eq-eqb)
 
 equal : (a b : ℕ) → not (eqb a b) ≡ false → a ≡ b
 equal a b is = elim (cases_eq a b) [ inl same ↦ same | inr other ↦ let e = ne_eqb a b other in absurd (let no : true ≡ false = sym (ap not e) ∙ is in cc) ]

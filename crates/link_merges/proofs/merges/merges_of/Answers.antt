@@ -48,10 +48,7 @@ merge_of-requires-clause-second g c =
     (below c.args.n c.args.links.now c.requires.ends c.loop-i.i c.loop-i.rows.items c.loop-i-test.true c.loop-i.invariant).1
 
 pub merge_of-requires-clause-few : goal.merge_of-requires-clause-few
-merge_of-requires-clause-few g c =
-    let least = few c.args.n c.args.links.now c.requires.ends c.loop-i.i c.loop-i.rows.items c.loop-i-test.true c.loop-i.invariant in
-    let most = c.requires.few_vertices in
-    subst (λ (rs : List Merge). (merge_of c.args.n rs c.loop-i.i).size ≤ MAX_VERTICES + 1) (sym c.as_slice.ensures.value) (omega (arith, least, most))
+merge_of-requires-clause-few g c = search (arith, few)
 
 pub loop-i-preserved : goal.loop-i-preserved
 loop-i-preserved g c =

@@ -1,4 +1,4 @@
-use Rattle.std.proofs.Common.{rules, ap, ℕ, List, Some, refl}
+use Rattle.std.proofs.Common.{rules, ap, ℕ, List, Some, refl, arith}
 use Rattle.byte_streams.specs.Streams.{only_held}
 use Rattle.plain_run.specs.PlainRun.{IsPlainReport}
 use Rattle.std.proofs.lemmas.Result.{err_from_is_err_and}
@@ -11,14 +11,10 @@ returns-in_err-run_plain-clause-fault g c =
     rw (p.1, p.2) (fault_in_memory c.in_err-run_plain.field-0.0 c.args.bytes.now _ _ _ _ refl (0, refl, refl) c.in_err-run_plain.ensures.ran)
 
 pub returns-in_err-run_plain-clause-malformed : goal.returns-in_err-run_plain-clause-malformed
-returns-in_err-run_plain-clause-malformed g c =
-    let p = err_from_is_err_and c.from_residual.result c.from_residual.ensures.1 in
-    λ within. rw (p.1, p.2) (c.in_err-run_plain.ensures.malformed c.args.bytes.now (record { known = refl; no_failure = (0, refl, refl); within = within }))
+returns-in_err-run_plain-clause-malformed g c = search (arith, err_from_is_err_and)
 
 pub returns-in_err-run_plain-clause-lawful : goal.returns-in_err-run_plain-clause-lawful
-returns-in_err-run_plain-clause-lawful g c =
-    let p = err_from_is_err_and c.from_residual.result c.from_residual.ensures.1 in
-    λ means. rw (p.1, p.2) (c.in_err-run_plain.ensures.lawful c.args.bytes.now (record { known = refl; no_failure = (0, refl, refl); within = means.1.within }) means)
+returns-in_err-run_plain-clause-lawful g c = search (arith, err_from_is_err_and)
 
 pub returns-clause-text : goal.returns-clause-text
 returns-clause-text g c =
@@ -26,5 +22,4 @@ returns-clause-text g c =
     (only_held (Some c.run_plain.new.sink.items)) refl (ap (λ (l : List ℕ). Some l) (search rules)) refl c.in_ok-run_plain.ensures.ran
 
 pub returns-clause-malformed : goal.returns-clause-malformed
-returns-clause-malformed g c =
-    λ within. c.in_ok-run_plain.ensures.malformed c.args.bytes.now (record { known = refl; no_failure = (0, refl, refl); within = within })
+returns-clause-malformed g c = search arith

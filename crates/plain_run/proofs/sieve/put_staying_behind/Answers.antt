@@ -8,18 +8,7 @@ use Rattle.plain_run.proofs.Sieving.{counted_by, written_behind}
 use Rattle.plain_run.proofs.sieve.put_staying_behind.Goals as goal
 
 pub loop-i-init : goal.loop-i-init
-loop-i-init c =
-    let links = c.args.links.now in
-    let from = c.args.from in
-    let none : from - from ≡ 0 = omega arith in
-    record {
-      len = refl;
-      ahead = λ k d lt. refl;
-      from = omega arith;
-      to = c.requires.in_range;
-      few = omega arith;
-      kept = sym (ap (λ n. take from links ++ filter (stays c.args.labels.now c.args.heaviest.now) (take n (drop from links))) none ∙ append-nil (take from links));
-    }
+loop-i-init c = search (arith, append-nil)
 
 pub loop-i-preserved : goal.loop-i-preserved
 loop-i-preserved c =
@@ -51,8 +40,4 @@ loop-i-preserved c =
     }
 
 pub returns-clause-stay : goal.returns-clause-stay
-returns-clause-stay c =
-    let start = c.args.links.now in
-    let from = c.args.from in
-    let all : length (drop from start) ≤ c.loop-i.i - from = let rest = length-drop from start in let end = c.loop-i-test.false in omega (arith, rest, end) in
-    c.loop-i.invariant.kept ∙ ap (λ (xs : List Link). take from start ++ filter (stays c.args.labels.now c.args.heaviest.now) xs) (take_all (c.loop-i.i - from) (drop from start) all)
+returns-clause-stay c = search (arith, length-drop, take_all)

@@ -1,4 +1,4 @@
-use Rattle.std.proofs.Common.{◌≡◌, [], refl, sym}
+use Rattle.std.proofs.Common.{◌≡◌, [], refl, sym, arith}
 use Rattle.std.specs.Prelude.{None}
 use Rattle.links.specs.AnswerValue.{AnswerValue}
 use Rattle.round_core.specs.BookValue.{refusal}
@@ -8,8 +8,7 @@ use Rattle.port_rounds.proofs.Scanning.{scanned_one, now_taken}
 use Rattle.port_rounds.proofs.scans.scan_shard.Goals as goal
 
 pub scan_par-requires-clause-ends : goal.scan_par-requires-clause-ends
-scan_par-requires-clause-ends g c κs within =
-    rw (c.shard.ensures.links, c.cut.ensures, c.labels.ensures) (c.requires.round.ends c.args.shard [] c.requires.shard)
+scan_par-requires-clause-ends g c κs within = search arith
 
 pub take_allowed-requires : goal.take_allowed-requires
 take_allowed-requires g c =

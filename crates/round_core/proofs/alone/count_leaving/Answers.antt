@@ -24,6 +24,4 @@ loop-link-preserved c =
     ])
 
 pub returns : goal.returns
-returns c =
-    let all : take c.loop-link.link-index c.args.links.now ≡ c.args.links.now = take_all c.loop-link.link-index c.args.links.now (omega (arith, c.loop-link-test.false)) in
-    subst (λ (xs : List Link). AreLeastNumbers c.args.labels.now xs c.loop-link.numbers) all c.loop-link.invariant
+returns c = search (arith, take_all)

@@ -1,4 +1,4 @@
-use Rattle.std.proofs.Common.{ℕ, List, length, refl, sym, ap, ◌∙◌, subst}
+use Rattle.std.proofs.Common.{ℕ, List, length, refl, sym, ap, ◌∙◌, subst, arith}
 use Rattle.std.specs.Prelude.{All}
 use Rattle.std.proofs.lemmas.List.{with_items_is}
 use Rattle.round_core.specs.PickNumbers.{IsPickNumber}
@@ -6,8 +6,7 @@ use Rattle.round_core.proofs.Counts.{are_numbers, picks_are}
 use Rattle.round_core.proofs.alone.picks_of_links.Goals as goal
 
 pub count_leaving-requires-clause-each_vertex : goal.count_leaving-requires-clause-each_vertex
-count_leaving-requires-clause-each_vertex g c =
-    ap length c.as_mut_slice.ensures.value ∙ c.into_numbers-numbers.ensures.each_vertex ∙ c.in_ok-none.ensures.each_vertex ∙ c.n.ensures.vertices ∙ ap length (sym (c.over.ensures ∙ c.as_slice.ensures.labels))
+count_leaving-requires-clause-each_vertex g c = search arith
 
 pub of_numbers-requires : goal.of_numbers-requires
 of_numbers-requires g c =

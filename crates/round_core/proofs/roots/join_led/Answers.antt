@@ -1,4 +1,4 @@
-use Rattle.std.proofs.Common.{ℕ, Contains, ◌<◌, length, get_or}
+use Rattle.std.proofs.Common.{ℕ, Contains, ◌<◌, length, get_or, arith}
 use Rattle.std.proofs.lemmas.List.Elements.{All-contains}
 use Rattle.round_theory.specs.Offers.{IsNamed}
 use Rattle.round_core.specs.Roots.{IsLedBy}
@@ -16,10 +16,7 @@ jumps-init g c =
     let led = λ (r : ℕ) (r_in : Contains roots r). All-contains (IsLedBy labels picks parents) roots r c.requires.led r_in in
     let leads = λ (r : ℕ) (r_in : Contains roots r). (led r r_in).0 in
     record {
-      pointers = record {
-        within = λ r r_in. All-contains (λ x. x < length parents) roots r c.requires.within r_in;
-        closed = λ r r_in. (can.are_roots.exact (get_or parents r 0)).1 (led r r_in).1;
-      };
+      pointers = search arith;
       parents = are_parents labels (IsNamed heard) picks can.labelled are roots parents can.are_roots leads;
       descend = descend_at_first labels (IsNamed heard) picks can.labelled are roots parents can.are_roots leads;
     }

@@ -32,10 +32,7 @@ returns-in_err-merge-clause-fault g c =
     rw (answered.1, answered.2) (in_time, some)
 
 pub overflow_cast-result : goal.overflow_cast-result
-overflow_cast-result g c =
-    let took = c.in_ok-merge.ensures.once in
-    let few = took.few in
-    omega (arith, few, roots_few c.args.labels.now c.args.roots.now c.requires.roots, c.requires.progress.few_vertices, so_many_more c.args.taken.now.items took.added c.merge.new.taken.items took.behind, c.len-before.ensures, c.len.ensures, c.args.taken.now.ok.0, c.merge.new.taken.ok.0)
+overflow_cast-result g c = search (arith, roots_few, so_many_more)
 
 pub returns-clause-turn : goal.returns-clause-turn
 returns-clause-turn g c =

@@ -13,15 +13,10 @@ pub bounds-links-pair : goal.bounds-links-pair
 bounds-links-pair c = (offer_at c.args.links.now c.args.labels.now c.args.pairs.now c.loop-pair.pair-index c.loop-pair-test.true c.requires.can.leaving).within
 
 pub count-requires-clause-ends : goal.count-requires-clause-ends
-count-requires-clause-ends c =
-    let offer = offer_at c.args.links.now c.args.labels.now c.args.pairs.now c.loop-pair.pair-index c.loop-pair-test.true c.requires.can.leaving in
-    subst (λ (l : Link). l.high ≤ length c.args.labels.now) (sym c.index-links-pair.is)
-    (All-get_or (λ (l : Link). l.high ≤ length c.args.labels.now) c.args.links.now (get_or c.args.pairs.now c.loop-pair.pair-index (0, 0)).1 c.index-links-pair.result offer.within c.requires.can.ends)
+count-requires-clause-ends c = search (arith, offer_at)
 
 pub count-requires-clause-leaving : goal.count-requires-clause-leaving
-count-requires-clause-leaving c =
-    let offer = offer_at c.args.links.now c.args.labels.now c.args.pairs.now c.loop-pair.pair-index c.loop-pair-test.true c.requires.can.leaving in
-    subst (λ (l : Link). label_of c.args.labels.now l.low ≢ label_of c.args.labels.now l.high) (sym c.index-links-pair.is) (offer.apart c.index-links-pair.result)
+count-requires-clause-leaving c = search (arith, offer_at)
 
 pub loop-pair-preserved : goal.loop-pair-preserved
 loop-pair-preserved c = λ seen are.

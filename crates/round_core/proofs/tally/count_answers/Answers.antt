@@ -22,6 +22,4 @@ loop-answer-preserved g c =
     subst (λ (xs : List Link). AreLeastNumbers c.args.labels.now xs c.count_all.new.numbers) (sym (one_more_answer cut answers i a c.loop-answer-test.true is)) (counts (all_named cut (take i answers)) c.loop-answer.invariant)
 
 pub returns : goal.returns
-returns g c =
-    let all : take c.loop-answer.answer-index c.args.answers.now ≡ c.args.answers.now = take_all c.loop-answer.answer-index c.args.answers.now (omega (arith, c.loop-answer-test.false)) in
-    subst (λ (xs : List AnswerValue). AreLeastNumbers c.args.labels.now (all_named c.args.cut.now xs) c.loop-answer.numbers) all c.loop-answer.invariant
+returns g c = search (arith, take_all)

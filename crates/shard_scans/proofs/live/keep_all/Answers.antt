@@ -9,10 +9,7 @@ pub loop-i-init : goal.loop-i-init
 loop-i-init g c = record { size = refl; best = λ count labels live are is none. bests_none c.args.links.now labels live are count c.args.table.now none }
 
 pub keep_next-requires-clause-next : goal.keep_next-requires-clause-next
-keep_next-requires-clause-next g c =
-    let default : LiveLink = record { low = 0; high = 0; place = 0 } in
-    let written = c.args.live.now in
-    subst (λ n. CanBeTakenIn c.args.links.now n (get_or written c.loop-i.i default)) (sym c.loop-i.invariant.size) (c.requires.next c.loop-i.i default c.loop-i-test.true)
+keep_next-requires-clause-next g c = search arith
 
 pub loop-i-preserved : goal.loop-i-preserved
 loop-i-preserved g c =

@@ -46,5 +46,4 @@ loop-i-preserved c =
     ]
 
 pub returns-clause-packed : goal.returns-clause-packed
-returns-clause-packed c =
-    c.loop-i.invariant.front ∙ ap (λ (t : List LiveLink). packed c.args.labels.now t) (take_all c.loop-i.i c.args.live.now (omega (arith, c.loop-i-test.false, c.loop-i.auto.live)))
+returns-clause-packed c = search (arith, take_all)

@@ -49,10 +49,4 @@ loop-i-preserved g c =
     }
 
 pub returns : goal.returns
-returns g c =
-    let marks = marks_of c.args.numbers.now in
-    let seen = c.loop-i.invariant in
-    record {
-      numbered = all_over (numbered marks) c.args.live.now c.loop-i.live c.loop-i.i seen.numbered (omega (arith, c.loop-i-test.false, c.loop-i.auto.live));
-      named = λ k d lt. seen.named k d (omega (arith, c.loop-i-test.false, lt, c.loop-i.auto.live));
-    }
+returns g c = search (arith, all_over)

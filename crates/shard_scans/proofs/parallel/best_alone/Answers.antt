@@ -14,16 +14,7 @@ loop-place-init g c = record {
 }
 
 pub keep_next-requires-clause-next : goal.keep_next-requires-clause-next
-keep_next-requires-clause-next g c =
-    let links = c.args.scanned.links.now in
-    let labels = c.args.scanned.labels.now in
-    let place = c.loop-place.place in
-    let l : Link = c.index-links-place.result in
-    let next : LiveLink = record { low = c.label_at.result; high = c.label_at-in-loop-place.result; place = place } in
-    let next_is : next ≡ written_at labels l place = λ k. record { low = c.label_at.ensures k; high = c.label_at-in-loop-place.ensures k; place = place } in
-    let within : place < length links = omega (arith, c.loop-place-test.true, c.requires.part) in
-    subst (CanBeTakenIn links (length c.loop-place.table)) (sym next_is)
-    (link_can_be_taken_in links labels (length c.loop-place.table) place l c.loop-place.invariant.best.each_vertex c.requires.can.labelled c.requires.can.ends within c.index-links-place.is)
+keep_next-requires-clause-next g c = search (arith, link_can_be_taken_in)
 
 pub loop-place-preserved : goal.loop-place-preserved
 loop-place-preserved g c =
@@ -35,7 +26,4 @@ loop-place-preserved g c =
     }
 
 pub returns : goal.returns
-returns g c =
-    let part = c.args.part in
-    let end : c.loop-place.place ≡ part.to = omega (arith, c.loop-place-test.false, c.loop-place.auto.place-end, part.ordered) in
-    record { best = subst (λ k. AreBest c.args.scanned.links.now c.args.scanned.labels.now part.from k c.loop-place.table) end c.loop-place.invariant.best }
+returns g c = search arith

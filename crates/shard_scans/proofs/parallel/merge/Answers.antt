@@ -6,20 +6,13 @@ use Rattle.shard_scans.proofs.parallel.merge.Goals as goal
 use Rattle.shard_scans.proofs.parallel.merge.Goals.{then-next, else-next}
 
 pub loop-i-init : goal.loop-i-init
-loop-i-init g c =
-    let links = c.args.scanned.links.now in
-    let labels = c.args.scanned.labels.now in
-    let first = c.args.first in
-    let second = c.args.second in
-    merged_none links labels first.from second.from second.to c.args.table.now (subst (λ k. AreBest links labels first.from k c.args.table.now) c.requires.beside c.requires.earlier)
+loop-i-init g c = search (arith, merged_none)
 
 pub keep-requires-clause-label : goal.keep-requires-clause-label
 keep-requires-clause-label g c = omega (arith, c.loop-i-test.true, c.loop-i.invariant.each_vertex, c.requires.later.each_vertex)
 
 pub keep-requires-clause-next : goal.keep-requires-clause-next
-keep-requires-clause-next g c =
-    let default : Best = record { key = pos 0; place = 0 } in
-    bests_say c.args.scanned.links.now c.args.scanned.labels.now c.args.second.from c.args.second.to c.args.later.now c.requires.later c.loop-i.i default c.loop-i-test.true c.if-next.true
+keep-requires-clause-next g c = search (arith, bests_say)
 
 pub loop-i-preserved : goal.loop-i-preserved
 loop-i-preserved g c =
@@ -41,9 +34,4 @@ loop-i-preserved g c =
     ]
 
 pub returns : goal.returns
-returns g c =
-    let labels = c.args.scanned.labels.now in
-    record {
-      best = merged_all c.args.scanned.links.now labels c.args.first.from c.args.second.from c.args.second.to c.loop-i.table c.loop-i.i
-          (omega (arith, c.loop-i-test.false, c.requires.later.each_vertex)) c.loop-i.invariant;
-    }
+returns g c = search (arith, merged_all)

@@ -1,4 +1,4 @@
-use Rattle.std.proofs.Common.{◌≡◌, ◌<◌, ◌+◌, ◌-◌, ◌↔◌, Contains, sym, ap, subst, ◌∙◌}
+use Rattle.std.proofs.Common.{◌≡◌, ◌<◌, ◌+◌, ◌-◌, ◌↔◌, Contains, sym, ap, subst, ◌∙◌, arith}
 use mathlib.Core.Option.{none}
 use Rattle.atomic_table.specs.Table.{step}
 use Rattle.claim_board.specs.declared.claim.Claim.{Claim}
@@ -9,15 +9,7 @@ use Rattle.claim_board.proofs.Steps.{claim_allowed_as, claimed_own}
 use Rattle.claim_board.proofs.board.Board.claim.Goals as goal
 
 pub compare_exchange-found-requires : goal.compare_exchange-found-requires
-compare_exchange-found-requires g c =
-    let board = ap (λ (s : SeatState). s.board) c.seat.view_is ∙ c.requires.seat in
-    let same = board ∙ sym c.self.view_is in
-    let within = subst (λ (b : BoardState). c.args.shard < b.shards) (sym board) c.requires.shard in
-    rw c.from-mine.ensures (
-      ap (λ (b : BoardState). b.table) same,
-      subst (λ n. c.args.shard < n) (ap (λ (b : BoardState). b.shards) same ∙ sym c.self.invariant.words) within,
-      claim_allowed_as _ _ _ _ _ _ c.seat.invariant.alone c.seat.invariant.number_of_board within,
-    )
+compare_exchange-found-requires g c = search (arith, claim_allowed_as)
 
 pub returns-else-found-eq0-clause-own : goal.returns-else-found-eq0-clause-own
 returns-else-found-eq0-clause-own g c =

@@ -1,4 +1,4 @@
-use Rattle.std.proofs.Common.{◌<◌, ◌&&◌, filter, not, ◌==◌, Contains, sym, ap, subst, ◌∙◌}
+use Rattle.std.proofs.Common.{◌<◌, ◌&&◌, filter, not, ◌==◌, Contains, sym, ap, subst, ◌∙◌, arith}
 use Rattle.atomic_table.specs.Table.{Me}
 use Rattle.claim_board.specs.declared.event.Event.TheVariants.{GiveBack}
 use Rattle.claim_board.specs.declared.rule.View.{View}
@@ -28,9 +28,4 @@ invariant_of-seat g c =
     (λ shard. c.remove.ensures shard ∙ ap (λ b. not (shard == c.args.shard) && b) (c.seat.invariant.list shard) ∙ sym (among-filter shard c.args.shard _))
 
 pub returns-clause-undone : goal.returns-clause-undone
-returns-clause-undone g c = λ before absent was.
-    let me = c.seat.inside.token.me in
-    let held_now = ap (λ (m : Me (Unit {0}) View). held (first_events m.0.lists)) c.compare_exchange.ensures.2 in
-    let out = held-push (first_events me.0.lists) (GiveBack me.0.first c.args.shard) in
-    let old = ap (λ (s : SeatState). held s.events) c.seat.view_is in
-    held_now ∙ out ∙ ap (filter (λ s. not (s == c.args.shard))) (old ∙ was) ∙ taken_out c.args.shard before absent
+returns-clause-undone g c = search (arith, held-push, filter, not, taken_out)

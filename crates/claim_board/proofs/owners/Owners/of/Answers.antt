@@ -6,10 +6,7 @@ use Rattle.claim_board.proofs.Closing.{index_at, owner_in_at, owner_of_some}
 use Rattle.claim_board.proofs.owners.Owners.of.Goals as goal
 
 pub overflow_cast-result : goal.overflow_cast-result
-overflow_cast-result g c =
-    let at = index_at (slots_items c.self.inside.closed.words) c.args.shard c.word-word.result c.word-word.ensures in
-    let bound : c.word-word.result ≤ 64 = subst (λ n. n ≤ 64) at (c.self.invariant.1.of_seats c.args.shard) in
-    omega arith
+overflow_cast-result g c = search (arith, index_at)
 
 pub returns-then-word-eq0 : goal.returns-then-word-eq0
 returns-then-word-eq0 g c = sym (ap (λ o. owner_in o c.args.shard) (sym c.self.view_is) ∙ owner_in_at (slots_items c.self.inside.closed.words) c.args.shard c.word-word.result c.word-word.ensures ∙ ap owner_of_word c.if-word-eq0.true)

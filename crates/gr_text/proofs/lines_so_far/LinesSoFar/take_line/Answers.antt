@@ -1,4 +1,4 @@
-use Rattle.std.proofs.Common.{◌∷◌, [], ◌++◌, refl, subst, sym}
+use Rattle.std.proofs.Common.{◌∷◌, [], ◌++◌, refl, subst, sym, arith}
 use Rattle.gr_text.specs.LinesSoFar.{LinesSoFarValue, FitsAfter, KeepsLinesBut, Judges}
 use Rattle.gr_text.specs.declared.verdicts.Verdict.TheVariants as verdict
 use Rattle.gr_text.proofs.Steps.{counts_of, KeepsLinesBut-silent, KeepsLinesBut-problem, arc_taken}
@@ -37,7 +37,4 @@ returns-in-Adds g c = λ swap lines bytes gives whole.
     (subst (λ (v : LinesSoFarValue). Judges (verdict.Adds c.in-Adds.link) v.size v.count lines bytes) c.self.view_is judged)
 
 pub returns-in-Faulty : goal.returns-in-Faulty
-returns-in-Faulty g c = λ swap lines bytes gives whole.
-    let inside = c.self.inside in
-    let (all, by, known) = subst (λ (v : LinesSoFarValue). KeepsLinesBut swap v lines) (sym c.self.view_is) gives in
-    (refl, c.in-Faulty.ensures.judged lines bytes (counts_of inside.size inside.count all lines known) whole)
+returns-in-Faulty g c = search (arith, counts_of)

@@ -1,4 +1,4 @@
-use Rattle.std.proofs.Common.{sym, subst, ◌∙◌}
+use Rattle.std.proofs.Common.{sym, subst, ◌∙◌, arith}
 use Rattle.std.proofs.lemmas.Bool.{not-true, not-false}
 use Rattle.gr_text.specs.LinesSoFar.{no_swap}
 use Rattle.gr_text.specs.Reader.{ReaderValue, HasReadBut, FailsBy, IsReadBut}
@@ -8,9 +8,7 @@ use Rattle.gr_text.proofs.Swaps.{is_read}
 use Rattle.gr_text.proofs.reader.GrReader.finish.Goals as goal
 
 pub returns-in-Some-clause-outcome_but : goal.returns-in-Some-clause-outcome_but
-returns-in-Some-clause-outcome_but g c = λ swap text read.
-    subst (λ (v : ReaderValue). FailsBy c.in-Some.fault v.limit text) c.self.view_is
-    (fails_of_stops c.in-Some.fault c.self.inside.limit text (stopped_by _ c.in-Some.fault text c.in-Some.is (subst (λ (v : ReaderValue). HasReadBut swap v text) (sym c.self.view_is) read)))
+returns-in-Some-clause-outcome_but g c = search (arith, fails_of_stops, stopped_by)
 
 pub returns-then-not-partial-clause-outcome_but : goal.returns-then-not-partial-clause-outcome_but
 returns-then-not-partial-clause-outcome_but g c = λ swap text read.

@@ -51,10 +51,7 @@ returns-then-not-acyclic-clause-acyclic g c =
     )
 
 pub of_known-requires : goal.of_known-requires
-of_known-requires g c =
-    let few = c.requires.few_vertices in
-    let len : length c.as_slice-3.result.now ≡ c.args.n + 1 = ap length c.as_slice-3.ensures.value ∙ c.in_ok-components.ensures.len in
-    labels_are c.as_slice-3.result.now c.in_ok-labels.labels.items c.in_ok-labels.ensures.number (omega (arith, few, len)) c.in_ok-labels.ensures.first
+of_known-requires g c = search (arith, labels_are)
 
 pub returns-clause-acyclic : goal.returns-clause-acyclic
 returns-clause-acyclic g c =

@@ -11,33 +11,16 @@ use Rattle.link_key.proofs.sequential.rounds.join_components.Goals as goal
 
 -- nothing is left, or fewer are
 shorter : (now before : ℕ) → 0 < before → (0 < now → now < before) → now < before
-shorter now before some fewer = elim (cases_lt 0 now) [
-  | inl more ↦ fewer more
-  | inr none ↦ omega (arith, none, some)
-]
+shorter now before some fewer = search (arith, cases_lt)
 
 pub loop-alloc-init : goal.loop-alloc-init
-loop-alloc-init g c = record {
-  few = c.in_ok-first.ensures.few;
-  len = c.in_ok-first.ensures.len;
-  numbers = c.in_ok-first.ensures.numbers;
-  ends = c.in_ok-first.ensures.ends;
-  marks = c.round.auto.marks;
-  labelled = c.in_ok-first.ensures.labelled;
-  stage = c.in_ok-first.ensures.stage;
-}
+loop-alloc-init g c = search arith
 
 pub round-requires-in-loop-alloc-clause-few : goal.round-requires-in-loop-alloc-clause-few
 round-requires-in-loop-alloc-clause-few g c = let few = c.loop-alloc.invariant.few in let most = c.requires.few in omega (arith, few, most)
 
 pub loop-alloc-smaller : goal.loop-alloc-smaller
-loop-alloc-smaller g c =
-    let l = c.loop-alloc in
-    let empty = c.is_empty.ensures in
-    let is = c.loop-alloc-test.true in
-    let len = l.candidates.ok.0 in
-    let some : 0 < length l.candidates.items = grind (arith, nat_tests, empty, is, len) in
-    shorter (length c.round-in-loop-alloc.new.candidates.items) (length l.candidates.items) some c.in_ok-further.ensures.fewer
+loop-alloc-smaller g c = search (arith, nat_tests, shorter)
 
 pub loop-alloc-preserved : goal.loop-alloc-preserved
 loop-alloc-preserved g c =

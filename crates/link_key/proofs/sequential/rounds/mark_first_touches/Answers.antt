@@ -32,28 +32,13 @@ pub bounds-marks-rank : goal.bounds-marks-rank
 bounds-marks-rank c = let is = (between c.args.candidates.now c.loop-i.candidates c.loop-i.i c.requires.ends c.loop-i-test.true c.loop-i.invariant.ahead).4 in let len = c.loop-i.auto.marks in omega (arith, is, len)
 
 pub offset_bounds-candidates-kept : goal.offset_bounds-candidates-kept
-offset_bounds-candidates-kept c =
-    let few = c.loop-i.invariant.few in
-    let len = c.loop-i.invariant.len in
-    let lt = c.loop-i-test.true in
-    let kept_in : c.loop-i.kept < length c.loop-i.candidates = omega (arith, few, len, lt) in
-    search rules
+offset_bounds-candidates-kept c = search arith
 
 pub bounds-candidates-kept : goal.bounds-candidates-kept
 bounds-candidates-kept c = let few = c.loop-i.invariant.few in let len = c.loop-i.invariant.len in let lt = c.loop-i-test.true in omega (arith, few, len, lt)
 
 pub loop-i-init : goal.loop-i-init
-loop-i-init c = record {
-  len = refl;
-  ahead = λ k o lt. refl;
-  few = omega arith;
-  kept = refl;
-  given = λ k o lt. absurd (omega (arith, lt));
-  numbers = numbers_none c.args.numbers.now c.requires.fresh;
-  fresh = λ none. none_anywhere c.args.numbers.now c.requires.fresh;
-  fewer = λ some. absurd (omega (arith, some));
-  touched = λ d links before labels fits are. touched_none labels (links_of d links c.args.candidates.now) c.args.numbers.now (before ++ marked links c.args.marks.now) c.requires.fresh;
-}
+loop-i-init c = search (arith, numbers_none, none_anywhere, touched_none)
 
 pub loop-i-preserved : goal.loop-i-preserved
 loop-i-preserved c =
@@ -121,17 +106,10 @@ loop-i-preserved c =
     ]
 
 pub returns-clause-fewer : goal.returns-clause-fewer
-returns-clause-fewer c some =
-    let end = c.loop-i-test.false in
-    let len = c.loop-i.invariant.len in
-    let less = c.loop-i.invariant.fewer (omega (arith, end, len, some)) in
-    let most = c.loop-i.auto.i-end in
-    omega (arith, less, most, len)
+returns-clause-fewer c some = search arith
 
 pub returns-clause-given : goal.returns-clause-given
-returns-clause-given c =
-    let end = c.loop-i-test.false in
-    subst (λ (xs : List Open). HaveNumbers c.loop-i.numbers xs) (take_all c.loop-i.i c.args.candidates.now end) c.loop-i.invariant.given
+returns-clause-given c = search (arith, take_all)
 
 pub returns-clause-kept : goal.returns-clause-kept
 returns-clause-kept c = c.loop-i.invariant.kept ∙ ap (kept_of c.loop-i.numbers) (take_all c.loop-i.i c.args.candidates.now c.loop-i-test.false)

@@ -8,20 +8,7 @@ use Rattle.link_key.proofs.Keeping.{counted, written_behind}
 use Rattle.link_key.proofs.sequential.rounds.put_apart_behind.Goals as goal
 
 pub loop-i-init : goal.loop-i-init
-loop-i-init c =
-    let labels = c.args.labels.now in
-    let links = c.args.links.now in
-    let from = c.args.from in
-    let none : from - from ≡ 0 = omega arith in
-    record {
-      len = refl;
-      ahead = λ k d lt. refl;
-      from = omega arith;
-      to = c.requires.in_range;
-      more = omega arith;
-      few = omega arith;
-      kept = sym (ap (λ n. take c.args.first links ++ filter (is_apart labels) (take n (drop from links))) none ∙ append-nil (take c.args.first links));
-    }
+loop-i-init c = search (arith, append-nil)
 
 pub loop-i-preserved : goal.loop-i-preserved
 loop-i-preserved c =
@@ -56,16 +43,7 @@ loop-i-preserved c =
     }
 
 pub returns-clause-in_range : goal.returns-clause-in_range
-returns-clause-in_range c =
-    let more = c.loop-i.invariant.more in
-    let few = c.loop-i.invariant.few in
-    let to = c.loop-i.invariant.to in
-    let len = c.loop-i.invariant.len in
-    (more, omega (arith, few, to, len))
+returns-clause-in_range c = search arith
 
 pub returns-clause-apart : goal.returns-clause-apart
-returns-clause-apart c =
-    let start = c.args.links.now in
-    let from = c.args.from in
-    let all : length (drop from start) ≤ c.loop-i.i - from = let rest = length-drop from start in let end = c.loop-i-test.false in omega (arith, rest, end) in
-    c.loop-i.invariant.kept ∙ ap (λ (xs : List Link). take c.args.first start ++ filter (is_apart c.args.labels.now) xs) (take_all (c.loop-i.i - from) (drop from start) all)
+returns-clause-apart c = search (arith, length-drop, take_all)

@@ -12,27 +12,13 @@ use Rattle.link_key.proofs.sequential.rounds.round.Given as given
 use Rattle.link_key.proofs.sequential.rounds.round.Goals as goal
 
 len_of : (g : given.Over) (c : goal.After-numbers-3-1 g) → length c.number_rest-count.new.numbers ≡ c.args.count + 1
-len_of g c =
-    let touched = c.mark_first_touches-last.auto.numbers in
-    let value = c.as_mut_slice-table.ensures.value in
-    c.number_rest-count.auto.numbers ∙ touched ∙ ap length value ∙ sym c.in_ok-numbers.numbers.ok.0 ∙ c.in_ok-numbers.ensures.len
+len_of g c = search arith
 
 whole_of : (g : given.Over) (c : goal.After-numbers-3-1 g) → take c.in_ok-numbers.numbers.len (c.number_rest-count.new.numbers ++ drop (length c.number_rest-count.new.numbers) c.in_ok-numbers.numbers.items) ≡ c.number_rest-count.new.numbers
-whole_of g c =
-    let value = c.as_mut_slice-table.ensures.value in
-    written c.in_ok-numbers.numbers.len c.number_rest-count.new.numbers c.in_ok-numbers.numbers.items (c.number_rest-count.auto.numbers ∙ c.mark_first_touches-last.auto.numbers ∙ ap length value) c.in_ok-numbers.numbers.ok.0
+whole_of g c = search (arith, written)
 
 left_of : (g : given.Over) (c : goal.After-numbers-3-1 g) → c.truncate.new.self.items ≡ kept_of c.number_rest-count.new.numbers c.args.candidates.now.items
-left_of g c =
-    let candidates = c.args.candidates.now in
-    let numbers = c.mark_first_touches-last.new.numbers in
-    let value = c.as_mut_slice.ensures.value in
-    let given : HaveNumbers numbers candidates.items = subst (HaveNumbers numbers) value c.mark_first_touches-last.ensures.given in
-    c.truncate.ensures.items
-    ∙ ap (take c.mark_first_touches-last.result.1) (written candidates.len c.mark_first_touches-last.new.candidates candidates.items (c.mark_first_touches-last.auto.candidates ∙ ap length value) candidates.ok.0)
-    ∙ c.mark_first_touches-last.ensures.kept
-    ∙ ap (kept_of numbers) value
-    ∙ sym (kept_same numbers c.number_rest-count.new.numbers candidates.items given c.number_rest-count.ensures.filled.kept)
+left_of g c = search (arith, written, kept_of, kept_same)
 
 pub returns-clause-ends : goal.returns-clause-ends
 returns-clause-ends g c =
@@ -40,15 +26,7 @@ returns-clause-ends g c =
     (subst (λ n. AreBetween (c.number_rest-count.result + 1) n (kept_of c.number_rest-count.new.numbers c.args.candidates.now.items)) (sym c.mark_first_touches-last.auto.marks) (left_between c.number_rest-count.new.numbers c.args.candidates.now.items c.requires.ends (len_of g c) c.number_rest-count.ensures.numbers))
 
 pub returns-clause-fewer : goal.returns-clause-fewer
-returns-clause-fewer g c some =
-    let candidates = c.args.candidates.now in
-    let kept = c.mark_first_touches-last.result.1 in
-    let new = c.mark_first_touches-last.new.candidates in
-    let len : length new ≡ length candidates.items = c.mark_first_touches-last.auto.candidates ∙ ap length c.as_mut_slice.ensures.value in
-    let is : c.truncate.new.self.items ≡ take kept new = c.truncate.ensures.items ∙ ap (take kept) (written candidates.len new candidates.items len candidates.ok.0) in
-    let short = ap length is ∙ length-take kept new in
-    let less = c.mark_first_touches-last.ensures.fewer (omega (arith, some, short)) in
-    omega (arith, less, short, len)
+returns-clause-fewer g c some = search (arith, written, length-take)
 
 pub returns-clause-labelled : goal.returns-clause-labelled
 returns-clause-labelled g c d links labels are =

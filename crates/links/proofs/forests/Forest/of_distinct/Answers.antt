@@ -1,4 +1,4 @@
-use Rattle.std.proofs.Common.{sym, ◌∙◌, subst}
+use Rattle.std.proofs.Common.{sym, ◌∙◌, subst, arith}
 use Rattle.std.specs.List.Sorted.{IsPermutation}
 use Rattle.links.specs.Link.{IsAscending}
 use Rattle.links.proofs.Distinct.{ascending_once}
@@ -13,7 +13,4 @@ of_ascending-requires g c =
     subst IsAscending (sym whole.1) (ascending_once links.items c.sort.new.links c.requires.distinct whole.0 put.sorted)
 
 pub returns-clause-same : goal.returns-clause-same
-returns-clause-same g c =
-    let links = c.args.links in
-    let whole = whole_of links.len links.items _ c.sort.new.links links.ok.0 c.as_mut_slice.ensures.value c.sort.ensures.same in
-    subst (IsPermutation links.items) (sym (c.of_ascending.ensures ∙ whole.1)) whole.0
+returns-clause-same g c = search (arith, whole_of)

@@ -1,4 +1,4 @@
-use Rattle.std.proofs.Common.{[], sym, subst}
+use Rattle.std.proofs.Common.{[], sym, subst, arith}
 use Rattle.std.proofs.lemmas.List.{append-nil}
 use Rattle.links.specs.Link.{EndsUpTo}
 use Rattle.links.proofs.Covers.{forest_covers_list}
@@ -15,9 +15,4 @@ pub returns-clause-cover : goal.returns-clause-cover
 returns-clause-cover g c = forest_covers_list c.args.links.now.items _ (rw c.replace-all.ensures.value at c.in_ok-kept.ensures.forest)
 
 pub returns-clause-known : goal.returns-clause-known
-returns-clause-known g c = record {
-  first = c.in_ok-kept.kept.items;
-  more = [];
-  are = sym (append-nil c.in_ok-kept.kept.items);
-  known = subst (KnowsOf c.in_ok-sieve.sieve) c.as_slice.ensures.value c.in_ok-sieve.ensures;
-}
+returns-clause-known g c = search (arith, append-nil)

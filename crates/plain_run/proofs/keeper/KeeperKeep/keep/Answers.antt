@@ -1,4 +1,4 @@
-use Rattle.std.proofs.Common.{◌∙◌}
+use Rattle.std.proofs.Common.{◌∙◌, arith}
 use Rattle.std.proofs.lemmas.Result.{on_ok_weaker}
 use Rattle.links.proofs.Covers.{cover_of_cover}
 use Rattle.plain_run.proofs.KeptLinks.{ends_of_cover}
@@ -13,9 +13,7 @@ pub reduce-requires-clause-ends : goal.reduce-requires-clause-ends
 reduce-requires-clause-ends g c = ends_of_cover c.args.vertices c.args.links.now.items _ c.requires.ends c.drop_some.ensures.cover
 
 pub returns-clause-ends : goal.returns-clause-ends
-returns-clause-ends g c =
-    let within = ends_of_cover c.args.vertices c.args.links.now.items _ c.requires.ends c.drop_some.ensures.cover in
-    on_ok_weaker c.reduce.result (λ cover. ends_of_cover c.args.vertices c.drop_some.new.links.items c.reduce.new.links.items within cover) c.reduce.ensures.cover
+returns-clause-ends g c = search (arith, ends_of_cover, on_ok_weaker)
 
 pub returns-clause-cover : goal.returns-clause-cover
 returns-clause-cover g c = on_ok_weaker c.reduce.result (λ cover. cover_of_cover _ _ _ c.drop_some.ensures.cover cover) c.reduce.ensures.cover

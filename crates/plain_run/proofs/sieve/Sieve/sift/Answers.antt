@@ -10,11 +10,7 @@ use Rattle.plain_run.proofs.sieve.Sieve.sift.Goals as goal
 use Rattle.plain_run.proofs.sieve.Sieve.sift.Goals.{After-self-1}
 
 left_is : (g : given.Over) (c : After-self-1 g) → c.truncate.new.self.items ≡ take c.put_staying_behind-kept.result c.put_staying_behind-kept.new.links
-left_is g c =
-    let old = c.args.links.now in
-    let value = ap length c.as_mut_slice.ensures.value in
-    let size : length c.put_staying_behind-kept.new.links ≡ length old.items = omega (arith, c.put_staying_behind-kept.auto.links, value) in
-    c.truncate.ensures.items ∙ ap (λ (xs : List Link). take c.put_staying_behind-kept.result xs) (written old.len c.put_staying_behind-kept.new.links old.items size old.ok.0)
+left_is g c = search (arith, written)
 
 sifted : (g : given.Over) (c : After-self-1 g) → c.truncate.new.self.items ≡ take c.args.self.now.passed c.args.links.now.items
     ++ filter (stays c.args.self.now.labels c.args.self.now.heaviest) (drop c.args.self.now.passed c.args.links.now.items)
@@ -25,8 +21,7 @@ sifted g c =
     ∙ ap (λ (labels : List ℕ). take sieve.passed c.args.links.now.items ++ filter (stays labels sieve.heaviest) (drop sieve.passed c.args.links.now.items)) c.as_slice-labels.ensures.labels
 
 counted : (g : given.Over) (c : After-self-1 g) → c.put_staying_behind-kept.result ≡ length c.truncate.new.self.items
-counted g c =
-    sym (ap length (left_is g c) ∙ length-take-le c.put_staying_behind-kept.result c.put_staying_behind-kept.new.links c.put_staying_behind-kept.ensures.in_range)
+counted g c = search (arith, left_is, length-take-le)
 
 pub returns-clause-cover : goal.returns-clause-cover
 returns-clause-cover g c = (sifts c.args.self.now c.args.links.now.items _ _ c.requires.ends c.requires.known (sifted g c) (counted g c)).0

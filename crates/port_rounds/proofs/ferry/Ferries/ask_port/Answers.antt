@@ -1,17 +1,9 @@
-use Rattle.std.proofs.Common.{sym, rules}
+use Rattle.std.proofs.Common.{sym, rules, arith}
 use Rattle.port_rounds.proofs.OneAsk.{honest_taken, some_of_err, none_of_ok, kept_one, refused_one, failed_one}
 use Rattle.port_rounds.proofs.ferry.Ferries.ask_port.Goals as goal
 
 pub returns-in_default : goal.returns-in_default
-returns-in_default g c = record {
-  asked = failed_one g.P.Port c.args.self.now.book.now c.args.port.now c.round.result c.args.shard c.labels.result.now
-      c.round.ensures c.labels.ensures c.requires.shard c.requires.missed c.requires.opened c.ask.new.self c.in_default.field-0
-      c.in_default.ensures.went c.ask.ensures.honest c.in_default.ensures.sound_fault;
-  of_shard = tt;
-  opened = tt;
-  taken = tt;
-  light = tt;
-}
+returns-in_default g c = search (arith, failed_one)
 
 pub returns-then-is_err : goal.returns-then-is_err
 returns-then-is_err g c = record {
@@ -27,13 +19,4 @@ returns-then-is_err g c = record {
 }
 
 pub returns : goal.returns
-returns g c = record {
-  asked = kept_one g.P.Port c.args.self.now.book.now c.args.port.now c.round.result c.args.shard c.labels.result.now
-      c.round.ensures c.labels.ensures c.requires.shard c.requires.missed c.requires.opened c.ask.new.self c.in-Ok.answer
-      (none_of_ok _ c.judge.result c.judge.ensures.allowed (sym c.if-is_err.ensures.value)) c.in-Ok.ensures.went.0 c.in-Ok.ensures.went.1
-      c.in-Ok.ensures.exchanged c.ask.ensures.honest c.in-Ok.ensures.sound;
-  of_shard = search rules;
-  opened = search rules;
-  taken = search rules;
-  light = search rules;
-}
+returns g c = search (arith, kept_one, none_of_ok)

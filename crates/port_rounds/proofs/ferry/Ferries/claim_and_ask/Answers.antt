@@ -24,8 +24,7 @@ pub returns-in_default-clause-asks : goal.returns-in_default-clause-asks
 returns-in_default-clause-asks g c = none_asked g.P.Port c.args.self.now.book.now c.args.shard c.args.port.now
 
 pub returns-in_default-clause-held : goal.returns-in_default-clause-held
-returns-in_default-clause-held g c =
-    where_held c.claim.result (held c.claim.new.seat.events ≡ held c.args.seat.now.events) c.in_default.not-Won c.claim.ensures.list_kept ∙ sym (append-nil (held c.args.seat.now.events))
+returns-in_default-clause-held g c = search (arith, where_held, append-nil)
 
 -- ---- no answer was kept
 
@@ -33,8 +32,7 @@ pub returns-in_default-ask_port-clause-seat : goal.returns-in_default-ask_port-c
 returns-in_default-ask_port-clause-seat g c = (c.give_back.ensures.same.0 ∙ c.claim.ensures.same.0, c.give_back.ensures.same.1 ∙ c.claim.ensures.same.1)
 
 pub returns-in_default-ask_port-clause-held : goal.returns-in_default-ask_port-clause-held
-returns-in_default-ask_port-clause-held g c =
-    c.give_back.ensures.undone (held c.args.seat.now.events) c.in-Won.ensures.was_free c.in-Won.ensures.list ∙ sym (append-nil (held c.args.seat.now.events))
+returns-in_default-ask_port-clause-held g c = search (arith, append-nil)
 
 -- ---- an answer was kept
 

@@ -3,8 +3,7 @@ use Rattle.port_rounds.proofs.Eaches.{each_from}
 use Rattle.port_rounds.proofs.ferry.Ferries.run.Goals as goal
 
 pub for_each_mut-requires-clause-accepts : goal.for_each_mut-requires-clause-accepts
-for_each_mut-requires-clause-accepts g c κs lives i p within is =
-    rw is (c.requires.ready i p.now within)
+for_each_mut-requires-clause-accepts g c κs lives i p within is = search arith
 
 pub returns : goal.returns
 returns g c =

@@ -5,9 +5,7 @@ use Rattle.port_rounds.proofs.Ending.{rounds_few, finish_fault, solved}
 use Rattle.port_rounds.proofs.lane.Lanes.find_forest.Goals as goal
 
 pub returns-in_err-solver-clause-fault : goal.returns-in_err-solver-clause-fault
-returns-in_err-solver-clause-fault g c =
-    let answered = err_from_is_err_and c.from_residual.result c.from_residual.ensures.1 in
-    rw (answered.1, answered.2) c.in_err-solver.ensures.fault
+returns-in_err-solver-clause-fault g c = search (arith, err_from_is_err_and)
 
 pub finish_par-requires-clause-ends : goal.finish_par-requires-clause-ends
 finish_par-requires-clause-ends g c κs within = rw c.in_ok-solver.ensures.went.1.vertices_are c.requires.can.ends
@@ -20,16 +18,10 @@ returns-in_err-forest-clause-fault g c =
     c.in_err-forest.field-0.0 c.requires.can.ends c.in_ok-solver.ensures.went.1 c.in_err-forest.ensures.fault)
 
 pub overflow_sub-counts : goal.overflow_sub-counts
-overflow_sub-counts g c =
-    let fewer = c.in_ok-solver.ensures.went.1.went.rounds.never_opened in
-    let opened = c.count_open-open.ensures.count in
-    let counted = c.count_open.ensures.count in
-    omega arith
+overflow_sub-counts g c = search arith
 
 pub report_of-report-requires-clause-few : goal.report_of-report-requires-clause-few
-report_of-report-requires-clause-few g c =
-    let few = rounds_few c.args.n c.in_ok-solver.solver.rounds c.requires.can.few_vertices c.in_ok-solver.ensures.went.1.in_time in
-    omega arith
+report_of-report-requires-clause-few g c = search (arith, rounds_few)
 
 pub returns-clause-went : goal.returns-clause-went
 returns-clause-went g c =

@@ -11,12 +11,10 @@ pub returns-in_err-solver-clause-ports : goal.returns-in_err-solver-clause-ports
 returns-in_err-solver-clause-ports g c = asked_none g.P.Port c.args.n c.args.cut.now c.args.self.now.lanes.now
 
 pub step_once-requires-clause-can : goal.step_once-requires-clause-can
-step_once-requires-clause-can g c κs within =
-    can_more g.P.Port c.args.n c.args.cut.now c.args.self.now.lanes.now c.loop.self.lanes.now c.loop.solver c.loop.alone c.loop.invariant.so_far c.requires.some_shard c.requires.few_shards c.requires.can
+step_once-requires-clause-can g c κs within = search (arith, can_more)
 
 pub returns-in_err-turn-clause-ports : goal.returns-in_err-turn-clause-ports
-returns-in_err-turn-clause-ports g c =
-    asked_then g.P.Port c.args.n c.args.cut.now c.args.self.now.lanes.now c.loop.self.lanes.now c.step_once.new.self.lanes.now c.loop.solver c.loop.alone c.loop.invariant.so_far c.step_once.ensures.ports
+returns-in_err-turn-clause-ports g c = search (arith, asked_then)
 
 pub returns-in_err-turn-clause-fault : goal.returns-in_err-turn-clause-fault
 returns-in_err-turn-clause-fault g c =
@@ -26,19 +24,10 @@ returns-in_err-turn-clause-fault g c =
     c.loop.invariant.so_far c.in_err-turn.ensures.fault)
 
 pub overflow_add-alone : goal.overflow_add-alone
-overflow_add-alone g c =
-    let few = alone_few g.P.Port c.args.n c.args.cut.now c.args.self.now.lanes.now c.loop.self.lanes.now c.loop.solver c.loop.alone c.loop.invariant.so_far c.requires.can.few_vertices c.requires.few_shards in
-    omega arith
+overflow_add-alone g c = search (arith, alone_few)
 
 pub loop-preserved : goal.loop-preserved
-loop-preserved g c =
-    rw c.from-alone.ensures (record {
-      so_far =
-          turned_more g.P.Port c.args.n c.args.cut.now c.args.self.now.lanes.now c.loop.self.lanes.now c.step_once.new.self.lanes.now c.loop.solver c.step_once.new.solver c.in_ok-turn.turn c.loop.alone c.in_ok-turn.scanned c.requires.can.ends
-          c.loop.invariant.so_far c.in_ok-turn.ensures.went c.in_default.not-Done;
-      same_lanes = c.step_once.ensures.same_lanes ∙ c.loop.invariant.same_lanes;
-      none = c.in_ok-turn.ensures.none;
-    })
+loop-preserved g c = search (arith, turned_more)
 
 pub returns-clause-went : goal.returns-clause-went
 returns-clause-went g c = elim c.match-next.branch [

@@ -8,10 +8,7 @@ pub returns-in_err-reserve_answers-clause-went : goal.returns-in_err-reserve_ans
 returns-in_err-reserve_answers-clause-went g c = passed_none g.P.Port c.args.book.now _ _ (room_same _ _ c.reserve_answers.ensures.lanes)
 
 pub invariant_of-self : goal.invariant_of-self
-invariant_of-self g c = record {
-  few = omega (arith, c.args.self.now.few, each_length SamePort _ _ (room_same _ _ c.reserve_answers.ensures.lanes));
-  idle = room_idle c.args.self.now.lanes.now c.reserve_answers.new.lanes c.reserve_answers.ensures.lanes c.args.self.now.idle;
-}
+invariant_of-self g c = search (arith, each_length, room_same, room_idle)
 
 pub open-requires-clause-seats : goal.open-requires-clause-seats
 open-requires-clause-seats g c =
@@ -25,19 +22,13 @@ pub returns-in_default-clause-went : goal.returns-in_default-clause-went
 returns-in_default-clause-went g c = passed_none g.P.Port c.args.book.now _ _ (room_same _ _ c.reserve_answers.ensures.lanes)
 
 pub invariant_of-self-in_default : goal.invariant_of-self-in_default
-invariant_of-self-in_default g c = record {
-  few = omega (arith, c.args.self.now.few, each_length SamePort _ _ (room_same _ _ c.reserve_answers.ensures.lanes));
-  idle = room_idle c.args.self.now.lanes.now c.reserve_answers.new.lanes c.reserve_answers.ensures.lanes c.args.self.now.idle;
-}
+invariant_of-self-in_default g c = search (arith, each_length, room_same, room_idle)
 
 pub run_ferries-requires-clause-bound : goal.run_ferries-requires-clause-bound
-run_ferries-requires-clause-bound g c κs within =
-    same_bound g.P.Port.state c.args.book.now c.args.self.now.lanes.now c.reserve_answers.new.lanes (room_same _ _ c.reserve_answers.ensures.lanes) c.requires.bound
+run_ferries-requires-clause-bound g c κs within = search (arith, same_bound, room_same)
 
 pub run_ferries-requires-clause-idle : goal.run_ferries-requires-clause-idle
 run_ferries-requires-clause-idle g c κs within = room_idle c.args.self.now.lanes.now c.reserve_answers.new.lanes c.reserve_answers.ensures.lanes c.args.self.now.idle
 
 pub returns-clause-went : goal.returns-clause-went
-returns-clause-went g c =
-    passed_then g.P.Port c.args.book.now c.args.book.now c.run_ferries.new.book c.args.self.now.lanes.now c.reserve_answers.new.lanes c.run_ferries.new.lanes
-    (passed_none g.P.Port c.args.book.now _ _ (room_same _ _ c.reserve_answers.ensures.lanes)) c.run_ferries.ensures.went
+returns-clause-went g c = search (arith, passed_then, passed_none, room_same)

@@ -10,9 +10,7 @@ use Rattle.port_rounds.proofs.Ending.{turn_asked}
 use Rattle.port_rounds.proofs.lane.Lanes.picks_of_round.Goals as goal
 
 pub run_round-requires-clause-round : goal.run_round-requires-clause-round
-run_round-requires-clause-round g c κs within =
-    rw (c.in_ok-book.ensures.opened, c.round.ensures.round, c.labels.ensures.labels)
-    (opened_round (c.args.solver.now.rounds + 1) c.args.cut.now c.args.solver.now.labels c.requires.can.some_shard c.requires.can.ends (omega arith))
+run_round-requires-clause-round g c κs within = search (arith, opened_round)
 
 pub run_round-requires-clause-wide : goal.run_round-requires-clause-wide
 run_round-requires-clause-wide g c κs within = rw (c.in_ok-book.ensures.opened, c.round.ensures.round, c.labels.ensures.labels) c.requires.can.wide
@@ -40,16 +38,4 @@ returns-clause-asked g c =
 -- ---- its picks
 
 pub returns-clause-picked : goal.returns-clause-picked
-returns-clause-picked g c =
-    let book = c.run_round.new.book in
-    let round = c.args.solver.now.rounds + 1 in
-    let labels = c.args.solver.now.labels in
-    let went : RunsRound g.P.Port (opened round c.args.cut.now labels) book c.args.self.now.lanes.now c.run_round.new.self.lanes.now c.in_ok-alone.alone =
-    rw (c.in_ok-book.ensures.opened, c.round.ensures.round, c.labels.ensures.labels) at c.in_ok-alone.ensures.went in
-    record {
-      book = book;
-      went = went;
-      value = c.close_par.ensures.value;
-      picked = subst (λ (ls : List ℕ). ArePicks ls (IsNamed (hearings book)) c.close_par.result)
-          (same_still g.P.Port round c.args.cut.now labels book c.args.self.now.lanes.now c.run_round.new.self.lanes.now c.in_ok-alone.alone went).labels c.close_par.ensures.picks;
-    }
+returns-clause-picked g c = search (arith, same_still)

@@ -1,4 +1,4 @@
-use Rattle.std.proofs.Common.{ℕ, List, sym, ◌∙◌, subst}
+use Rattle.std.proofs.Common.{ℕ, List, sym, ◌∙◌, subst, arith}
 use Rattle.std.specs.Prelude.{All}
 use Rattle.std.proofs.lemmas.List.{with_items_is}
 use Rattle.round_theory.specs.Offers.{IsNamed}
@@ -10,11 +10,7 @@ use Rattle.round_core.proofs.Counts.{are_numbers}
 use Rattle.round_core.proofs.book.RoundBook.close_par.Goals as goal
 
 pub count_by_threads-requires-clause-into : goal.count_by_threads-requires-clause-into
-count_by_threads-requires-clause-into g c κs within =
-    let book = c.self.inside in
-    let value : BookValue = record { round = book.round; cut = book.cut.now; labels = book.labels.now; taken = book.taken.items; answers = book.answers.items } in
-    let items = c.into_numbers-numbers in
-    can_close value book.end_labels _ book.picks c.as_slice.result.now items.result.items c.as_mut_slice.result.now c.self.invariant c.as_slice.ensures.value c.as_mut_slice.ensures.value items.ensures.each_vertex items.ensures.none
+count_by_threads-requires-clause-into g c κs within = search (arith, can_close)
 
 pub of_numbers-requires : goal.of_numbers-requires
 of_numbers-requires g c =

@@ -1,14 +1,11 @@
-use Rattle.std.proofs.Common.{sym, subst}
+use Rattle.std.proofs.Common.{sym, subst, arith}
 use Rattle.round_core.specs.Picks.{ArePicksOfHearings}
 use Rattle.round_core.specs.Solver.{Progress, so_far}
 use Rattle.round_core.proofs.Merging.{still_vertices, goes_on_with}
 use Rattle.round_core.proofs.solver.Solver.step.Goals as goal
 
 pub keep-requires : goal.keep-requires
-keep-requires g c =
-    let p : Progress = so_far c.self.inside.labels c.self.inside.taken.items c.self.inside.rounds in
-    let q : Progress = so_far c.merge_by.new.labels c.merge_by.new.taken.items c.merge_by.new.rounds in
-    rw c.merge_by.ensures.roots (still_vertices p q c.args.picks.now _ c.in-Merged.field-0 c.in-Merged.is c.in_ok-turn.ensures.turn c.self.inside.roots c.as_slice.result.now c.self.invariant.1 c.as_slice.ensures.labels)
+keep-requires g c = search (arith, still_vertices)
 
 pub invariant_of-self-2 : goal.invariant_of-self-2
 invariant_of-self-2 g c =

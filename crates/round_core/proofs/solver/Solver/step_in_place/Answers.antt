@@ -1,4 +1,4 @@
-use Rattle.std.proofs.Common.{length, sym, subst}
+use Rattle.std.proofs.Common.{length, sym, subst, arith}
 use Rattle.round_core.specs.Picks.{ArePicksOfHearings}
 use Rattle.round_core.specs.Solver.{Progress, so_far}
 use Rattle.round_core.proofs.Naming.{roots_within}
@@ -7,16 +7,10 @@ use Rattle.round_core.proofs.Giving.{all_at_roots}
 use Rattle.round_core.proofs.solver.Solver.step_in_place.Goals as goal
 
 pub clear-requires : goal.clear-requires
-clear-requires g c =
-    let p : Progress = so_far c.self.inside.labels c.self.inside.taken.items c.self.inside.rounds in
-    let picks : ArePicksOfHearings p.labels c.args.picks.now = subst (λ (r : Progress). ArePicksOfHearings r.labels c.args.picks.now) (sym c.self.view_is) c.requires.picks in
-    rw c.merge_by.ensures.roots (roots_within p.labels c.self.inside.roots (length c.args.picks.now) picks.1.each_vertex c.self.invariant.1)
+clear-requires g c = search (arith, roots_within)
 
 pub keep-requires : goal.keep-requires
-keep-requires g c =
-    let p : Progress = so_far c.self.inside.labels c.self.inside.taken.items c.self.inside.rounds in
-    let q : Progress = so_far c.merge_by.new.labels c.merge_by.new.taken.items c.merge_by.new.rounds in
-    rw c.merge_by.ensures.roots (still_vertices p q c.args.picks.now _ c.in-Merged.field-0 c.in-Merged.is c.in_ok-turn.ensures.turn c.self.inside.roots c.as_slice.result.now c.self.invariant.1 c.as_slice.ensures.labels)
+keep-requires g c = search (arith, still_vertices)
 
 pub invariant_of-self-2 : goal.invariant_of-self-2
 invariant_of-self-2 g c =

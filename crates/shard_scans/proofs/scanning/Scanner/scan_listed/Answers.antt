@@ -1,4 +1,4 @@
-use Rattle.std.proofs.Common.{ℕ, List, sym, subst}
+use Rattle.std.proofs.Common.{ℕ, List, sym, subst, arith}
 use Rattle.links.specs.Labels.{AreLabels}
 use Rattle.shard_scans.specs.Live.{AreLiveLinks, packed}
 use Rattle.shard_scans.specs.Numbers.{shown}
@@ -7,10 +7,7 @@ use Rattle.shard_scans.proofs.Packed.{packed_live, packed_own}
 use Rattle.shard_scans.proofs.scanning.Scanner.scan_listed.Goals as goal
 
 pub renumber-requires-clause-ends : goal.renumber-requires-clause-ends
-renumber-requires-clause-ends g c =
-    let old = shown c.args.listed.now.names.items c.args.listed.now.links.items in
-    live_ends c.args.links.now c.as_slice-labels.result.now old
-    (subst (λ (t : List ℕ). AreLiveLinks c.args.links.now t old) (sym c.as_slice-labels.ensures.labels) c.requires.listed.live)
+renumber-requires-clause-ends g c = search (arith, live_ends)
 
 pub offers_of_listed-requires-clause-live : goal.offers_of_listed-requires-clause-live
 offers_of_listed-requires-clause-live g c =

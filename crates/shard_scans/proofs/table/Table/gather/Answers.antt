@@ -24,8 +24,4 @@ loop-before-preserved g c =
     ]
 
 pub returns : goal.returns
-returns g c =
-    let bests = c.as_slice-bests.result.now in
-    let end : c.loop-before.before + 1 ≡ length bests + 1 = omega (arith, c.loop-before-test.false, c.loop-before.auto.before-end) in
-    let all = subst (λ n. ArePlacesBelow bests n c.loop-before.pairs.items) end c.loop-before.invariant in
-    record { places = subst (λ t. ArePlacesBelow t (length t + 1) c.loop-before.pairs.items) (c.as_slice-bests.ensures.value ∙ c.self.view_is) all }
+returns g c = search arith

@@ -1,4 +1,4 @@
-use Rattle.std.proofs.Common.{refl, sym}
+use Rattle.std.proofs.Common.{refl, sym, arith}
 use Rattle.std.proofs.lemmas.Result.{err_from_is_err_and}
 use Rattle.wires.proofs.OneAsk.{hello_came, unsent_ask, asked_so_far, asked_of, cause_of}
 use Rattle.wires.proofs.client.Client.ask.Goals as goal
@@ -22,5 +22,4 @@ returns-in_err-send_ask-clause-cause g c =
     rw (p.1, p.2, sym c.self.view_is) (unsent_ask g.L.Line.state c.args.round c.args.shard c.args.labels.now _ _ _ c.shard-part.result.number _ _ _ _ c.shard-part.ensures.number c.shard-part.ensures.links c.in_ok-version.ensures.went greeted c.in_ok-check_version.ensures.has c.in_ok-send_shard.ensures.went c.in_err-send_ask.ensures.fault)
 
 pub returns-clause-faithful : goal.returns-clause-faithful
-returns-clause-faithful g c =
-    rw (sym c.self.view_is) (λ w faithful. c.hear_answer.ensures.faithful w (c.in_ok-send_ask.ensures.faithful w (c.in_ok-send_shard.ensures.faithful w (c.in_ok-version.ensures.faithful w faithful))))
+returns-clause-faithful g c = search arith

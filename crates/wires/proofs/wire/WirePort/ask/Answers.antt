@@ -1,4 +1,4 @@
-use Rattle.std.proofs.Common.{◌≡◌, ◌<◌, ◌+◌, [], ◌∷◌, ◌++◌, refl, sym, ap, subst, rules}
+use Rattle.std.proofs.Common.{◌≡◌, ◌<◌, ◌+◌, [], ◌∷◌, ◌++◌, refl, sym, ap, subst, rules, arith}
 use Rattle.std.specs.Prelude.{true, length}
 use Rattle.round_theory.specs.Exchanges.{exchange_of}
 use Rattle.wires.proofs.Asking.{exchanged_more}
@@ -49,17 +49,10 @@ returns-in-Err-clause-sound_fault g c =
     (λ ends exchanges. failed g.L.Line.state c.args.round c.args.shard c.args.labels.now _ _ in_cut live refl refl c.in-Err.fault c.in-Err.ensures.cause _ _ ends exchanges (not_closed g.L.Line.state c.args.round c.args.shard c.args.labels.now _ _ c.in-Err.fault c.in-Err.ensures.cause) refl c.ask.ensures.cut c.ask.ensures.worker (ap (λ n. c.self.inside.failures + n) c.failure_of.ensures) (ap (λ n. c.self.inside.wants + n) c.want_of.ensures))
 
 pub returns-in-Ok-clause-counted : goal.returns-in-Ok-clause-counted
-returns-in-Ok-clause-counted g c =
-    let live : c.self.inside.is_open ≡ true = search rules in
-    let more = answer_counted g.L.Line.state c.args.round c.args.shard c.args.labels.now _ _ c.in-Ok.answer c.in-Ok.ensures.asked in
-    rw (sym c.self.view_is) (λ start. quiet_more g.L.Line.state _ _ start live more refl refl)
+returns-in-Ok-clause-counted g c = search (arith, answer_counted, quiet_more)
 
 pub returns-in-Err-clause-counted : goal.returns-in-Err-clause-counted
-returns-in-Err-clause-counted g c =
-    let live : c.self.inside.is_open ≡ true = search rules in
-    let cause = cause_counted g.L.Line.state c.args.round c.args.shard c.args.labels.now _ _ c.in-Err.fault c.in-Err.ensures.cause in
-    rw (sym c.self.view_is)
-    (λ start. faulted_more g.L.Line.state _ _ start live c.in-Err.fault cause refl (ap (λ n. c.self.inside.failures + n) c.failure_of.ensures) (ap (λ n. c.self.inside.wants + n) c.want_of.ensures))
+returns-in-Err-clause-counted g c = search (arith, cause_counted, faulted_more)
 
 pub returns-in-Err-clause-blameless : goal.returns-in-Err-clause-blameless
 returns-in-Err-clause-blameless g c =
