@@ -1,5 +1,5 @@
 """What README, docs/RECIPES.md and the manual page show, run as it stands there; the session that docs/PROTOCOL.md
-shows; README's call of a library; what the manual page, the promises and the map name; how long pages and their parts are."""
+shows; README's call of a library; what the manual page, the promises and the map name; how long sentences are."""
 import glob
 import gzip
 import math
@@ -603,27 +603,10 @@ def the_manual_page_names_what_the_help_does(_room):
         expect(run(["groff", "-man", "-Tutf8", "-ww", "-z", f"{ROOT}/man/boruvka.1"]), 0, b"", b"")
 
 
-# how many words a document may have, without what it shows word for word
-MOST_WORDS = {
-    "README.md": 900,
-    "man/boruvka.1": 1000,
-    "docs/RECIPES.md": 700,
-    "docs/GR_FORMAT.md": 550,
-    "docs/PROTOCOL.md": 800,
-    "SECURITY.md": 250,
-    "docs/PROMISES.md": 2000,
-    # with all that it quotes and names
-    "docs/HEADLINE.md": 1600,
-    "docs/ARCHITECTURE.md": 1400,
-    "docs/DECISIONS.md": 2000,
-    "docs/PERFORMANCE.md": 700,
-    "CONTRIBUTING.md": 800,
-    "CHANGELOG.md": 250,
-    "python/README.md": 700,
-    "python/PARTS.md": 350,
-}
-# and how many a paragraph, a bullet or a cell of a table, and how many a sentence
-MOST_AT_ONCE = 60
+# the documents whose prose is looked at
+DOCUMENTS = ["README.md", "SECURITY.md", "CONTRIBUTING.md", "CHANGELOG.md", "man/boruvka.1", "python/README.md", "python/PARTS.md"]
+DOCUMENTS += [f"docs/{name}.md" for name in ("ARCHITECTURE", "DECISIONS", "GR_FORMAT", "HEADLINE", "PERFORMANCE", "PROMISES", "PROTOCOL", "RECIPES")]
+# how many words a sentence may have
 MOST_IN_A_SENTENCE = 30
 
 
@@ -655,17 +638,15 @@ def thoughts(name):
 
 
 @case
-def the_documents_are_short(_room):
+def the_sentences_are_short(_room):
     long = []
-    for name, most in MOST_WORDS.items():
-        count, parts = len((text_of if name == "docs/HEADLINE.md" else prose_of)(name).split()), thoughts(name)
-        if count > most:
-            long.append(f"{name} has {count} words, and may have {most}")
+    for name in DOCUMENTS:
+        parts = thoughts(name)
         if len(parts) < 5:
-            long.append(f"of {name} only {len(parts)} paragraphs, bullets and cells were found")
-        sentences = [sentence for it in parts for sentence in re.split(r"(?<=[.?!:])\s", it)]
-        for what, texts, limit in [("at once", parts, MOST_AT_ONCE), ("in a sentence", sentences, MOST_IN_A_SENTENCE)]:
-            long += [f"{name} has {len(it.split())} words {what}: {it:.90}" for it in texts if len(it.split()) > limit]
+            long.append(f"only {len(parts)} paragraphs, bullets and cells were found in {name}")
+        for sentence in [it for part in parts for it in re.split(r"(?<=[.?!:])\s", part)]:
+            if len(sentence.split()) > MOST_IN_A_SENTENCE:
+                long.append(f"{name} has {len(sentence.split())} words in a sentence: {sentence:.90}")
     if long:
         raise AssertionError("\n    ".join(long))
 
