@@ -644,7 +644,7 @@ def the_sentences_are_short(_room):
         parts = thoughts(name)
         if len(parts) < 5:
             long.append(f"only {len(parts)} paragraphs, bullets and cells were found in {name}")
-        for sentence in [it for part in parts for it in re.split(r"(?<=[.?!:])\s", part)]:
+        for sentence in [it for part in parts for it in re.split(r"(?<=[.?!:])(?:\*\*)?\s", part)]:
             if len(sentence.split()) > MOST_IN_A_SENTENCE:
                 long.append(f"{name} has {len(sentence.split())} words in a sentence: {sentence:.90}")
     if long:
