@@ -72,11 +72,14 @@ run: $(PROGRAM)
 	@$(PROGRAM) examples/small.gr
 
 lib: $(LIBRARY).a $(LIBRARY).so $(WITHIN)
+	@echo 'built $(LIBRARY).a, $(LIBRARY).so and $(WITHIN)'
 
 wasm: $(WASM)
+	@echo 'built $(WASM)'
 
 page: $(WASM)
 	@python3 tools/page.py $(WASM) dist/boruvka.html
+	@echo 'built dist/boruvka.html'
 
 test:
 	@python3 tests/gate.py
@@ -175,7 +178,7 @@ $(WASM): $(SOURCES)
 # library of that toolchain has the same lines.
 # (`rt` writes through no symbolic link, so the three names of the shared library are one file here)
 $(LIBRARY).a: $(SOURCES)
-	@python3 tools/toolchain.py
+	@python3 tools/toolchain.py '$(CC)' ar objcopy
 	@rm -f $(LIBRARY).so $(LIBRARY).so.*
 	@python3 tools/prove.py boruvka_c
 	@cd $(@D) && ar x "$$(dirname "$$($(RT) doc)")/c/liblibc_c.a" heap.pic.o

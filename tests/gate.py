@@ -4,18 +4,26 @@
 It shows what they print but their last lines, how long it took, and then each case that was skipped, with its reason.
 The last line is `N passed, M failed` over all, and no other such line stands after `rt ci`'s. The status is 0 only if
 nothing failed; then what was passed is kept for a release (tools/record.py).
+
+`rt ci` removes what `make` built. What isn't built again by the end is put back as it was, also after an interruption.
 """
+import contextlib
+import glob
 import os
 import re
 import resource
+import shutil
 import subprocess
 import sys
+import tempfile
 import time
 
 HERE = os.path.dirname(os.path.realpath(__file__))
 ROOT = os.path.dirname(HERE)
 PROGRAM = "crates/boruvka/out/boruvka"
 LAST = re.compile(r"(\d+) passed, (\d+) failed\n?")
+# What `make` builds.
+BUILT = ("crates/boruvka/out/boruvka", "crates/bench/out/bench", "crates/boruvka_c/out/libboruvka.*", "crates/boruvka_within/out/libboruvka_within.a", "crates/boruvka_within/out/boruvka.wasm")
 SKIPPED = re.compile(r"(\w+: .*): skipped: (.*)\n?")
 sys.dont_write_bytecode = True
 sys.path.insert(0, f"{ROOT}/tools")
@@ -39,6 +47,23 @@ def shown(words, skipped):
     return started.returncode, told
 
 
+@contextlib.contextmanager
+def what_was_built():
+    """Puts back at the end what was built before, unless something stands in its place by then."""
+    inside = f"{ROOT}/.git" if os.path.isdir(f"{ROOT}/.git") else None
+    with tempfile.TemporaryDirectory(prefix="built-", dir=inside) as aside:
+        paths = [it for pattern in BUILT for it in glob.glob(f"{ROOT}/{pattern}")]
+        for number, path in enumerate(paths):
+            shutil.copy2(path, f"{aside}/{number}")
+        try:
+            yield
+        finally:
+            for number, path in enumerate(paths):
+                if not os.path.lexists(path) and os.path.isdir(os.path.dirname(os.path.dirname(path))):
+                    os.makedirs(os.path.dirname(path), exist_ok=True)
+                    shutil.copy2(f"{aside}/{number}", path)
+
+
 def minutes_since(begun):
     used = resource.getrusage(resource.RUSAGE_CHILDREN)
     return f"{(used.ru_utime + used.ru_stime) / 60:.0f} processor minutes, {(time.monotonic() - begun) / 60:.0f} minutes"
@@ -59,8 +84,9 @@ def by_reason(skipped):
 
 
 def main():
-    if not toolchain.is_there():
-        print(toolchain.MISSING, file=sys.stderr)
+    why = toolchain.problem()
+    if why:
+        print(why, file=sys.stderr)
         print("0 passed, 1 failed")
         return 1
     record, begun, skipped = Gate(), time.monotonic(), []
@@ -84,4 +110,9 @@ def main():
 
 
 if __name__ == "__main__":
-    sys.exit(main())
+    try:
+        with what_was_built():
+            sys.exit(main())
+    except KeyboardInterrupt:
+        print("interrupted; run the same command to continue", file=sys.stderr)
+        sys.exit(130)

@@ -25,7 +25,6 @@ import argparse
 import os
 import re
 import resource
-import shlex
 import shutil
 import signal
 import subprocess
@@ -41,14 +40,19 @@ ROOT = os.path.dirname(os.path.dirname(os.path.realpath(__file__)))
 sys.dont_write_bytecode = True
 sys.path.insert(0, f"{ROOT}/tools")
 
+import toolchain
 from crates import below, crate_lines
+from toolchain import RT
 
-RT = shlex.split(os.environ.get("RT", "rt"))
 FUNCTION = re.compile(r'(?m)^( *)(?:pub(?:\([^)]*\))? )?(?:const )?(?:unsafe )?(?:ghost )?(?:extern "C" )?fn (\w+)')
 # What a proof file says where it names something that the edit took away.
 NAMES_ALONE = re.compile(r"has no field|is not in scope|has no `|was not admitted")
 EACH = 4_000_000_000  # bytes of free memory for each crate that is tried
 RUNNING, STOPPED = set(), threading.Event()
+
+
+class Interrupted(Exception):
+    pass
 
 
 @dataclass
@@ -137,12 +141,14 @@ def packed(edits, texts):
 def ran(flags, folder):
     """The status of `rt check` and what it says."""
     if STOPPED.is_set():
-        sys.exit(143)
+        raise Interrupted
     how = {"stdin": subprocess.DEVNULL, "stdout": subprocess.PIPE, "stderr": subprocess.STDOUT, "errors": "replace"}
     with subprocess.Popen([*RT, "check", *flags], cwd=folder, **how) as check:
         RUNNING.add(check)
         said = check.communicate()[0]
         RUNNING.discard(check)
+    if STOPPED.is_set():
+        raise Interrupted
     return check.returncode, said
 
 
@@ -309,6 +315,10 @@ def main():
     if missing:
         print(f"tests/wrong_bodies.py: {missing[0]}", file=sys.stderr)
         return 2
+    why = toolchain.problem()
+    if why:
+        print(why, file=sys.stderr)
+        return 1
     names = [name for name in words.crates or lines if name in changed]
     if not names:
         say(f"no crate changed since {words.since}\n0 wrong bodies refused, 0 survived")
@@ -342,4 +352,7 @@ def main():
 
 
 if __name__ == "__main__":
-    sys.exit(main())
+    try:
+        sys.exit(main())
+    except Interrupted:
+        sys.exit("interrupted")

@@ -220,12 +220,29 @@ def alone_in(crates):
             os.close(it)
 
 
+def recover(plan):
+    """Gives the crates back what `rt ci` set aside and had no time to give back, if it was killed; it knows whether it still runs
+    by a lock of its own."""
+    aside, lock = f"{ROOT}/.git/rt-aside", f"{ROOT}/.git/rt-ci.lock"
+    if not os.path.isdir(aside) or os.path.islink(aside):
+        return
+    with contextlib.suppress(OSError), open(lock, "w", encoding="utf-8") as held:
+        fcntl.flock(held, fcntl.LOCK_EX | fcntl.LOCK_NB)
+        for name in plan.names:
+            for part in ("incremental", "rlib"):
+                one, other = f"{aside}/{name}/{part}", f"{ROOT}/crates/{name}/out/{part}"
+                if os.path.isdir(one) and not os.path.lexists(other):
+                    os.makedirs(os.path.dirname(other), exist_ok=True)
+                    shutil.move(one, other)
+
+
 def prove_libraries(plan, progress):
     rooms = f"{ROOT}/.git/rooms" if os.path.isdir(f"{ROOT}/.git") else f"{ROOT}/crates/{plan.top}/out/rooms"
     with alone_in(plan.names):
         # what a run that was killed left
         for crate in os.listdir(rooms) if os.path.isdir(rooms) else []:
             put_back(crate, f"{rooms}/{crate}")
+        recover(plan)
         running, done = {}, set()
         try:
             while len(done) < len(plan.names) - 1:
@@ -330,8 +347,9 @@ def main(words):
     if is_dry:
         show_order(plan)
         return 0
-    if not toolchain.is_there():
-        print(toolchain.MISSING, file=sys.stderr)
+    why = toolchain.problem()
+    if why:
+        print(why, file=sys.stderr)
         return 1
     signal.signal(signal.SIGTERM, lambda *_: sys.exit(143))
     print(f"proves {len(plan.names)} crates, then builds; {OF_LIBRARIES.get(top, ELSEWHERE)}", file=sys.stderr, flush=True)
@@ -345,7 +363,7 @@ def main(words):
         return 1
     except KeyboardInterrupt:
         progress.end()
-        print("cut off; the same words go on from here", file=sys.stderr)
+        print("interrupted; run the same command to continue", file=sys.stderr)
         return 130
     progress.end()
     return 0

@@ -6,9 +6,11 @@ import json
 import os
 import re
 import shutil
+import signal
 import stat
 import subprocess
 import sys
+import time
 
 import wrong_bodies
 from crates import crate_lines
@@ -129,6 +131,42 @@ def the_gate_keeps_what_a_commit_passed(room):
     expect(os.path.exists(f"{room}/{record}"), False)
 
 
+@case
+def the_gate_puts_back_what_was_built(room):
+    it = Gated(room)
+    it.put("crates/boruvka_c/out/libboruvka.so.1", "an old one")
+    it.put("crates/boruvka_within/out/boruvka.wasm", "a module")
+    removes = f"rm -r '{room}/crates/boruvka_c/out' '{room}/crates/boruvka_within/out'"
+    for name in ("program", "web"):
+        it.put(f"tests/{name}.py", "print('1 passed, 0 failed')\n")
+    # once with nothing built again, once with one of them
+    for again, wanted in [("", "an old one"), (f"mkdir '{room}/crates/boruvka_c/out'; echo new > '{room}/crates/boruvka_c/out/libboruvka.so.1'", "new\n")]:
+        it.put_program("removes", f"{removes}\n{again}")
+        it.put("crates/boruvka_c/out/libboruvka.so.1", "an old one")
+        it.put_program("bin/rt", f"[ \"$*\" = ci ] || exit 9\n'{room}/removes'\necho '12 passed, 0 failed'")
+        env = {**os.environ, "PATH": f"{room}/bin:{os.environ['PATH']}", "RT": "rt"}
+        subprocess.run([sys.executable, f"{room}/tests/gate.py"], env=env, stdin=subprocess.DEVNULL, capture_output=True, timeout=SECONDS, check=False)
+        expect((it.read("crates/boruvka_c/out/libboruvka.so.1"), it.read("crates/boruvka_within/out/boruvka.wasm")), (wanted, "a module"))
+
+
+@case
+def an_interrupted_run_says_so_in_one_line(room):
+    gate, chain, bodies = Gated(f"{room}/gate"), Chain(f"{room}/chain"), Bodies(f"{room}/bodies")
+    bodies.put_edit("a", turned("give(1)", "give(7)"))
+    go_on = "interrupted; run the same command to continue"
+    for folder, words, told in [(gate, ["tests/gate.py"], go_on), (chain, ["tools/prove.py", "program"], go_on), (bodies, ["tests/wrong_bodies.py"], "interrupted")]:
+        folder.put_program("waits", f"[ $1 = version ] && exit 0\ntouch '{folder.room}/begun'\nexec sleep 60")
+        command = [sys.executable, *(f"{folder.room}/{it}" if "/" in it else it for it in words)]
+        how = {"stdin": subprocess.DEVNULL, "stdout": subprocess.PIPE, "stderr": subprocess.STDOUT, "text": True, "start_new_session": True}
+        with subprocess.Popen(command, env={**os.environ, "RT": f"{folder.room}/waits"}, **how) as begun:
+            until = time.monotonic() + SECONDS
+            while not os.path.exists(f"{folder.room}/begun") and time.monotonic() < until:
+                time.sleep(0.05)
+            os.killpg(begun.pid, signal.SIGINT)
+            said = begun.communicate(timeout=SECONDS)[0].splitlines()
+        expect((words, begun.returncode != 0, said[-1:], [it for it in said if "Traceback" in it]), (words, True, [told], []))
+
+
 class Begun(Folder):
     """One with .ci/run alone, and stand-ins for what it calls; `calls` has the calls of apt-get."""
 
@@ -186,7 +224,7 @@ class Made(Folder):
 
     def __init__(self, room):
         tools = [f"tools/{it}" for it in os.listdir(f"{ROOT}/tools") if it.endswith(".py")]
-        super().__init__(room, ["Makefile", "crates.txt", "tests/gate.py", "crates/program_words/src/version.rt", *tools])
+        super().__init__(room, ["Makefile", "crates.txt", "tests/gate.py", "tests/wrong_bodies.py", "crates/program_words/src/version.rt", *tools])
         self.put("crates/boruvka/src/main.rt", "")
         for name in ("libboruvka.a", "libboruvka.so"):
             self.put(f"crates/boruvka_c/out/{name}", "")
@@ -203,12 +241,44 @@ class Made(Folder):
 def what_needs_the_toolchain_says_so(room):
     it = Made(room)
     said = "To prove and build, the Rattle toolchain's command `no-such-command` has to be on the PATH: see the README."
-    for target in ("try", "run", "lib", "wasm", "test"):
-        status, output, errors = it.make(target, "no-such-command")
-        told = [line for line in errors.splitlines() if not line.startswith("make: ")]
-        expect((target, status != 0, told, output), (target, True, [said], "0 passed, 1 failed\n" if target == "test" else ""))
+    old = it.room + "/old"
+    it.put_program("old", "echo rattle-kit-13a logic 0")
+    too_old = "The Rattle toolchain is rattle-kit-13a, which is too old: rattle-kit-13b or later is needed."
+    for target in ("try", "run", "lib", "wasm", "test", "wrong"):
+        for rt, wanted in [("no-such-command", said), (old, too_old)]:
+            status, output, errors = it.make(target, rt)
+            told = [line for line in errors.splitlines() if not line.startswith("make: ")]
+            expect((target, status != 0, told, output), (target, True, [wanted], "0 passed, 1 failed\n" if target == "test" else ""))
     # nothing that was built is lost by it
     expect(sorted(os.listdir(f"{room}/crates/boruvka_c/out")), ["libboruvka.a", "libboruvka.so"])
+
+
+@case
+def the_release_of_the_toolchain_is_compared(room):
+    it = Folder(room, ["tools/toolchain.py"])
+    for printed, is_old in [
+        ("rattle-kit-13b logic 0", False), ("rattle-kit-13f logic 0", False), ("rattle-kit-14 logic 0", False), ("rattle-kit-13a", True),
+        ("rattle-kit-13", True), ("rattle-kit-9z", True), ("another toolchain", False),
+    ]:
+        it.put_program("rt", f"[ $1 = version ] && echo {printed}")
+        words = [sys.executable, f"{room}/tools/toolchain.py"]
+        ended = subprocess.run(words, env={**os.environ, "RT": f"{room}/rt"}, capture_output=True, text=True, timeout=SECONDS, check=False)
+        expect((printed, ended.returncode, "is too old" in ended.stderr), (printed, int(is_old), is_old))
+
+
+@case
+def what_a_library_needs_is_looked_for_first(room):
+    it = Made(room)
+    it.put_program("bin/rt", f"echo called >> '{room}/calls'")
+    for name in ("make", "python3", "find", "sed", "sh", "rm", "cc", "ar", "objcopy"):
+        os.symlink(shutil.which(name), f"{room}/bin/{name}")
+    for name, wanted in [("objcopy", "`objcopy` has to be on the PATH (it is part of binutils)"), ("ar", "`ar` has to be on the PATH (it is part of binutils)"), ("cc", "`cc` has to be on the PATH.")]:
+        os.remove(f"{room}/bin/{name}")
+        ended = subprocess.run(["make", "-C", room, "lib"], env={"PATH": f"{room}/bin", "RT": f"{room}/bin/rt"}, capture_output=True, text=True, timeout=SECONDS, check=False)
+        expect((name, ended.returncode != 0, wanted in ended.stderr), (name, True, True))
+        os.symlink(shutil.which(name), f"{room}/bin/{name}")
+    # the toolchain was asked for its release alone
+    expect(it.read("calls"), "called\n" * 3)
 
 
 @case
@@ -238,6 +308,8 @@ def a_try_has_the_forest_of_the_example(_room):
 # `run` writes what it is given to out/ran.
 RT = r"""
 import os, re, sys, time
+if sys.argv[1] == "version":
+    sys.exit()
 crate, calls = os.path.basename(os.getcwd()), os.environ["CALLS"]
 with open(calls, "a", encoding="utf-8") as it:
     it.write(f"{' '.join(sys.argv[1:])}: {crate}\n")
@@ -315,6 +387,18 @@ def a_program_and_a_static_library_come_after_what_they_stand_on(room):
 
 
 @case
+def what_a_killed_check_set_aside_is_found_again(room):
+    it = Chain(room)
+    it.put(".git/rt-aside/left/rlib/from_before", "")
+    it.put(".git/rt-aside/left/incremental/from_before", "")
+    it.put("crates/low/out/rlib/newer", "")
+    it.put(".git/rt-aside/low/rlib/older", "")
+    expect(it.run(["program"])[0], 0)
+    found = [os.path.isfile(f"{room}/crates/{path}") for path in ("left/out/rlib/from_before", "left/out/incremental/from_before", "low/out/rlib/newer", "low/out/rlib/older")]
+    expect(found, [True, True, True, False])
+
+
+@case
 def nothing_is_proved_over_a_crate_that_is_not(room):
     it = Chain(room)
     status, told, calls = it.run(["program"], BAD="left", MEET="left right")
@@ -337,6 +421,8 @@ def nothing_is_proved_over_a_crate_that_is_not(room):
 # CALLS. Of a copy, it ends as ENDS says (a status and a last line).
 PROVER = r"""
 import os, re, sys
+if sys.argv[1] == "version":
+    sys.exit()
 is_copy, wrong = "/wrong-bodies-" in os.getcwd(), False
 with open(os.environ["CALLS"], "a", encoding="utf-8") as calls:
     calls.write(f"{os.getpid()} {os.path.basename(os.getcwd())}\n")
@@ -386,7 +472,7 @@ class Bodies(Folder):
     """One with the crates `small`, of three functions, and `other`, of one."""
 
     def __init__(self, room):
-        super().__init__(room, ["tests/wrong_bodies.py", "tools/crates.py"])
+        super().__init__(room, ["tests/wrong_bodies.py", "tools/crates.py", "tools/toolchain.py"])
         self.put("crates.txt", "small:\nother: small\n")
         self.put("prover.py", PROVER)
         self.put("crates/small/src/lib.rt", function("one", 1) + function("two", 2) + function("three", 3))
