@@ -45,22 +45,22 @@ FISH_COMPLETIONS = $(call quoted,$(DESTDIR)$(FISHDIR))
 .NOTPARALLEL:
 
 help:
-	@echo 'make try        runs the program on examples/small.gr before any proof, with checks of memory, in about two minutes'
-	@echo 'make run        proves and builds the program, and runs it on examples/small.gr'
-	@echo 'make lib        proves and builds libboruvka.a, libboruvka.so and libboruvka_within.a, beside it; needs a C compiler and binutils'
-	@echo 'make wasm       proves and builds the WebAssembly module boruvka.wasm, beside libboruvka_within.a'
-	@echo 'make page       packs the page of web/ with the module into dist/boruvka.html, which a browser opens'
-	@echo 'make test       the gate: all proofs, the wrong bodies of must-fail/, the tests, the program whole'
-	@echo 'make web-test   tries the page; needs Chromium, its driver, Node and the module'
-	@echo 'make wrong      tries the wrong bodies of wrong-bodies/, many at a time; SINCE=origin/main those of crates changed since'
-	@echo 'make soak       tries the program on drawn cases, MINUTES=$(MINUTES) long; needs Python 3 and a C compiler'
-	@echo 'make install    copies what is built, with header, manual page, completions, licence and documents, below PREFIX=$(PREFIX);'
-	@echo '                BINDIR, LIBDIR, INCLUDEDIR, MANDIR and DOCDIR name other folders, DESTDIR a root that stands before all'
-	@echo 'make uninstall  takes them away; it wants the same words'
-	@echo 'make dist       proves, builds and packs version $(VERSION) into dist/: a .tar.gz, a wheel for Python, and a .deb where dpkg-deb is;'
-	@echo '                refused before `make test` has passed on the commit, unless UNPROVED=1 stands behind it'
-	@echo 'make bench      times it beside a C++ program; needs Python 3, a C++17 compiler and GNU time'
-	@echo 'make clean      removes what was built and what checks kept (out/ of each crate), and dist/: the next run proves all anew'
+	@echo 'make run        prove and build the program, and run it on examples/small.gr'
+	@echo 'make test       prove and test everything, as CI does'
+	@echo 'make try        run the program on examples/small.gr without any proof, with memory checks; takes about two minutes'
+	@echo 'make lib        prove and build libboruvka.a, libboruvka.so and libboruvka_within.a; needs a C compiler and binutils'
+	@echo 'make wasm       prove and build the WebAssembly module boruvka.wasm'
+	@echo 'make page       pack the web page with the module into dist/boruvka.html, which a browser opens'
+	@echo 'make install    copy what is built, with header, manual page, completions, licence and documents, below PREFIX=$(PREFIX);'
+	@echo '                BINDIR, LIBDIR, INCLUDEDIR, MANDIR and DOCDIR name other folders, DESTDIR is put before each of them'
+	@echo 'make uninstall  remove what was installed; pass the same variables'
+	@echo 'make dist       prove, build and pack version $(VERSION) into dist/: a .tar.gz, a wheel for Python, and a .deb if there is dpkg-deb;'
+	@echo '                it needs `make test` to have passed on this commit, or UNPROVED=1'
+	@echo 'make wrong      try the wrong bodies of wrong-bodies/; SINCE=origin/main tries those of the crates that changed since'
+	@echo 'make web-test   test only the page; needs Chromium with its driver, Node and the module'
+	@echo 'make soak       compare the program with a reference on random cases for MINUTES=$(MINUTES); needs Python 3 and a C compiler'
+	@echo 'make bench      compare its speed with a C++ program; needs Python 3, a C++17 compiler and GNU time'
+	@echo 'make clean      remove what was built, what was proved (out/ of each crate) and dist/'
 
 # (`rt try` keeps no file, and gives the program no other than those it is told of)
 try:
