@@ -11,13 +11,14 @@
 //! Where to start a change: another step, here; `benches/run.py` and `benches/marks.py` read the three times.
 #![tactic(auto)]
 
+use byte_streams::Uncounted;
 use gr_text::{read_graph, write_forest};
 use link_key::forest_of;
 use std::time::Instant;
 
 fn main(rt: HostRuntime) -> anyhow::Result<()> {
     let start = Instant::now(&rt)?;
-    let graph = read_graph(rt.alloc(), &mut rt.stdin())?;
+    let graph = read_graph(rt.alloc(), &mut Uncounted(rt.stdin()))?;
     let read = start.elapsed(&rt)?;
 
     let n = graph.n();
@@ -26,7 +27,7 @@ fn main(rt: HostRuntime) -> anyhow::Result<()> {
     let solved = start.elapsed(&rt)?;
 
     let start = Instant::now(&rt)?;
-    write_forest(&mut rt.stdout(), n, &forest)?;
+    write_forest(&mut Uncounted(rt.stdout()), n, &forest)?;
     let written = start.elapsed(&rt)?;
 
     eprintln!(&rt;

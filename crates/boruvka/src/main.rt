@@ -29,11 +29,12 @@ mod standard;
 #[cfg(test)]
 mod tests;
 
+use byte_streams::Uncounted;
 use std::process::ExitCode;
 use std::{env, io};
 
 fn main(rt: HostRuntime) -> ExitCode {
-    let mut errors = rt.stderr();
+    let mut errors = Uncounted(rt.stderr());
     let words = match env::args(&rt) {
         Ok(words) => program_words::all_words(rt.alloc(), words).map_err(io::Error::from),
         Err(error) => Err(error),
@@ -42,10 +43,10 @@ fn main(rt: HostRuntime) -> ExitCode {
         Ok(words) => command::command(
             &rt,
             words.as_slice(),
-            &mut rt.stdin(),
-            &mut rt.stdout(),
+            &mut Uncounted(rt.stdin()),
+            &mut Uncounted(rt.stdout()),
             &mut errors,
-            &mut rt.stderr(),
+            &mut Uncounted(rt.stderr()),
         ),
         Err(error) => command::without_words(&error, &mut errors),
     };

@@ -1,17 +1,15 @@
-//! Files, standard streams and sockets, and a wrapper for any other reader or writer of std. Nobody
-//! counts the failures of a device, so of these none is known; nor does std say a device's bytes. So no clause sees
-//! that a device is called once, nor that its failure isn't answered as its end. That is tested: of [`Uncounted`] by
-//! readers and writers that fail once, of the others over the built program.
+//! Files, standard streams, sockets and any other reader or writer of std, all by one generic wrapper. Its clauses
+//! speak of every reader and writer, among them those whose bytes std says, so its body can't turn, drop or add a byte
+//! of any. Nobody counts the failures of a device. So no clause sees that a device is called once, nor that its failure
+//! isn't returned as its end. That is tested by readers and writers that fail once.
 ghost use Rattle.std.specs.Prelude.{◌<◌, length, None};
 ghost use Rattle.std.specs.Io.{ReadsAtMost, WritesAtMost};
 ghost use Rattle.byte_streams.specs.Streams.{only_left, only_held, ReadGave, WriteTook, FlushTook};
 
 use crate::{Failed, Sink, Source};
-use std::fs::File;
-use std::io::{Read, Stderr, Stdin, Stdout, Write};
-use std::net::TcpStream;
+use std::io::{Read, Write};
 
-/// Any other reader or writer of std. Of it the bytes are known that std says, and no failures.
+/// A reader or writer of std. Of it the bytes are known that std says, and no failures.
 #[derive(Debug, Drop)]
 pub struct Uncounted<T>(pub T);
 
@@ -59,69 +57,5 @@ impl<W: Write> Sink for Uncounted<W> {
 
     fn flush(&mut self) -> Result<(), Failed> {
         flush_of(&mut self.0)
-    }
-}
-
-impl Source for File {
-    ghost lasts = { λ _ _. Unit {0} };
-
-    fn read(&mut self, buf: &mut [u8]) -> Result<usize, Failed> {
-        read_from(self, buf)
-    }
-}
-
-impl Sink for File {
-    fn write(&mut self, buf: &[u8]) -> Result<usize, Failed> {
-        write_to(self, buf)
-    }
-
-    fn flush(&mut self) -> Result<(), Failed> {
-        flush_of(self)
-    }
-}
-
-impl Source for Stdin {
-    ghost lasts = { λ _ _. Unit {0} };
-
-    fn read(&mut self, buf: &mut [u8]) -> Result<usize, Failed> {
-        read_from(self, buf)
-    }
-}
-
-impl Sink for Stdout {
-    fn write(&mut self, buf: &[u8]) -> Result<usize, Failed> {
-        write_to(self, buf)
-    }
-
-    fn flush(&mut self) -> Result<(), Failed> {
-        flush_of(self)
-    }
-}
-
-impl Sink for Stderr {
-    fn write(&mut self, buf: &[u8]) -> Result<usize, Failed> {
-        write_to(self, buf)
-    }
-
-    fn flush(&mut self) -> Result<(), Failed> {
-        flush_of(self)
-    }
-}
-
-impl Source for TcpStream {
-    ghost lasts = { λ _ _. Unit {0} };
-
-    fn read(&mut self, buf: &mut [u8]) -> Result<usize, Failed> {
-        read_from(self, buf)
-    }
-}
-
-impl Sink for TcpStream {
-    fn write(&mut self, buf: &[u8]) -> Result<usize, Failed> {
-        write_to(self, buf)
-    }
-
-    fn flush(&mut self) -> Result<(), Failed> {
-        flush_of(self)
     }
 }

@@ -2,11 +2,11 @@
 //! [`Source`] and a [`Sink`] both stand in one value, their state, each part where it is known.
 //!
 //! ```text
-//!   &[u8]   File   Stdin   TcpStream   Uncounted(reader)       Vec   File   Stdout   TcpStream   Uncounted(writer)
-//!      \      \      |        /          /                    \     \      |        /           /
-//!                  Source::read                                          Sink::write, flush
-//!                       |                                                     |
-//!                     fill                                                   put
+//!   &[u8]   Uncounted(file, stdin, socket)          Vec   Uncounted(file, stdout, socket)
+//!       \     /                                        \     /
+//!     Source::read                                 Sink::write, flush
+//!          |                                              |
+//!        fill                                            put
 //! ```
 //!
 //! What it promises:

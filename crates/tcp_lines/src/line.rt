@@ -4,7 +4,7 @@ ghost use Rattle.std.specs.Io.{ReadsAtMost};
 ghost use Rattle.wires.specs.Lines.{HasRoom, Puts, Gets};
 ghost use Rattle.tcp_lines.specs.Lines.{line_of, unused};
 
-use byte_streams::{Source, put};
+use byte_streams::{Source, Uncounted, put};
 use std::marker::Model;
 use std::net::{Shutdown, TcpStream};
 use wires::{Line, LineFault};
@@ -67,7 +67,7 @@ impl Line for TcpLine {
 
     // The first write has the whole of `bytes`; others follow while bytes are left.
     fn put(&mut self, bytes: &[u8]) -> Result<(), LineFault> {
-        match put(&mut self.stream, bytes) {
+        match put(&mut Uncounted(&self.stream), bytes) {
             Ok(()) => Ok(()),
             Err(_) => {
                 self.failures += 1;
@@ -77,7 +77,7 @@ impl Line for TcpLine {
     }
 
     fn get(&mut self, into: &mut [u8]) -> Result<usize, LineFault> {
-        match Source::read(&mut self.stream, into) {
+        match Uncounted(&self.stream).read(into) {
             Ok(n) => {
                 if n == 0 {
                     self.ends += 1;

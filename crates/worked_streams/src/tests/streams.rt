@@ -158,13 +158,16 @@ fn devices_fail_and_end(rt: HostRuntime) {
     let mut buf = [0; 1];
     expect_same(
         &rt,
-        fill(&mut File::open(&rt, "/").expect(&rt, "a device"), &mut buf),
+        fill(
+            &mut Uncounted(File::open(&rt, "/").expect(&rt, "a device")),
+            &mut buf,
+        ),
         Err(FillFault::Failed(0)),
     );
     expect_same(
         &rt,
         fill(
-            &mut File::open(&rt, "/dev/null").expect(&rt, "a device"),
+            &mut Uncounted(File::open(&rt, "/dev/null").expect(&rt, "a device")),
             &mut buf,
         ),
         Err(FillFault::Ended(0)),
@@ -172,20 +175,25 @@ fn devices_fail_and_end(rt: HostRuntime) {
     expect_same(
         &rt,
         fill(
-            &mut File::open(&rt, "/dev/zero").expect(&rt, "a device"),
+            &mut Uncounted(File::open(&rt, "/dev/zero").expect(&rt, "a device")),
             &mut buf,
         ),
         Ok(()),
     );
-    let mut full = OpenOptions::new()
+    let full = OpenOptions::new()
         .write(true)
         .open(&rt, "/dev/full")
         .expect(&rt, "a device");
-    expect_same(&rt, put(&mut full, b"ab"), Err(PutFault { written: 0 }));
-    let mut sink = OpenOptions::new()
+    expect_same(
+        &rt,
+        put(&mut Uncounted(full), b"ab"),
+        Err(PutFault { written: 0 }),
+    );
+    let null = OpenOptions::new()
         .write(true)
         .open(&rt, "/dev/null")
         .expect(&rt, "a device");
+    let mut sink = Uncounted(null);
     expect_same(&rt, put(&mut sink, b"ab"), Ok(()));
     expect_same(&rt, sink.flush(), Ok(()));
 }
