@@ -8,7 +8,7 @@ ghost use Rattle.frames.specs.FrameStream.{texts_of};
 ghost use Rattle.frames.specs.Spellings.{spelled_in, spelling_of};
 ghost use Rattle.claim_board.specs.Shards.{has_shard};
 ghost use Rattle.wires.specs.Lines.{HasRoom};
-ghost use Rattle.wires.specs.Causes.{Receives, GreetingFault, SendingFault, LacksFrame, AnswerFault, FailsToRead, port_fault};
+ghost use Rattle.wires.specs.Causes.{Receives, FailsToGreet, SendingFault, LacksFrame, AnswerFault, FailsToRead, port_fault};
 ghost use Rattle.wires.specs.Clients.{HasFrames, hello_due, shard_put};
 ghost use Rattle.wires.specs.Steps.{Steps, SendsText};
 ghost use Rattle.wires.specs.Sending.{AwaitsLinks, BeginsShard, PutsSome};
@@ -34,8 +34,8 @@ pub fn greet<L: Line, A: Allocator + Copy>(
 ) -> Result<u16, PortFault>
     requires room { HasRoom (L.state source.old.line) }
     requires known { IfSome heard IsVersion }
-    ensures step { Steps L.Line (λ version. Receives (hello_due heard version worker))
-        (λ e before after. (heard ≡ None) × GreetingFault e worker before after) result source.old.line source.new.line }
+    ensures step { Steps L.Line (λ version. Receives (hello_due heard version worker)) (FailsToGreet heard worker)
+        result source.old.line source.new.line }
     ensures known { IfOk result (λ version. IsVersion version) }
     ensures stays { IfOk result (λ version. (v : ℕ) → heard ≡ Some v → v ≡ version) }
 {
