@@ -89,15 +89,11 @@ fn hear<A: Allocator + Copy>(
             };
             match engine.hear(ask) {
                 Ok(reply) => Ok(reply),
-                Err(_) => Ok(
-                    Some(
-                        Frame::Fault {
-                            round,
-                            shard,
-                            code: NO_MEMORY,
-                        },
-                    ),
-                ),
+                Err(_) => Ok(Some(Frame::Fault {
+                    round,
+                    shard,
+                    code: NO_MEMORY,
+                })),
             }
         }
         Frame::Hello { .. } | Frame::Shard { .. } | Frame::Answer(_) | Frame::Fault { .. } =>

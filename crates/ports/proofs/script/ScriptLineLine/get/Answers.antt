@@ -1,4 +1,4 @@
-use Rattle.std.proofs.Common.{◌≡◌, length, min, sym, rules, arith}
+use Rattle.std.proofs.Common.{min, arith}
 use Rattle.ports.proofs.GivenBytes.{script_played}
 use Rattle.ports.proofs.script.ScriptLineLine.get.Goals as goal
 
