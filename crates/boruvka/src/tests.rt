@@ -1,7 +1,7 @@
 ghost use Rattle.std.specs.Prelude.{◌≡◌, ◌≤◌, length, All, IfOk};
 ghost use Rattle.limits.specs.declared.TheConstants.{MAX_WORKERS};
 ghost use Rattle.wires.specs.Lines.{HasRoom};
-ghost use Rattle.wires.specs.Testing.{line_of_script};
+ghost use Rattle.ports.specs.Testing.{line_of_script};
 
 use crate::command::{command, run_over, without_words};
 use crate::standard::{StandardStreams, workers_beside};
@@ -9,6 +9,7 @@ use byte_streams::{FusedSink, FusedSource, Uncounted};
 use forest_run::{Report, RunFault};
 use gr_text::{GrFault, GrKind, ReadFault};
 use links::{CutFault, Link};
+use ports::ScriptLine;
 use program_words::{
     OptionsFault, all_words, options, status_of, write_fault, write_report, write_text,
 };
@@ -21,7 +22,7 @@ use std::net::{Net, TcpListener, TcpStream};
 use std::process::Abort;
 use std::sync::Wait;
 use std::thread::Threads;
-use wires::{Line, ScriptLine};
+use wires::Line;
 
 const SMALL_NET: &[u8; 108] =
     b"c a small net\np sp 6 8\na 1 2 17\nc the usual shape\na 1 3 10\na 2 4 2\na 3 5 0\na 4 3 0\na 4 6 3\na 5 2 0\na 5 6 20\n";

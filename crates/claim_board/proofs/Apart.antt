@@ -18,7 +18,8 @@ apart_append xs ys xs_apart ys_apart across i j d lt within = elim (cases_lt j (
       let at_j = get_or-append_right xs ys (length xs) j d refl j_right in
       let in_ys = Contains-get_or ys (j - length xs) d j_in in
       elim (cases_lt i (length xs)) [
-        | inl i_left ↦ subst₂ (λ a b. a ≢ b) (sym (get_or_append_left xs ys d i i_left)) (sym at_j) (λ same. across (get_or xs i d) (Contains-get_or xs i d i_left) (subst (Contains ys) (sym same) in_ys))
+        | inl i_left ↦ subst₂ (λ a b. a ≢ b) (sym (get_or_append_left xs ys d i i_left)) (sym at_j)
+            (λ same. across (get_or xs i d) (Contains-get_or xs i d i_left) (subst (Contains ys) (sym same) in_ys))
         | inr i_right ↦
             let order : i - length xs < j - length xs = omega arith in
             subst₂ (λ a b. a ≢ b) (sym (get_or-append_right xs ys (length xs) i d refl i_right)) (sym at_j) (ys_apart (i - length xs) (j - length xs) d order j_in)

@@ -56,11 +56,13 @@ module _ (key : Size) (row : List ℕ) (views : List View) (rule : AgreesWithRun
       of_owner None is = omega arith
       of_owner (Some seat) is = let h = owner_below key row views rule shard seat is in omega arith
 
-  pub came : (id : ℕ) (view : View) (seats : List SeatState) → get_elem? views id ≡ some view → view ≡ several view.size 0 (map (λ (seat : SeatState). seat.events) seats) → length seats ≡ key.seats → CameFromRun seats (owners_of row)
+  pub came : (id : ℕ) (view : View) (seats : List SeatState) → get_elem? views id ≡ some view → view ≡ several view.size 0 (map (λ (seat : SeatState). seat.events) seats)
+      → length seats ≡ key.seats → CameFromRun seats (owners_of row)
   came id view seats at view_is all = record {
     run = rule.run;
     is_run = rule.is_run;
-    events = λ number seat got. (rule.known id view number seat.events at (subst (λ (v : View). Knows v number seat.events) (sym view_is) (number, omega arith, at_get (λ (s : SeatState). s.events) seats number seat got))).1;
+    events = λ number seat got. (rule.known id view number seat.events at
+        (subst (λ (v : View). Knows v number seat.events) (sym view_is) (number, omega arith, at_get (λ (s : SeatState). s.events) seats number seat got))).1;
     others = λ number past. rule.others number (omega arith);
     owners = λ shard. owner_in_is row shard ∙ ap owner_of_word (rule.words shard) ∙ owner_of_word_of (owner rule.run shard);
   }
@@ -73,7 +75,8 @@ owners_are seats by_shard came shard number = (there, back)
     agrees seat got = owner_has came.run came.is_run number shard ∙ ap (λ es. among shard (held es)) (came.events number seat got)
 
     within : owner came.run shard ≡ Some number → number < length seats
-    within is = ⊎_elim (λ (h : number < length seats). h) (λ (h : length seats ≤ number). absurd (not_owner came.run shard number came.is_run (came.others number h) is)) (cases_lt number (length seats))
+    within is = ⊎_elim (λ (h : number < length seats). h) (λ (h : length seats ≤ number). absurd (not_owner came.run shard number came.is_run (came.others number h) is))
+        (cases_lt number (length seats))
 
     there : owner_in by_shard shard ≡ Some number → IsHeldBy seats number shard
     there is =
@@ -85,6 +88,7 @@ owners_are seats by_shard came shard number = (there, back)
     back h = came.owners shard ∙ Some-owns number (owner came.run shard) (agrees h.0 h.1 ∙ (among_decides shard (held h.0.events)).1 h.2)
 
 -- the view of the token that all others were joined to
-pub kept_view : (kept token : Me (Unit {0}) View) (last : SeatState) (rest seats : List SeatState) → seats ≡ rest ++ last ∷ [] → token ≡ (lone token.0.size last.number last.events, []) → kept ≡ (several kept.0.size 0 (map (λ (seat : SeatState). seat.events) rest ++ token.0.lists), [])
+pub kept_view : (kept token : Me (Unit {0}) View) (last : SeatState) (rest seats : List SeatState) → seats ≡ rest ++ last ∷ [] → token ≡ (lone token.0.size last.number last.events, [])
+    → kept ≡ (several kept.0.size 0 (map (λ (seat : SeatState). seat.events) rest ++ token.0.lists), [])
     → kept.0 ≡ several kept.0.size 0 (map (λ (seat : SeatState). seat.events) seats)
 kept_view kept token last rest seats is token_is kept_is = search (arith, map-append)

@@ -25,7 +25,8 @@ held_by_one_seat run is_run one other shard first second =
 -- ---- each shard once
 
 -- a won shard was in no list, so it stands once
-next_once : (run : List Event) (event : Event) (seat : ℕ) (b : Bool) → (seat_of event == seat) ≡ b → IsRun run → IsAllowed run event → AllPairs (λ a b. a ≢ b) (held (of_seat seat run)) → AllPairs (λ a b. a ≢ b) (held (of_seat seat run ++ cond b (event ∷ []) []))
+next_once : (run : List Event) (event : Event) (seat : ℕ) (b : Bool) → (seat_of event == seat) ≡ b → IsRun run → IsAllowed run event
+    → AllPairs (λ a b. a ≢ b) (held (of_seat seat run)) → AllPairs (λ a b. a ≢ b) (held (of_seat seat run ++ cond b (event ∷ []) []))
 next_once run event seat false is is_run allowed old = subst (λ (es : List Event). AllPairs (λ a b. a ≢ b) (held es)) (sym (append-nil (of_seat seat run))) old
 next_once run (Win by of) seat true is is_run allowed old =
     subst (AllPairs (λ a b. a ≢ b)) (sym (held-push (of_seat seat run) (Win by of)))
@@ -35,13 +36,15 @@ next_once run (Win by of) seat true is is_run allowed old =
     let owned = sym allowed ∙ (owner_is_holder run is_run seat of).1 has in
     cc))
 next_once run (Turned by of to) seat true is is_run allowed old = subst (AllPairs (λ a b. a ≢ b)) (sym (held-push (of_seat seat run) (Turned by of to))) old
-next_once run (GiveBack by of) seat true is is_run allowed old = subst (AllPairs (λ a b. a ≢ b)) (sym (held-push (of_seat seat run) (GiveBack by of))) (AllPairs-filter (λ a b. a ≢ b) (λ s. not (s == of)) (held (of_seat seat run)) old)
+next_once run (GiveBack by of) seat true is is_run allowed old = subst (AllPairs (λ a b. a ≢ b)) (sym (held-push (of_seat seat run) (GiveBack by of)))
+    (AllPairs-filter (λ a b. a ≢ b) (λ s. not (s == of)) (held (of_seat seat run)) old)
 
 -- the first part of a run is one
 IsRun-front : (run later : List Event) → IsRun (run ++ later) → IsRun run
 IsRun-front run later is before event rest e = is before event (rest ++ later) (ap (λ es. es ++ later) e ∙ append_assoc before (event ∷ rest) later)
 
-once-append : (run later : List Event) → IsRun (run ++ later) → ((seat : ℕ) → AllPairs (λ a b. a ≢ b) (held (of_seat seat run))) → (seat : ℕ) → AllPairs (λ a b. a ≢ b) (held (of_seat seat (run ++ later)))
+once-append : (run later : List Event) → IsRun (run ++ later) → ((seat : ℕ) → AllPairs (λ a b. a ≢ b) (held (of_seat seat run)))
+    → (seat : ℕ) → AllPairs (λ a b. a ≢ b) (held (of_seat seat (run ++ later)))
 once-append run [] is old seat = subst (λ (r : List Event). AllPairs (λ a b. a ≢ b) (held (of_seat seat r))) (sym (append-nil run)) (old seat)
 once-append run (event ∷ later) is old seat =
     let whole : (run ++ event ∷ []) ++ later ≡ run ++ event ∷ later = append_assoc run (event ∷ []) later in

@@ -50,7 +50,8 @@ begins_free size most few = begins size (take size.shards (replicate most 0)) (l
 -- ---- a seat is split off
 -- The run and the words stay. The first number of the view goes to a new place, behind all views; the others keep theirs.
 
-module _ (key size : Size) (row : List ℕ) (views : List View) (rule : AgreesWithRun key row views) (id first : ℕ) (events : List Event) (rest : List (List Event)) (at : get_elem? views id ≡ some (several size first (events ∷ rest))) where
+module _ (key size : Size) (row : List ℕ) (views : List View) (rule : AgreesWithRun key row views) (id first : ℕ) (events : List Event)
+    (rest : List (List Event)) (at : get_elem? views id ≡ some (several size first (events ∷ rest))) where
   abbrev cut : List View
   cut = set views id (several size (first + 1) rest) ++ lone size first events ∷ []
 
@@ -67,19 +68,22 @@ module _ (key size : Size) (row : List ℕ) (views : List View) (rule : AgreesWi
   moves : (number : ℕ) → number ≡ first → place_after number ≡ length views
   moves number is = ap (λ b. cond b (length views) (rule.place number)) (eq-eqb number first is)
 
-  later_known : (place : ℕ) (view : View) (number : ℕ) (list : List Event) → place ≡ id → several size (first + 1) rest ≡ view → Knows view number list → (place_after number ≡ place) × (of_seat number rule.run ≡ list) × (view.size ≡ key)
+  later_known : (place : ℕ) (view : View) (number : ℕ) (list : List Event) → place ≡ id → several size (first + 1) rest ≡ view → Knows view number list
+      → (place_after number ≡ place) × (of_seat number rule.run ≡ list) × (view.size ≡ key)
   later_known place view number list here is knows =
       let k = subst (λ (v : View). Knows v number list) (sym is) knows in
       let k1 = k.1 in
       let old = rule.known id (several size first (events ∷ rest)) number list at (suc k.0, omega arith, k.2) in
       (stays number (λ e. omega arith) ∙ old.0 ∙ sym here, old.1, ap (λ (v : View). v.size) (sym is) ∙ old.2)
 
-  other_known : (place : ℕ) (view : View) (number : ℕ) (list : List Event) → place ≢ id → get_elem? views place ≡ some view → Knows view number list → (place_after number ≡ place) × (of_seat number rule.run ≡ list) × (view.size ≡ key)
+  other_known : (place : ℕ) (view : View) (number : ℕ) (list : List Event) → place ≢ id → get_elem? views place ≡ some view → Knows view number list
+      → (place_after number ≡ place) × (of_seat number rule.run ≡ list) × (view.size ≡ key)
   other_known place view number list apart there knows =
       let old = rule.known place view number list there knows in
       (stays number (λ e. apart (sym old.0 ∙ ap rule.place e ∙ first_known.0)) ∙ old.0, old.1, old.2)
 
-  new_known : (place : ℕ) (view : View) (number : ℕ) (list : List Event) → place ≡ length views → lone size first events ≡ view → Knows view number list → (place_after number ≡ place) × (of_seat number rule.run ≡ list) × (view.size ≡ key)
+  new_known : (place : ℕ) (view : View) (number : ℕ) (list : List Event) → place ≡ length views → lone size first events ≡ view → Knows view number list
+      → (place_after number ≡ place) × (of_seat number rule.run ≡ list) × (view.size ≡ key)
   new_known place view number list last is knows = of_lone (subst (λ (v : View). Knows v number list) (sym is) knows)
     where
       of_lone : Knows (lone size first events) number list → (place_after number ≡ place) × (of_seat number rule.run ≡ list) × (view.size ≡ key)
@@ -103,7 +107,8 @@ module _ (key size : Size) (row : List ℕ) (views : List View) (rule : AgreesWi
       (λ (far : rule.place number ≢ id). (
         old.0,
         old.1,
-        at_longer (set views id (several size (first + 1) rest)) (lone size first events ∷ []) (rule.place number) old.0 (set_else views id (rule.place number) (several size (first + 1) rest) far ∙ old.2),
+        at_longer (set views id (several size (first + 1) rest)) (lone size first events ∷ []) (rule.place number) old.0
+            (set_else views id (rule.place number) (several size (first + 1) rest) far ∙ old.2),
         old.3,
       ))
       (cases_eq (rule.place number) id)))
@@ -136,20 +141,23 @@ module _ (key size : Size) (row : List ℕ) (views : List View) (rule : AgreesWi
         (λ (t : (place ≡ id) × (several size (first + 1) rest ≡ view)). later_known place view number list t.0 t.1 knows)
         (λ (t : (place ≢ id) × (get_elem? views place ≡ some view)). other_known place view number list t.0 t.1 knows)
         (at_set views id place (several size (first + 1) rest) view h))
-        (λ (t : (place ≡ length (set views id (several size (first + 1) rest))) × (lone size first events ≡ view)). new_known place view number list (t.0 ∙ length-set views id (several size (first + 1) rest)) t.1 knows)
+        (λ (t : (place ≡ length (set views id (several size (first + 1) rest))) × (lone size first events ≡ view)). new_known place view number list
+        (t.0 ∙ length-set views id (several size (first + 1) rest)) t.1 knows)
         (at_end (set views id (several size (first + 1) rest)) (lone size first events) view place there);
     seated = λ number within. seated_after number (rule.seated number within);
     others = rule.others;
   }
 
-pub split_allowed : (key : Size) (id : ℕ) (view : View) (events : List Event) (rest : List (List Event)) → view.lists ≡ events ∷ rest → Splits (Rules key) id view (without_first view) (first_alone view)
+pub split_allowed : (key : Size) (id : ℕ) (view : View) (events : List Event) (rest : List (List Event)) → view.lists ≡ events ∷ rest
+    → Splits (Rules key) id view (without_first view) (first_alone view)
 split_allowed key id view events rest is = search (arith, splits)
 
 -- ---- a seat is joined
 -- The run and the words stay. The one number of the joined view goes to the place of the kept view, before that view's
 -- numbers; the joined view is left with none.
 
-module _ (key : Size) (v : View) (size : Size) (first : ℕ) (events : List Event) (row : List ℕ) (views : List View) (rule : AgreesWithRun key row views) (id other : ℕ) (before : first + 1 ≡ v.first) (at : get_elem? views id ≡ some v) (apart : ¬ (other ≡ id)) (there : get_elem? views other ≡ some (lone size first events)) where
+module _ (key : Size) (v : View) (size : Size) (first : ℕ) (events : List Event) (row : List ℕ) (views : List View) (rule : AgreesWithRun key row views) (id other : ℕ)
+    (before : first + 1 ≡ v.first) (at : get_elem? views id ≡ some v) (apart : ¬ (other ≡ id)) (there : get_elem? views other ≡ some (lone size first events)) where
   abbrev both : View
   both = several size first (events ∷ v.lists)
 
@@ -174,7 +182,8 @@ module _ (key : Size) (v : View) (size : Size) (first : ℕ) (events : List Even
   at_both : get_elem? joined id ≡ some both
   at_both = set_else kept other id nobody (λ e. apart (sym e)) ∙ set_here views id both (at_within views id v at)
 
-  both_known : (place : ℕ) (view : View) (number : ℕ) (list : List Event) → place ≡ id → both ≡ view → Knows view number list → (place_joined number ≡ place) × (of_seat number rule.run ≡ list) × (view.size ≡ key)
+  both_known : (place : ℕ) (view : View) (number : ℕ) (list : List Event) → place ≡ id → both ≡ view → Knows view number list
+      → (place_joined number ≡ place) × (of_seat number rule.run ≡ list) × (view.size ≡ key)
   both_known place view number list here is knows = of_both (subst (λ (u : View). Knows u number list) (sym is) knows)
     where
       of_both : Knows both number list → (place_joined number ≡ place) × (of_seat number rule.run ≡ list) × (view.size ≡ key)
@@ -185,7 +194,8 @@ module _ (key : Size) (v : View) (size : Size) (first : ℕ) (events : List Even
           let old = rule.known id v number list at (k, omega arith, same) in
           (not_first number (λ e. omega arith) ∙ old.0 ∙ sym here, old.1, ap (λ (u : View). u.size) (sym is) ∙ first_was.2)
 
-  rest_known : (place : ℕ) (view : View) (number : ℕ) (list : List Event) → place ≢ other → get_elem? views place ≡ some view → Knows view number list → place ≢ id → (place_joined number ≡ place) × (of_seat number rule.run ≡ list) × (view.size ≡ key)
+  rest_known : (place : ℕ) (view : View) (number : ℕ) (list : List Event) → place ≢ other → get_elem? views place ≡ some view → Knows view number list
+      → place ≢ id → (place_joined number ≡ place) × (of_seat number rule.run ≡ list) × (view.size ≡ key)
   rest_known place view number list far here knows away =
       let old = rule.known place view number list here knows in
       (not_first number (λ e. far (sym old.0 ∙ ap rule.place e ∙ first_was.0)) ∙ old.0, old.1, old.2)
@@ -235,5 +245,6 @@ module _ (key : Size) (v : View) (size : Size) (first : ℕ) (events : List Even
     others = rule.others;
   }
 
-pub join_allowed : (key size : Size) (id other first : ℕ) (v : View) (events : List Event) → first + 1 ≡ v.first → Joins (Rules key) id v other (lone size first events) (with_before v (lone size first events)) nobody
+pub join_allowed : (key size : Size) (id other first : ℕ) (v : View) (events : List Event) → first + 1 ≡ v.first
+    → Joins (Rules key) id v other (lone size first events) (with_before v (lone size first events)) nobody
 join_allowed key size id other first v events before s rule at apart there = search (arith, joins, at_set)

@@ -29,16 +29,20 @@ pub get_last : {A : Type 0} (l : List A) (a : A) → slice_get (l ++ a ∷ []) (
 get_last [] a = refl
 get_last (x ∷ xs) a = get_last xs a
 
-pub InOrder-push : (board : BoardState) (seats new : List SeatState) (seat : SeatState) (number : ℕ) → new ≡ seats ++ seat ∷ [] → InOrder board seats → seat ≡ record { board = board; number = number; events = [] } → number ≡ length seats → InOrder board new
+pub InOrder-push : (board : BoardState) (seats new : List SeatState) (seat : SeatState) (number : ℕ) → new ≡ seats ++ seat ∷ [] → InOrder board seats
+    → seat ≡ record { board = board; number = number; events = [] } → number ≡ length seats → InOrder board new
 InOrder-push board seats new seat number is old fresh here at other got = search (arith, slice_get, get_end)
 
-pub no_events-push : (board : BoardState) (seats new : List SeatState) (seat : SeatState) (number : ℕ) → new ≡ seats ++ seat ∷ [] → All (λ (s : SeatState). s.events ≡ []) seats → seat ≡ record { board = board; number = number; events = [] } → All (λ (s : SeatState). s.events ≡ []) new
-no_events-push board seats new seat number is old fresh = subst (All (λ (s : SeatState). s.events ≡ [])) (sym is) (All-push (λ (s : SeatState). s.events ≡ []) seats seat old (ap (λ (s : SeatState). s.events) fresh))
+pub no_events-push : (board : BoardState) (seats new : List SeatState) (seat : SeatState) (number : ℕ) → new ≡ seats ++ seat ∷ [] → All (λ (s : SeatState). s.events ≡ []) seats
+    → seat ≡ record { board = board; number = number; events = [] } → All (λ (s : SeatState). s.events ≡ []) new
+no_events-push board seats new seat number is old fresh = subst (All (λ (s : SeatState). s.events ≡ [])) (sym is)
+    (All-push (λ (s : SeatState). s.events ≡ []) seats seat old (ap (λ (s : SeatState). s.events) fresh))
 
 pub InOrderAt-front : (table : TableId) (seats whole : List SeatState) (seat : SeatState) → whole ≡ seats ++ seat ∷ [] → InOrderAt table whole → InOrderAt table seats
 InOrderAt-front table seats whole seat is old number other at = old number other (ap (λ l. slice_get l number) is ∙ get_front seats seat other number at)
 
-pub InOrderAt-last : (table : TableId) (seats whole : List SeatState) (seat : SeatState) → whole ≡ seats ++ seat ∷ [] → InOrderAt table whole → (seat.board.table ≡ table) × (seat.number ≡ length seats)
+pub InOrderAt-last : (table : TableId) (seats whole : List SeatState) (seat : SeatState) → whole ≡ seats ++ seat ∷ []
+    → InOrderAt table whole → (seat.board.table ≡ table) × (seat.number ≡ length seats)
 InOrderAt-last table seats whole seat is old = old (length seats) seat (ap (λ l. slice_get l (length seats)) is ∙ get_last seats seat)
 
 -- ---- the view as seats are dealt
@@ -55,7 +59,8 @@ module _ (me : Me (Unit {0}) View) (n count : ℕ) (is : me ≡ (several me.0.si
 
 -- ---- the view as seats are gathered
 
-module _ (kept token : Me (Unit {0}) View) (number : ℕ) (events : List Event) (first : ℕ) (kept_is : kept ≡ (several kept.0.size first kept.0.lists, [])) (token_is : token ≡ (lone token.0.size number events, [])) where
+module _ (kept token : Me (Unit {0}) View) (number : ℕ) (events : List Event) (first : ℕ) (kept_is : kept ≡ (several kept.0.size first kept.0.lists, []))
+    (token_is : token ≡ (lone token.0.size number events, [])) where
   pub joined_view : (after : Me (Unit {0}) View) → after ≡ (with_before kept.0 token.0, kept.1) → after ≡ (several token.0.size number (events ∷ kept.0.lists), [])
   joined_view after after_is = after_is ∙ (λ i. (with_before kept.0 (token_is i).0, (kept_is i).1))
 

@@ -27,7 +27,8 @@ pub of_seat-other : (seat : ℕ) (run : List Event) (event : Event) → seat_of 
 of_seat-other seat run event is = of_seat-push seat run event ∙ ap (λ b. of_seat seat run ++ cond b (event ∷ []) []) (ne_eqb (seat_of event) seat is) ∙ append-nil (of_seat seat run)
 
 -- an event of a longer list is its last one, or one of those before
-last_or_before : (run before later : List Event) (last event : Event) → run ++ last ∷ [] ≡ before ++ event ∷ later → ((before ≡ run) × (event ≡ last)) ⊎ ((rest : List Event) × (run ≡ before ++ event ∷ rest))
+last_or_before : (run before later : List Event) (last event : Event) → run ++ last ∷ [] ≡ before ++ event ∷ later
+    → ((before ≡ run) × (event ≡ last)) ⊎ ((rest : List Event) × (run ≡ before ++ event ∷ rest))
 last_or_before [] [] later last event e = inl (refl, cc)
 last_or_before [] (b ∷ []) later last event e = absurd (cc)
 last_or_before [] (b ∷ c ∷ bs) later last event e = absurd (cc)

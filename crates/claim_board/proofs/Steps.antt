@@ -87,7 +87,8 @@ module _ (key size : Size) (row : List ℕ) (views : List View) (rule : AgreesWi
         (old.0, of_seat-other number rule.run event (λ e. t.0 (sym old.0 ∙ ap rule.place (sym e ∙ by) ∙ mine.0)) ∙ old.1, old.2))
         (at_set views id place (lone size seat (events ++ event ∷ [])) view there);
     seated = λ number within. seated_after event (rule.place number) number (rule.seated number within);
-    others = λ number past. of_seat-other number rule.run event (λ e. let s : seat ≡ number = sym by ∙ e in let k : size.seats ≡ key.seats = ap (λ (s : Size). s.seats) mine.2 in absurd (omega arith)) ∙ rule.others number past;
+    others = λ number past. of_seat-other number rule.run event
+        (λ e. let s : seat ≡ number = sym by ∙ e in let k : size.seats ≡ key.seats = ap (λ (s : Size). s.seats) mine.2 in absurd (omega arith)) ∙ rule.others number past;
   }
 
   -- the seat is the owner where its list has the shard
@@ -107,13 +108,15 @@ Rules key s = AgreesWithRun key s.words s.views
 abbrev Goes : Size → State (Unit {0}) View → ℕ → Me (Unit {0}) View → ℕ → (ℕ → ℕ) → (ℕ → Me (Unit {0}) View → Type 0) → ℕ → Type 0
 Goes key s id me shard new then n = (w : View) × (a : Act (Unit {0})) × Valid s.homes me.1 a × Rules key (stepped s shard (new n) id me.1 w a) × then n (w, carried_after me.1 a)
 
-claim_goes : (key size : Size) (slots id seat shard : ℕ) (events : List Event) → seat < size.seats → shard < size.shards → (s : State (Unit {0}) View) (rule : Rules key s) → get_elem? s.views id ≡ some (lone size seat events) → (now : Option ℕ) → owner rule.run shard ≡ now
+claim_goes : (key size : Size) (slots id seat shard : ℕ) (events : List Event) → seat < size.seats → shard < size.shards → (s : State (Unit {0}) View) (rule : Rules key s)
+    → get_elem? s.views id ≡ some (lone size seat events) → (now : Option ℕ) → owner rule.run shard ≡ now
     → Goes key s id (lone size seat events, []) shard (λ n. either (n == 0) (seat + 1) n) (Claimed (step slots shard 0 (seat + 1) none) (lone size seat events, [])) (word_of now)
 claim_goes key size slots id seat shard events seat_within shard_within s rule at None is = (
   lone size seat (events ++ Win seat shard ∷ []),
   keeps,
   tt,
-  with_next key size s.words s.views rule id seat events at (Win seat shard) shard (seat + 1) refl refl seat_within shard_within is (add-one seat ∙ sym (ap (λ b. word_of (cond b (Some seat) (owner rule.run shard))) (eq-eqb shard shard refl))),
+  with_next key size s.words s.views rule id seat events at (Win seat shard) shard (seat + 1) refl refl seat_within shard_within is
+      (add-one seat ∙ sym (ap (λ b. word_of (cond b (Some seat) (owner rule.run shard))) (eq-eqb shard shard refl))),
   (refl, not_from_Decides (among shard (held events)) (among_decides shard (held events)) (sym (list_owner key size s.words s.views rule id seat events at shard) ∙ ap (owns seat) is)),
 )
 claim_goes key size slots id seat shard events seat_within shard_within s rule at (Some other) is =
@@ -122,8 +125,13 @@ claim_goes key size slots id seat shard events seat_within shard_within s rule a
       lone size seat (events ++ Turned seat shard other ∷ []),
       keeps,
       tt,
-      with_next key size s.words s.views rule id seat events at (Turned seat shard other) shard (either (suc other == 0) (seat + 1) (suc other)) refl refl seat_within shard_within is (ap (λ b. either b (seat + 1) (suc other)) (ne_eqb (suc other) 0 (λ e. absurd (omega arith))) ∙ sym (ap word_of is)),
-      (refl, owner_within key size s.words s.views rule id seat events at shard other is, ((λ e. held_decides.0 (sym agrees ∙ eq-eqb other seat e)), (λ has. eqb-true other seat (agrees ∙ held_decides.1 has)))),
+      with_next key size s.words s.views rule id seat events at (Turned seat shard other) shard (either (suc other == 0) (seat + 1) (suc other)) refl refl seat_within shard_within is
+          (ap (λ b. either b (seat + 1) (suc other)) (ne_eqb (suc other) 0 (λ e. absurd (omega arith))) ∙ sym (ap word_of is)),
+      (
+        refl,
+        owner_within key size s.words s.views rule id seat events at shard other is,
+        ((λ e. held_decides.0 (sym agrees ∙ eq-eqb other seat e)), (λ has. eqb-true other seat (agrees ∙ held_decides.1 has))),
+      ),
     )
 
 pub claim_allowed : (key size : Size) (slots id seat shard : ℕ) (events : List Event) → seat < size.seats → shard < size.shards
@@ -140,8 +148,10 @@ give_back_allowed key size slots id seat shard events seat_within shard_within h
       lone size seat (events ++ GiveBack seat shard ∷ []),
       keeps,
       tt,
-      with_next key size s.words s.views rule id seat events at (GiveBack seat shard) shard (either (slice_index s.words shard == (seat + 1)) 0 (slice_index s.words shard)) refl refl seat_within shard_within is
-          (ap (λ b. either b 0 (slice_index s.words shard)) (eq-eqb (slice_index s.words shard) (seat + 1) found) ∙ sym (ap (λ b. word_of (cond b None (owner rule.run shard))) (eq-eqb shard shard refl))),
+      with_next key size s.words s.views rule id seat events at (GiveBack seat shard) shard
+          (either (slice_index s.words shard == (seat + 1)) 0 (slice_index s.words shard)) refl refl seat_within shard_within is
+          (ap (λ b. either b 0 (slice_index s.words shard)) (eq-eqb (slice_index s.words shard) (seat + 1) found)
+          ∙ sym (ap (λ b. word_of (cond b None (owner rule.run shard))) (eq-eqb shard shard refl))),
       refl,
     )
 
@@ -152,7 +162,8 @@ claim_allowed_as key slots id seat shard me alone seat_within shard_within =
     subst (λ m. Allows (Rules key) slots id m shard (λ n. either (n == 0) (seat + 1) n) (Claimed (step slots shard 0 (seat + 1) none) m)) (sym alone)
     (claim_allowed key me.0.size slots id seat shard (first_events me.0.lists) seat_within shard_within)
 
-pub give_back_allowed_as : (key : Size) (slots id seat shard : ℕ) (me : Me (Unit {0}) View) → me ≡ (lone me.0.size seat (first_events me.0.lists), []) → seat < me.0.size.seats → shard < me.0.size.shards → Contains (held (first_events me.0.lists)) shard
+pub give_back_allowed_as : (key : Size) (slots id seat shard : ℕ) (me : Me (Unit {0}) View) → me ≡ (lone me.0.size seat (first_events me.0.lists), [])
+    → seat < me.0.size.seats → shard < me.0.size.shards → Contains (held (first_events me.0.lists)) shard
     → Allows (Rules key) slots id me shard (λ n. either (n == (seat + 1)) 0 n) (GivenBack (step slots shard (seat + 1) 0 none) me)
 give_back_allowed_as key slots id seat shard me alone seat_within shard_within has =
     subst (λ m. Allows (Rules key) slots id m shard (λ n. either (n == (seat + 1)) 0 n) (GivenBack (step slots shard (seat + 1) 0 none) m)) (sym alone)
@@ -166,5 +177,6 @@ pub seat_after : (before after : Me (Unit {0}) View) (number : ℕ) (bits new : 
 seat_after before after number bits new event is after_is agrees = search (arith, held-push)
 
 -- the seat that held the shard is the caller's own where its list has it
-pub claimed_own : (s : Step (Unit {0})) (before after : Me (Unit {0}) View) (found : ℕ) → found ≢ 0 → Claimed s before found after → ◌≡◌ {A = Claim} (Held (found - 1)) (Held before.0.first) ↔ Contains (held (first_events before.0.lists)) s.word
+pub claimed_own : (s : Step (Unit {0})) (before after : Me (Unit {0}) View) (found : ℕ) → found ≢ 0 → Claimed s before found after
+    → ◌≡◌ {A = Claim} (Held (found - 1)) (Held before.0.first) ↔ Contains (held (first_events before.0.lists)) s.word
 claimed_own a1 a2 a3 a4 a5 a6 = search arith

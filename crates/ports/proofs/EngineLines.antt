@@ -7,7 +7,8 @@ use Rattle.frames.specs.declared.fault.FrameFault.{FrameFault}
 use Rattle.frames.specs.FrameStream.{BeginsNone, IsOfStream}
 use Rattle.frames.proofs.FrameStreams.{refused_begins_none}
 
-pub refused_left : {X : Type 0} {E : Type 0} (result : Result X E) (fault : FrameFault) (bytes left : List ℕ) → bytes ≡ left → (IsOfStream fault → StreamRefused fault bytes) → OnOk result (IsOfStream fault)
+pub refused_left : {X : Type 0} {E : Type 0} (result : Result X E) (fault : FrameFault) (bytes left : List ℕ) → bytes ≡ left
+    → (IsOfStream fault → StreamRefused fault bytes) → OnOk result (IsOfStream fault)
     → OnOk result (BeginsNone left)
 refused_left (Ok x) fault bytes left same refused of_stream = subst BeginsNone same (refused_begins_none fault bytes of_stream (refused of_stream))
 refused_left (Err e) fault bytes left same refused of_stream = tt

@@ -1,1 +1,2 @@
 pub mod EngineLines
+pub mod GivenBytes

@@ -1,2 +1,3 @@
 pub mod EngineLines
+pub mod Testing
 pub mod LineLaws

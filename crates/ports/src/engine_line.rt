@@ -5,12 +5,13 @@ ghost use Rattle.wires.specs.Lines.{HasRoom, IsFresh, Puts, Gets};
 ghost use Rattle.ports.specs.EngineLines.{line_of, IsEngineLine};
 ghost use Rattle.ports.specs.LineLaws.{engine_serves};
 
+use crate::memory::give;
 use crate::session::Session;
 use frames::{Frame, VERSION, encode};
 use limits::MAX_WORKERS;
 use std::alloc::{AllocError, Allocator};
 use std::marker::Model;
-use wires::{Line, LineFault, give};
+use wires::{Line, LineFault};
 use worker_engine::Engine;
 
 /// An engine behind a line in memory. The bytes to get are those that the worker's session writes for the

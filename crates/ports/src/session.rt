@@ -5,13 +5,13 @@ ghost use Rattle.frames.specs.FrameText.{text_of};
 ghost use Rattle.frames.specs.Lawful.{IsLawful};
 ghost use Rattle.frames.specs.FrameStream.{texts_of, AreLawful, BeginsNone, IsOfStream};
 ghost use Rattle.frames.specs.Refusals.{StreamRefused};
-ghost use Rattle.worker_replies.specs.Serving.{replies_in};
+ghost use Rattle.worker_replies.specs.Serving.{shelf_of, shelf_with, MayFollow, replies_in};
 ghost use Rattle.ports.specs.EngineLines.{rest_of, GoesOn, Extends};
 
 use frames::{Frame, FrameFault, encode, read_frame};
 use std::alloc::{AllocError, Allocator};
 use std::marker::Model;
-use worker_engine::Engine;
+use worker_engine::{Engine, NO_MEMORY};
 
 // A session: the bytes that came, how many of them were heard, and what was written.
 #[derive(Drop)]
@@ -56,13 +56,48 @@ impl<A: Allocator + Copy> Session<A> {
         loop {
             match first_frame(self.alloc, &self.input[self.heard..]) {
                 Ok((frame, count)) => {
-                    let reply = self.engine.hear_or_fault(frame)?;
+                    let reply = hear(&mut self.engine, frame)?;
                     write_reply(self.alloc, &mut self.out, reply)?;
                     self.heard += count;
                 }
                 Err(fault) => return begins_no_frame(fault),
             }
         }
+    }
+}
+
+// Hears one frame, and gives the reply to it. An ask that finds no memory is replied to by a fault, which takes none.
+fn hear<A: Allocator + Copy>(
+    engine: &mut Engine<A>,
+    frame: Frame<A>,
+) -> Result<Option<Frame<A>>, AllocError>
+    requires { IsLawful (value_of frame) }
+    ensures shelf { OnOk result (shelf_of engine.new ≡ shelf_with (shelf_of engine.old) (value_of frame)) }
+    ensures reply { IfOk result (λ reply. MayFollow (shelf_of engine.old) (value_of frame) (replies_in reply)) }
+    ensures lawful { IfOk result (λ reply. AreLawful (replies_in reply)) }
+{
+    match frame {
+        Frame::Ask {
+            round,
+            shard,
+            labels,
+        } => {
+            let ask = Frame::Ask {
+                round,
+                shard,
+                labels,
+            };
+            match engine.hear(ask) {
+                Ok(reply) => Ok(reply),
+                Err(_) => Ok(Some(Frame::Fault {
+                    round,
+                    shard,
+                    code: NO_MEMORY,
+                })),
+            }
+        }
+        Frame::Hello { .. } | Frame::Shard { .. } | Frame::Answer(_) | Frame::Fault { .. } =>
+            engine.hear(frame),
     }
 }
 

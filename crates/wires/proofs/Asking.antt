@@ -1,6 +1,6 @@
 -- What was said and heard so far, ask by ask, and what a faithful line answers.
 use Rattle.std.proofs.Common.{◌≡◌, ◌≢◌, ℕ, ◌<◌, List, [], ◌∷◌, ◌++◌, length, drop, Some, refl, sym, ap, subst, ◌∙◌, append_assoc, append-nil, ⊎_elim, inl, inr, arith, eq-eqb, ne_eqb, le-leb}
-use Rattle.std.specs.Prelude.{◌+◌, ◌≤◌, nat_le, cond, Option, None, IfSome, MatchOption, Bool, true, false, ◌||◌, if◌then◌else◌, map}
+use Rattle.std.specs.Prelude.{◌+◌, ◌≤◌, nat_le, cond, Option, None, IfSome, MatchOption, Bool, true, ◌||◌, if◌then◌else◌, map}
 use Rattle.std.proofs.lemmas.Bool.{cases_eq}
 use Rattle.std.proofs.lemmas.List.{map-append, length-map}
 use Rattle.std.proofs.lemmas.List.Elements.{All-nil, All-cons, All-head, All-tail, All-append, Contains-append_left, Contains-append_right}
@@ -153,7 +153,8 @@ module _ {L : Type 0} (state : L → LineState) (round shard : ℕ) (labels : Li
       appends-known (state old.line).got (state new.line).got _ _ given.got (brought.got refl)
       ∙ ap (λ t. Some t) (got_more old.version version old.worker answers (text_of (AnswerFrame a)) greeted.stays given.silent ∙ got_answer version old.worker answers a) in
       record {
-        got = got ∙ ap (λ w. Some (texts_of (frames_got (Some version) w (answers ++ a ∷ [])))) (sym asked.worker) ∙ ap (λ (heard : Option ℕ). Some (texts_of (frames_got heard new.worker (answers ++ a ∷ [])))) (sym greeted.heard);
+        got = got ∙ ap (λ w. Some (texts_of (frames_got (Some version) w (answers ++ a ∷ [])))) (sym asked.worker)
+            ∙ ap (λ (heard : Option ℕ). Some (texts_of (frames_got heard new.worker (answers ++ a ∷ [])))) (sym greeted.heard);
         lawful = subst AreLawful (sym (answers_more answers a)) (lawful-append (map AnswerFrame answers) (AnswerFrame a ∷ []) given.lawful (asked.lawful, tt));
         known = subst (λ (heard : Option ℕ). IfSome heard IsVersion) (sym greeted.heard) greeted.known;
         silent = λ e. cc;
@@ -163,7 +164,8 @@ module _ {L : Type 0} (state : L → LineState) (round shard : ℕ) (labels : Li
   answers_then exchanges = map-append (λ (e : Exchange). e.answer) exchanges (exchange_of round shard labels a ∷ [])
 
   -- and so with its ask behind the exchanges before
-  pub exchanged_more : (exchanges : List Exchange) → HasGiven (seen_client state old) (answers_of exchanges) → HasGiven (seen_client state new) (answers_of (exchanges ++ exchange_of round shard labels a ∷ []))
+  pub exchanged_more : (exchanges : List Exchange) → HasGiven (seen_client state old) (answers_of exchanges)
+      → HasGiven (seen_client state new) (answers_of (exchanges ++ exchange_of round shard labels a ∷ []))
   exchanged_more exchanges given = subst (HasGiven (seen_client state new)) (sym (answers_then exchanges)) (gave_more (answers_of exchanges) given)
 
   module _ (in_cut : shard < length old.cut) (is : IsShard shard (links_at old.cut shard)) (ask : IsAsk round shard labels) where
@@ -194,7 +196,8 @@ module _ {L : Type 0} (state : L → LineState) (round shard : ℕ) (labels : Li
             no_failure = omega (arith, brought.failures, step.no_failure);
             sent = appends-known (state old.line).sent (state new.line).sent (texts_of said) (texts_of more) step.sent (brought.sent refl) ∙ ap (λ t. Some t) (sym (texts-append said more));
             lawful = lawful-append said more step.lawful (put_lawful round shard labels (seen_client state old) is ask);
-            only = subst (λ (k : List (List Link)). All (IsOfCut k) (said ++ more)) (sym asked.cut) (All-append (IsOfCut old.cut) said more step.only (of_cut_put (has_shard old.sent shard) old.cut round shard labels in_cut));
+            only = subst (λ (k : List (List Link)). All (IsOfCut k) (said ++ more)) (sym asked.cut)
+                (All-append (IsOfCut old.cut) said more step.only (of_cut_put (has_shard old.sent shard) old.cut round shard labels in_cut));
             once = once_step;
             needed = needed_step;
             asked =
@@ -202,11 +205,13 @@ module _ {L : Type 0} (state : L → LineState) (round shard : ℕ) (labels : Li
                 ∙ (ap (λ (fs : List FrameValue). asks_among said ++ fs) (among_put (has_shard old.sent shard) shard (links_at old.cut shard) round labels)
                 ∙ (ap (λ (fs : List FrameValue). fs ++ AskFrame round shard labels ∷ []) step.asked
                 ∙ sym (map-append (λ (e : Exchange). AskFrame e.round e.shard e.labels) exchanges (exchange_of round shard labels a ∷ []))));
-            first = follows-append empty_shelf said more step.first (follows_put (has_shard old.sent shard) (shelf_after empty_shelf said) shard (links_at old.cut shard) round labels (step.shelves shard in_cut));
+            first = follows-append empty_shelf said more step.first
+                (follows_put (has_shard old.sent shard) (shelf_after empty_shelf said) shard (links_at old.cut shard) round labels (step.shelves shard in_cut));
             has = subst (λ (heard : Option ℕ). MatchOption heard (said ++ more ≡ []) (λ v. HasFrames v (said ++ more))) (sym greeted.heard)
                 (All-append (λ (v : FrameValue). version_of v ≤ version) said more (had_before old.version version said greeted.stays step.has) asked.brought.sends.has);
             gave = exchanged_more exchanges step.gave;
-            shelves = subst (λ (k : List (List Link)). (s : ℕ) → s < length k → shelf_after empty_shelf (said ++ more) s ≡ (if has_shard new.sent s then Some (links_at k s) else None)) (sym asked.cut) shelves_step;
+            shelves = subst (λ (k : List (List Link)). (s : ℕ) → s < length k → shelf_after empty_shelf (said ++ more) s ≡ (if has_shard new.sent s then Some (links_at k s) else None))
+                (sym asked.cut) shelves_step;
           }
 
 -- ---- what a faithful line answers
@@ -214,7 +219,8 @@ module _ {L : Type 0} (state : L → LineState) (round shard : ℕ) (labels : Li
 same_version : (v w worker : ℕ) (fs gs : List FrameValue) → HelloFrame v worker ∷ fs ≡ HelloFrame w worker ∷ gs → v ≡ w
 same_version v w worker fs gs same = cc
 
-module _ {L : Type 0} (state : L → LineState) (round shard : ℕ) (labels : List ℕ) (old new : ClientState L) (said : List FrameValue) (exchanges : List Exchange) (step : MatchesLine (seen_client state old) said exchanges) (below : old.worker < MAX_WORKERS)
+module _ {L : Type 0} (state : L → LineState) (round shard : ℕ) (labels : List ℕ) (old new : ClientState L) (said : List FrameValue) (exchanges : List Exchange)
+    (step : MatchesLine (seen_client state old) said exchanges) (below : old.worker < MAX_WORKERS)
     (faithful : ServesSoFar old.worker (state new.line)) where
   abbrev before : Client
   before = seen_client state old
@@ -242,14 +248,17 @@ module _ {L : Type 0} (state : L → LineState) (round shard : ℕ) (labels : Li
       let sent_is : after.line.sent ≡ Some (texts_of (said ++ more)) =
       appends-known before.line.sent after.line.sent (texts_of said) (texts_of more) step.sent (brought.sent refl) ∙ ap (λ t. Some t) (sym (texts-append said more)) in
       let got_is : after.line.got ≡ Some (texts_of hello ++ bytes) =
-      appends-known before.line.got after.line.got _ _ step.gave.got (brought.got refl) ∙ ap (λ t. Some t) (got_more before.version version before.worker (answers_of exchanges) bytes asked.greeted.stays step.gave.silent) in
+      appends-known before.line.got after.line.got _ _ step.gave.got (brought.got refl)
+      ∙ ap (λ t. Some t) (got_more before.version version before.worker (answers_of exchanges) bytes asked.greeted.stays step.gave.silent) in
       let (served, rest, serves) = faithful (omega (arith, brought.failures, step.no_failure)) (texts_of (said ++ more)) (texts_of hello ++ bytes) sent_is got_is in
       let lawful_replies : AreLawful serves.replies = served_lawful served before.worker (texts_of (said ++ more)) ((texts_of hello ++ bytes) ++ rest) serves in
       let frames : serves.frames ≡ said ++ more = only_frames_of_texts (said ++ more) serves.frames (lawful-append said more step.lawful lawful) serves.came in
       let whole : texts_of hello ++ (bytes ++ rest) ≡ texts_of (HelloFrame served before.worker ∷ serves.replies) = sym (append_assoc (texts_of hello) bytes rest) ∙ serves.written in
-      let (left, is, texts) = prefix_of_frames hello (HelloFrame served before.worker ∷ serves.replies) (bytes ++ rest) (hello_is version asked.greeted.known, step.gave.lawful) (hello_is served serves.known, lawful_replies) whole in
+      let (left, is, texts) = prefix_of_frames hello (HelloFrame served before.worker ∷ serves.replies) (bytes ++ rest)
+      (hello_is version asked.greeted.known, step.gave.lawful) (hello_is served serves.known, lawful_replies) whole in
       let same : served ≡ version = same_version served version before.worker serves.replies (map AnswerFrame (answers_of exchanges) ++ left) is in
-      let had : HasFrames version (said ++ more) = All-append (λ (v : FrameValue). version_of v ≤ version) said more (had_before before.version version said asked.greeted.stays step.has) asked.sends.has in
+      let had : HasFrames version (said ++ more) = All-append (λ (v : FrameValue). version_of v ≤ version) said more
+      (had_before before.version version said asked.greeted.stays step.has) asked.sends.has in
       let heard : heard_by served serves.frames ≡ said ++ more = ap (λ (v : ℕ). heard_by v serves.frames) same ∙ ap (heard_by version) frames ∙ all_heard version (said ++ more) had in
       let replies : serves.replies ≡ map AnswerFrame (answers_of exchanges) ++ left = ap (drop 1) is in
       record {
@@ -257,7 +266,8 @@ module _ {L : Type 0} (state : L → LineState) (round shard : ℕ) (labels : Li
         rest = rest;
         texts = texts;
         lawful = lawful_back (map AnswerFrame (answers_of exchanges)) left (subst AreLawful replies lawful_replies);
-        replies = subst (λ (fs : List FrameValue). AreReplies empty_shelf fs (map AnswerFrame (answers_of exchanges) ++ left)) heard (subst (AreReplies empty_shelf (heard_by served serves.frames)) replies serves.answered);
+        replies = subst (λ (fs : List FrameValue). AreReplies empty_shelf fs (map AnswerFrame (answers_of exchanges) ++ left)) heard
+            (subst (AreReplies empty_shelf (heard_by served serves.frames)) replies serves.answered);
       }
 
   -- what came first begins with the hello
@@ -281,7 +291,14 @@ module _ {L : Type 0} (state : L → LineState) (round shard : ℕ) (labels : Li
         let are : AreReplies empty_shelf ((said ++ first) ++ AskFrame round shard labels ∷ []) (map AnswerFrame (answers_of exchanges) ++ v ∷ later) =
         subst (λ (fs : List FrameValue). AreReplies empty_shelf fs (map AnswerFrame (answers_of exchanges) ++ v ∷ later)) (sym (append_assoc said first (AskFrame round shard labels ∷ [])))
         (subst (λ (rs : List FrameValue). AreReplies empty_shelf (said ++ frames_put before round shard labels) (map AnswerFrame (answers_of exchanges) ++ rs)) one left.replies) in
-        let count : length (map AnswerFrame (answers_of exchanges)) ≡ asks_in (said ++ first) = omega (arith, length-map (answers_of exchanges) AnswerFrame, length-map exchanges (λ (e : Exchange). e.answer), asks_made before said exchanges step, asks-append said first, asks_shard (has_shard before.sent shard) shard links) in
+        let count : length (map AnswerFrame (answers_of exchanges)) ≡ asks_in (said ++ first) = omega (
+          arith,
+          length-map (answers_of exchanges) AnswerFrame,
+          length-map exchanges (λ (e : Exchange). e.answer),
+          asks_made before said exchanges step,
+          asks-append said first,
+          asks_shard (has_shard before.sent shard) shard links,
+        ) in
         let shelf : shelf_after empty_shelf (said ++ first) shard ≡ Some links =
         ap (λ (f : Shelf). f shard) (shelf_after-append empty_shelf said first) ∙ shelf_there (has_shard before.sent shard) (shelf_after empty_shelf said) shard links (step.shelves shard in_cut) in
         subst (λ (o : Option (List Link)). MayReply o round shard labels v) shelf (last_reply empty_shelf (said ++ first) round shard labels (map AnswerFrame (answers_of exchanges)) v later are count)

@@ -1,11 +1,11 @@
 -- What was sent and got over several calls.
-use Rattle.std.proofs.Common.{◌≡◌, ℕ, ◌+◌, List, [], ◌++◌, append-nil, sym, subst, arith}
-use Rattle.std.specs.Prelude.{Result, Ok, Err, IfErr}
+use Rattle.std.proofs.Common.{◌≡◌, ℕ, ◌+◌, List, [], ◌++◌, append-nil, subst, arith}
+use Rattle.std.specs.Prelude.{Result, Ok, Err, IfOk, IfErr}
 use Rattle.std.proofs.KnownBytes.{Appends-trans}
 use Rattle.round_theory.specs.declared.fault.PortFault.{PortFault}
 use Rattle.round_theory.specs.declared.fault.PortFault.TheVariants.{Down}
 use Rattle.wires.specs.Lines.{LineState, HasRoom, Transfers}
-use Rattle.wires.specs.Causes.{LineFailed, Receives, SendingFault}
+use Rattle.wires.specs.Causes.{LineFailed, Transmits, Receives, SendingFault}
 
 -- calls, and then more calls
 pub went_then : (f e f' e' : ℕ) (said came said' came' : List ℕ) (a b c : LineState)
@@ -32,6 +32,12 @@ failed_of a b said came went = record { sent = λ no_failure. cc; got = λ no_fa
 
 pub then_failed : (a b c : LineState) (said came : List ℕ) → Transfers 0 0 said came a b → LineFailed b c → LineFailed a c
 then_failed a b c said came first second = failed_of a c (said ++ []) (came ++ []) (went_then 0 0 1 0 said came [] [] a b c first second)
+
+-- a part that was put, behind another
+pub sent_later : {T : Type 0} (r : Result T PortFault) (a b c : LineState) (first later : List ℕ) → Transmits first a b
+    → IfOk r (λ passed. Transmits later b c) → IfOk r (λ passed. Transmits (first ++ later) a c)
+sent_later (Ok passed) a b c first later one two = went_then 0 0 0 0 first [] later [] a b c one two
+sent_later (Err fault) a b c first later one two = tt
 
 -- a part that wasn't put, behind one that was
 pub down_later : {T : Type 0} (r : Result T PortFault) (a b c : LineState) (said came : List ℕ) → Transfers 0 0 said came a b

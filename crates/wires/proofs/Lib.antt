@@ -1,4 +1,3 @@
-pub mod GivenBytes
 pub mod Going
 pub mod SendingPieces
 pub mod LineReads

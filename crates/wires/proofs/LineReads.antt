@@ -1,14 +1,14 @@
 -- What reads of a line say, as facts on the line.
-use Rattle.std.proofs.Common.{◌≡◌, ℕ, List, [], arith}
-use Rattle.std.specs.Prelude.{Result, Ok, Err, IfOk, IfErr}
+use Rattle.std.proofs.Common.{◌≡◌, [], arith}
+use Rattle.std.specs.Prelude.{Result, IfOk, IfErr}
 use Rattle.std.specs.Io.KnownBytes.{Appends}
 use Rattle.byte_streams.specs.Streams.{Gave}
 use Rattle.frames.specs.FrameValue.{value_of}
 use Rattle.frames.specs.declared.frame.Frame.{Frame}
 use Rattle.frames.specs.FrameText.{text_of}
-use Rattle.frames.specs.ReadFault.{IsReadRefused, failures_of, ends_of}
+use Rattle.frames.specs.ReadFault.{IsReadRefused}
 use Rattle.frames.specs.declared.fault.FrameFault.{FrameFault}
-use Rattle.wires.specs.Lines.{LineState, Transfers}
+use Rattle.wires.specs.Lines.{LineState}
 use Rattle.wires.specs.LineSources.{source_of}
 use Rattle.wires.specs.Causes.{FailsToRead, Receives}
 

@@ -14,7 +14,7 @@ use Rattle.round_theory.specs.declared.fault.PortFault.TheVariants.{Down, Garble
 use Rattle.claim_board.specs.Shards.{has_shard}
 use Rattle.wires.specs.Lines.{LineState, Transfers}
 use Rattle.wires.specs.Clients.{ClientState, HelloCame, HasFrames, hello_due, shard_due, SendsAsk, BringsUpTo, AnswersOverLine}
-use Rattle.wires.specs.Causes.{Receives, SendingFault, AnswerFault, Cause, InAsk, InReply}
+use Rattle.wires.specs.Causes.{Receives, SendingFault, AnswerFault, Cause, InReply}
 use Rattle.std.proofs.lemmas.List.Elements.{All-nil, All-cons, All-append}
 use Rattle.wires.proofs.Going.{went_then, then_failed}
 
@@ -32,7 +32,8 @@ has_put version due round shard labels known has =
 abbrev due_of : {L : Type 0} → ClientState L → ℕ → List FrameValue
 due_of before shard = shard_due (has_shard before.sent shard) shard (links_at before.cut shard)
 
-due_is : {L : Type 0} (before : ClientState L) (shard number : ℕ) (links : List Link) → number ≡ shard → links ≡ links_at before.cut shard → shard_due (has_shard before.sent number) number links ≡ due_of before shard
+due_is : {L : Type 0} (before : ClientState L) (shard number : ℕ) (links : List Link) → number ≡ shard → links ≡ links_at before.cut shard
+    → shard_due (has_shard before.sent number) number links ≡ due_of before shard
 due_is before shard number links same same' = search arith
 
 -- the hello came, the shard and the ask were sent
@@ -51,7 +52,8 @@ module _ {L : Type 0} (state : L → LineState) (round shard : ℕ) (labels : Li
       sym (texts-append due (AskFrame round shard labels ∷ []) ∙ ap (λ (t : List ℕ). texts_of due ++ t) (append-nil (text_of (AskFrame round shard labels)))) in
       let came : (hello ++ []) ++ [] ≡ hello = append-nil (hello ++ []) ∙ append-nil hello in
       record {
-        went = subst (λ (t : List ℕ). Transfers 0 0 t hello (state before.line) (state r3)) said (subst (λ (t : List ℕ). Transfers 0 0 (texts_of due ++ text_of (AskFrame round shard labels)) t (state before.line) (state r3)) came whole);
+        went = subst (λ (t : List ℕ). Transfers 0 0 t hello (state before.line) (state r3)) said
+            (subst (λ (t : List ℕ). Transfers 0 0 (texts_of due ++ text_of (AskFrame round shard labels)) t (state before.line) (state r3)) came whole);
         has = has_put version due round shard labels known (subst (HasFrames version) is has);
       }
 
@@ -69,7 +71,8 @@ module _ {L : Type 0} (state : L → LineState) (round shard : ℕ) (labels : Li
   unsent_ask number links r1 r2 e same same' first greeted has second fault = search (arith, due_is, append-nil, went_then, unsent_of)
 
 -- the line `r` was asked, and the reply, or what is at fault, came behind that
-module _ {L : Type 0} (state : L → LineState) (round shard : ℕ) (labels : List ℕ) (version : ℕ) (before : ClientState L) (r : L) (so_far : SendsAsk state round shard labels version before r) (after : ClientState L) (greeted : HelloCame version before.version after.version) where
+module _ {L : Type 0} (state : L → LineState) (round shard : ℕ) (labels : List ℕ) (version : ℕ) (before : ClientState L) (r : L) (so_far : SendsAsk state round shard labels version before r)
+    (after : ClientState L) (greeted : HelloCame version before.version after.version) where
   brings : (ends : ℕ) (bytes : List ℕ) → Transfers 0 ends [] bytes (state r) (state after.line) → BringsUpTo ends state round shard labels bytes before after
   brings ends bytes came = record { version = version; greeted = greeted; asked = r; sends = so_far; came = came }
 

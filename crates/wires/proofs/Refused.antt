@@ -1,10 +1,9 @@
 -- Bad bytes, whatever follows them.
-use Rattle.std.proofs.Common.{◌≡◌, ℕ, ◌≤◌, List, [], ◌∷◌, ◌++◌, length, refl, ap, arith}
+use Rattle.std.proofs.Common.{◌≡◌, ℕ, ◌≤◌, List, [], ◌∷◌, ◌++◌, length, ap, arith}
 use Rattle.std.proofs.lemmas.List.{length-append}
 use Rattle.frames.specs.FrameValue.{FrameValue}
 use Rattle.frames.specs.Refusals.{StreamRefused}
 use Rattle.frames.specs.declared.fault.FrameFault.{FrameFault}
-use Rattle.frames.specs.declared.fault.FrameFault.TheVariants.{BadKind, BadLength, BadField, BadVersion}
 use Rattle.frames.specs.FrameStream.{texts_of, AreLawful, BeginsNone, IsOfStream}
 use Rattle.frames.specs.ReadFault.{ends_of}
 use Rattle.frames.proofs.FrameStreams.{refused_begins_none}

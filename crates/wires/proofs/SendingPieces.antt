@@ -1,13 +1,12 @@
 -- A shard that goes out by pieces.
-use Rattle.std.proofs.Common.{◌≡◌, ℕ, ◌+◌, ◌*◌, ◌≤◌, min, List, [], ◌++◌, length, take, drop, sym, ap, subst, ◌∙◌, append_assoc, arith}
+use Rattle.std.proofs.Common.{◌≡◌, ℕ, ◌≤◌, List, [], ◌++◌, length, take, drop, sym, ap, subst, ◌∙◌, append_assoc, arith}
 use Rattle.std.specs.List.{flat_map}
 use Rattle.std.specs.Prelude.{Vec, vec_len, vec_capacity}
 use Rattle.std.proofs.lemmas.List.{take-append-drop}
 use Rattle.std.proofs.lemmas.Grind.{flat_map-append}
 use Rattle.links.specs.declared.links.Link.{Link}
 use Rattle.frames.specs.declared.spelling.Spelling.{Spelling}
-use Rattle.frames.specs.declared.spelling.Spelling.TheVariants.{Narrow, Wide}
-use Rattle.frames.specs.Spellings.{spelled_in, size_in, FitIn}
+use Rattle.frames.specs.Spellings.{spelled_in, FitIn}
 use Rattle.frames.proofs.Spelled.{fit_parts}
 use Rattle.wires.specs.Lines.{LineState}
 use Rattle.wires.specs.Causes.{Transmits}
@@ -26,7 +25,8 @@ pub awaits_rest : {A : Type 0} (s : Spelling) (links rest : List Link) (before a
 awaits_rest s links rest before after awaits fit fewer emptied kept = search (arith)
 
 -- a piece behind those before it
-pub puts_then : (s : Spelling) (text none : List ℕ) (links rest rest' : List Link) (a b c : LineState) → none ≡ [] → PutsSome s text links rest a b → PutsSome s none rest rest' b c → PutsSome s text links rest' a c
+pub puts_then : (s : Spelling) (text none : List ℕ) (links rest rest' : List Link) (a b c : LineState) → none ≡ []
+    → PutsSome s text links rest a b → PutsSome s none rest rest' b c → PutsSome s text links rest' a c
 puts_then s text none links rest rest' a b c empty one two =
     let f = spelled_in s in
     let said : (text ++ flat_map f one.first) ++ (none ++ flat_map f two.first) ≡ text ++ flat_map f (one.first ++ two.first) =

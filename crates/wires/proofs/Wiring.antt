@@ -1,8 +1,7 @@
 -- A wire from call to call.
-use Rattle.std.proofs.Common.{◌≡◌, ◌≢◌, ℕ, ◌<◌, List, [], ◌∷◌, ◌++◌, length, Some, refl, sym, ap, subst, ◌∙◌, append_assoc, inl, inr, arith}
-use Rattle.std.specs.Prelude.{◌+◌, Option, None, IsSome, IfSome, true, false, if◌then◌else◌}
+use Rattle.std.proofs.Common.{◌≡◌, ◌≢◌, ℕ, ◌<◌, List, [], ◌∷◌, ◌++◌, length, refl, sym, ap, subst, ◌∙◌, append_assoc, inl, inr, arith}
+use Rattle.std.specs.Prelude.{◌+◌, None, true, false}
 use Rattle.std.proofs.lemmas.List.{length-append}
-use Rattle.std.proofs.lemmas.List.Elements.{All-nil}
 use Rattle.limits.specs.declared.TheConstants.{MAX_WORKERS}
 use Rattle.links.specs.declared.links.Link.{Link}
 use Rattle.links.specs.Link.{EndsUpTo}
@@ -12,13 +11,13 @@ use Rattle.frames.specs.FrameValue.{FrameValue, HelloFrame, ShardFrame, AskFrame
 use Rattle.frames.specs.FrameText.{text_of}
 use Rattle.frames.specs.Lawful.{IsShard, IsAsk}
 use Rattle.round_theory.specs.declared.fault.PortFault.{PortFault}
-use Rattle.round_theory.specs.declared.fault.PortFault.TheVariants.{Down, Garbled, WrongHello, Gave, Memory, TooOld, Closed}
+use Rattle.round_theory.specs.declared.fault.PortFault.TheVariants.{Closed}
 use Rattle.claim_board.specs.Shards.{has_shard}
 use Rattle.wires.specs.Lines.{LineState, IsFresh, HasKnownBytes, Counted, ServesSoFar}
 use Rattle.round_theory.specs.Ports.{IsHonestAnswer, failure_of, want_of}
-use Rattle.wires.specs.Causes.{GoesDown, IsWanting, Cause, CountedFault, IsBlameless}
+use Rattle.wires.specs.Causes.{IsWanting, Cause, CountedFault, IsBlameless}
 use Rattle.round_theory.specs.Exchanges.{Exchange, exchange_of}
-use Rattle.wires.specs.Clients.{Client, ClientState, seen_client, shard_due, frames_put, Brings, EndsAfterAsk, AnswersOverLine, IsOfCut, MatchesLine}
+use Rattle.wires.specs.Clients.{ClientState, seen_client, shard_due, frames_put, Brings, EndsAfterAsk, AnswersOverLine}
 use Rattle.wires.specs.Wires.{WireState, last_ask, IsQuiet, IsCountedWire, IsFaultless, IsTrueSoFar, WireCause}
 use Rattle.wires.proofs.Asking.{all_brought, step_more, honest_answer, blameless}
 
@@ -32,7 +31,8 @@ last_put last (AnswerFrame a ∷ said) round shard labels = last_put last said r
 last_put last (FaultFrame r s c ∷ said) round shard labels = last_put last said round shard labels
 
 -- an ask that was open never ends with Closed
-pub not_closed : {L : Type 0} (state : L → LineState) (round shard : ℕ) (labels : List ℕ) (before after : ClientState L) (fault : PortFault) → Cause state fault round shard labels before after → fault ≢ Closed
+pub not_closed : {L : Type 0} (state : L → LineState) (round shard : ℕ) (labels : List ℕ) (before after : ClientState L) (fault : PortFault)
+    → Cause state fault round shard labels before after → fault ≢ Closed
 not_closed state round shard labels before after fault cause same = subst (λ (f : PortFault). Cause state f round shard labels before after) same cause
 
 -- ---- by what the line counts
@@ -67,7 +67,8 @@ module _ {L : Type 0} (state : L → LineState) (old new : WireState L) (start :
   pub quiet_more : Counted 0 0 (state old.client.line) (state new.client.line) → new.failures ≡ old.failures → new.wants ≡ old.wants → IsCountedWire state old start → IsCountedWire state new start
   quiet_more more failures wants counted = search (arith, quiet_open, quiet_first)
 
-  pub faulted_more : (fault : PortFault) → CountedFault fault (state old.client.line) (state new.client.line) → new.is_open ≡ false → new.failures ≡ old.failures + failure_of fault → new.wants ≡ old.wants + want_of fault
+  pub faulted_more : (fault : PortFault) → CountedFault fault (state old.client.line) (state new.client.line) → new.is_open ≡ false
+      → new.failures ≡ old.failures + failure_of fault → new.wants ≡ old.wants + want_of fault
       → IsCountedWire state old start → IsCountedWire state new start
   faulted_more fault more closed failures wants counted = search (arith, quiet_open, quiet_first)
 
@@ -82,7 +83,8 @@ module _ {L : Type 0} (state : L → LineState) where
 
 module _ {L : Type 0} (state : L → LineState) where
   -- a wire that asked nothing yet, over a fresh line whose bytes are known
-  pub fresh_faultless : (wire : WireState L) (ends : ℕ) → IsFresh (state wire.client.line) → HasKnownBytes (state wire.client.line) → (state wire.client.line).ends ≡ ends → wire.client.version ≡ None → ((s : ℕ) → has_shard wire.client.sent s ≡ false)
+  pub fresh_faultless : (wire : WireState L) (ends : ℕ) → IsFresh (state wire.client.line) → HasKnownBytes (state wire.client.line)
+      → (state wire.client.line).ends ≡ ends → wire.client.version ≡ None → ((s : ℕ) → has_shard wire.client.sent s ≡ false)
       → wire.asks ≡ 0 → wire.failures ≡ 0 → wire.wants ≡ 0 → wire.last ≡ (0, 0) → IsFaultless state ends wire [] []
   fresh_faultless wire ends fresh known ends_are quiet none asks failures wants last = search (arith)
 
@@ -92,12 +94,14 @@ module _ {L : Type 0} (state : L → LineState) where
   faultless_open kind wire ends exchanges live went = search arith
 
   -- one that is shut stays what it was
-  pub went_shut : (kind : PortFault → Type 0) (wire : WireState L) (ends : ℕ) (exchanges : List Exchange) → IsTrueSoFar state kind wire ends exchanges → IsTrueSoFar state kind (record wire { is_open = false }) ends exchanges
+  pub went_shut : (kind : PortFault → Type 0) (wire : WireState L) (ends : ℕ) (exchanges : List Exchange) → IsTrueSoFar state kind wire ends exchanges
+      → IsTrueSoFar state kind (record wire { is_open = false }) ends exchanges
   went_shut kind wire ends exchanges went = search arith
 
   -- ---- one ask of an open wire
 
-  module _ (round shard : ℕ) (labels : List ℕ) (old new : WireState L) (in_cut : shard < length old.client.cut) (live : old.is_open ≡ true) (asks : new.asks ≡ old.asks + 1) (last : new.last ≡ (round, shard)) where
+  module _ (round shard : ℕ) (labels : List ℕ) (old new : WireState L) (in_cut : shard < length old.client.cut) (live : old.is_open ≡ true)
+      (asks : new.asks ≡ old.asks + 1) (last : new.last ≡ (round, shard)) where
     -- it was answered
     module _ (is : IsShard shard (links_at old.client.cut shard)) (ask : IsAsk round shard labels) (a : AnswerValue) (asked : AnswersOverLine state round shard labels a old.client new.client) where
       pub answered : (kind kind' : PortFault → Type 0) (ends : ℕ) (exchanges : List Exchange) → new.failures ≡ old.failures → new.wants ≡ old.wants → IsTrueSoFar state kind old ends exchanges
@@ -119,7 +123,8 @@ module _ {L : Type 0} (state : L → LineState) where
 
     -- it wasn't
     module _ (fault : PortFault) (cause : WireCause state fault round shard labels old new) where
-      pub failed : (kind kind' : PortFault → Type 0) (ends : ℕ) (exchanges : List Exchange) → kind' fault → new.is_open ≡ false → new.client.cut ≡ old.client.cut → new.client.worker ≡ old.client.worker
+      pub failed : (kind kind' : PortFault → Type 0) (ends : ℕ) (exchanges : List Exchange) → kind' fault → new.is_open ≡ false
+          → new.client.cut ≡ old.client.cut → new.client.worker ≡ old.client.worker
           → new.failures ≡ old.failures + failure_of fault → new.wants ≡ old.wants + want_of fault → IsTrueSoFar state kind old ends exchanges → IsTrueSoFar state kind' new ends exchanges
       failed kind kind' ends exchanges is_kind closed cut worker failures wants went =
           let (said, faultless) = faultless_open kind old ends exchanges live went in
@@ -147,16 +152,19 @@ module _ {L : Type 0} (state : L → LineState) where
 
   -- ---- what a faithful line leads to, whatever the wire counts
 
-  module _ (round shard : ℕ) (labels : List ℕ) (old : WireState L) (new : ClientState L) (in_cut : shard < length old.client.cut) (live : old.is_open ≡ true) (is : IsShard shard (links_at old.client.cut shard)) (ask : IsAsk round shard labels)
+  module _ (round shard : ℕ) (labels : List ℕ) (old : WireState L) (new : ClientState L) (in_cut : shard < length old.client.cut) (live : old.is_open ≡ true)
+      (is : IsShard shard (links_at old.client.cut shard)) (ask : IsAsk round shard labels)
       (below : old.client.worker < MAX_WORKERS) (kind : PortFault → Type 0) where
     -- what is known of the line by the end of the ask is enough
-    pub served_answer : (a : AnswerValue) → AnswersOverLine state round shard labels a old.client new → (ends : ℕ) (exchanges : List Exchange) → IsTrueSoFar state kind old ends exchanges → ServesSoFar old.client.worker (state new.line)
+    pub served_answer : (a : AnswerValue) → AnswersOverLine state round shard labels a old.client new → (ends : ℕ) (exchanges : List Exchange)
+        → IsTrueSoFar state kind old ends exchanges → ServesSoFar old.client.worker (state new.line)
         → IsHonestAnswer old.client.cut round shard labels a
     served_answer a asked ends exchanges went serves =
         let (said, faultless) = faultless_open kind old ends exchanges live went in
         honest_answer state round shard labels old.client new said exchanges faultless.in_step below serves in_cut is ask a asked
 
-    module _ (line line' : ℕ → Type 0) (kept : (w : ℕ) → line w → line' w) (serves : (w : ℕ) → line' w → ServesSoFar w (state new.line)) (honest : line old.client.worker × ((ends : ℕ) × (exchanges : List Exchange) × IsTrueSoFar state kind old ends exchanges)) where
+    module _ (line line' : ℕ → Type 0) (kept : (w : ℕ) → line w → line' w) (serves : (w : ℕ) → line' w → ServesSoFar w (state new.line))
+        (honest : line old.client.worker × ((ends : ℕ) × (exchanges : List Exchange) × IsTrueSoFar state kind old ends exchanges)) where
       pub light_answer : (a : AnswerValue) → AnswersOverLine state round shard labels a old.client new → IsHonestAnswer old.client.cut round shard labels a
       light_answer a asked = search (arith, served_answer)
 

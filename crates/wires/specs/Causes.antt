@@ -1,5 +1,5 @@
 -- Why a wire gives no answer.
-use Rattle.std.specs.Prelude.{◌≡◌, ◌≢◌, ℕ, ◌⊎◌, ⊤, Bool, false, None, List, []}
+use Rattle.std.specs.Prelude.{◌≡◌, ◌≢◌, ℕ, ◌⊎◌, ⊤, Bool, false, Option, None, List, []}
 use Rattle.frames.specs.FrameValue.{FrameValue, HelloFrame, AnswerFrame, FaultFrame}
 use Rattle.frames.specs.FrameText.{are_narrow, text_of}
 use Rattle.frames.specs.FrameStream.{texts_of}
@@ -80,6 +80,10 @@ GreetingFault Garbled worker before after = (bytes : List ℕ) × IsBad bytes ×
 GreetingFault WrongHello worker before after = (v : FrameValue) × IsLawful v × IsNoHelloOf worker v × Receives (text_of v) before after
 GreetingFault Memory worker before after = ReceivesUnkept before after
 GreetingFault _ worker before after = ⊥
+
+-- the same, and none of any version was heard before
+abbrev pub FailsToGreet : Option ℕ → ℕ → PortFault → LineState → LineState → Type 0
+FailsToGreet heard worker fault before after = (heard ≡ None) × GreetingFault fault worker before after
 
 -- why a frame wasn't sent: for want of memory it isn't made, and the line isn't called
 abbrev pub SendingFault : PortFault → LineState → LineState → Type 0

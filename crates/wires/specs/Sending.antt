@@ -4,6 +4,8 @@ use Rattle.std.specs.List.{flat_map}
 use Rattle.links.specs.declared.links.Link.{Link}
 use Rattle.frames.specs.declared.encoding.TheConstants.{SHARD_HEAD}
 use Rattle.frames.specs.declared.spelling.Spelling.{Spelling}
+use Rattle.frames.specs.FrameValue.{ShardFrame}
+use Rattle.frames.specs.FrameText.{text_of}
 use Rattle.frames.specs.Spellings.{spelled_in, size_in, FitIn}
 use Rattle.wires.specs.Lines.{LineState}
 use Rattle.wires.specs.Causes.{Transmits}
@@ -13,6 +15,11 @@ pub record AwaitsLinks {A : Type 0} (s : Spelling) (links : List Link) (text : V
   pub fit : FitIn s links
   pub begun : vec_len text ≤ SHARD_HEAD
   pub room : min 65536 (SHARD_HEAD + size_in s * length links) ≤ vec_capacity text
+
+-- the text is what stands before these links in the frame of their shard, and awaits them
+pub record BeginsShard {A : Type 0} (s : Spelling) (number : ℕ) (links : List Link) (text : Vec ℕ A) : Type 0 where
+  pub begun : text.items ++ flat_map (spelled_in s) links ≡ text_of (ShardFrame number links)
+  pub awaits : AwaitsLinks s links text
 
 -- a text and the first of these links were put behind each other, and the rest of them is left
 pub record PutsSome (s : Spelling) (text : List ℕ) (links rest : List Link) (before after : LineState) : Type 0 where

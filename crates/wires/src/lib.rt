@@ -11,7 +11,6 @@
 //!         Line::put           LineSource, which owns the line: frames are read of it
 //!              |                 /
 //!            Line
-//!      FusedLine(line)    ScriptLine       for tests: one that stops; one that plays stored bytes
 //! ```
 //!
 //! What it promises:
@@ -22,23 +21,17 @@
 //!   asks, and got the hello and the answers, and nothing else.
 //!
 //! Where to start a change: `line` and `specs/Lines` for what is known of a line; `steps` and `specs/Causes` for a new
-//! fault or step; `specs/Clients` for what a wire said and heard. What a port does stands in `round_theory`, a line to an
-//! engine in memory in `ports`.
+//! fault or step; `specs/Clients` for what a wire said and heard. What a port does stands in `round_theory`; lines
+//! for tests, such as one to an engine in memory, stand in `ports`.
 #![tactic(auto)]
 
 mod client;
 mod fault;
-mod fused;
 mod line;
 mod line_source;
-mod memory;
-mod script;
 mod steps;
 mod wire;
 
 pub use fault::LineFault;
-pub use fused::{Fuse, FusedLine};
 pub use line::Line;
-pub use memory::give;
-pub use script::ScriptLine;
 pub use wire::Wire;

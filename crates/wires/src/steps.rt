@@ -8,9 +8,10 @@ ghost use Rattle.frames.specs.FrameStream.{texts_of};
 ghost use Rattle.frames.specs.Spellings.{spelled_in, spelling_of};
 ghost use Rattle.claim_board.specs.Shards.{has_shard};
 ghost use Rattle.wires.specs.Lines.{HasRoom};
-ghost use Rattle.wires.specs.Causes.{Transmits, Receives, GreetingFault, SendingFault, LacksFrame, AnswerFault, FailsToRead, port_fault};
+ghost use Rattle.wires.specs.Causes.{Receives, FailsToGreet, SendingFault, LacksFrame, AnswerFault, FailsToRead, port_fault};
 ghost use Rattle.wires.specs.Clients.{HasFrames, hello_due, shard_put};
-ghost use Rattle.wires.specs.Sending.{AwaitsLinks, PutsSome};
+ghost use Rattle.wires.specs.Steps.{Steps, SendsText};
+ghost use Rattle.wires.specs.Sending.{AwaitsLinks, BeginsShard, PutsSome};
 
 use crate::line::Line;
 use crate::line_source::LineSource;
@@ -33,13 +34,10 @@ pub fn greet<L: Line, A: Allocator + Copy>(
 ) -> Result<u16, PortFault>
     requires room { HasRoom (L.state source.old.line) }
     requires known { IfSome heard IsVersion }
-    ensures went { IfOk result (λ version.
-        Receives (hello_due heard version worker) (L.state source.old.line) (L.state source.new.line)) }
+    ensures step { Steps L.Line (λ version. Receives (hello_due heard version worker)) (FailsToGreet heard worker)
+        result source.old.line source.new.line }
     ensures known { IfOk result (λ version. IsVersion version) }
     ensures stays { IfOk result (λ version. (v : ℕ) → heard ≡ Some v → v ≡ version) }
-    ensures fault { IfErr result (λ e. (heard ≡ None)
-        × GreetingFault e worker (L.state source.old.line) (L.state source.new.line)) }
-    ensures faithful { (w : ℕ) → L.faithful source.old.line w → L.faithful source.new.line w }
 {
     if let Some(version) = heard {
         return Ok(version);
@@ -89,12 +87,9 @@ pub fn send_shard<L: Line, A: Allocator + Copy>(
     requires can { HasRoom (L.state line.old) }
     requires number { part.now.number < MAX_SHARDS }
     requires count { length part.now.links.now ≤ MAX_SHARD_LINKS }
-    ensures went { OnOk result (Transmits (texts_of (shard_put sent.old part.now.number part.now.links.now))
-        (L.state line.old) (L.state line.new)) }
+    ensures step { SendsText L.Line (texts_of (shard_put sent.old part.now.number part.now.links.now)) result line.old line.new }
     ensures sent { OnOk result ((s : ℕ)
         → has_shard sent.new s ≡ (s == part.now.number || has_shard sent.old s)) }
-    ensures fault { IfErr result (λ e. SendingFault e (L.state line.old) (L.state line.new)) }
-    ensures faithful { (w : ℕ) → L.faithful line.old w → L.faithful line.new w }
 {
     if sent.has(part.number) {
         return Ok(());
@@ -115,9 +110,7 @@ fn begin_shard<A: Allocator>(
     requires number { part.now.number < MAX_SHARDS }
     requires count { length part.now.links.now ≤ MAX_SHARD_LINKS }
     requires spelling { spelling_of part.now.links.now ≡ spelling }
-    ensures begun { OnOk result (text.new.items ++ flat_map (spelled_in spelling) part.now.links.now
-        ≡ text_of (ShardFrame part.now.number part.now.links.now)) }
-    ensures awaits { OnOk result (AwaitsLinks spelling part.now.links.now text.new) }
+    ensures begun { OnOk result (BeginsShard spelling part.now.number part.now.links.now text.new) }
 {
     let room = SHARD_HEAD + spelling.bytes_of(part.links.len());
     text.clear();
@@ -134,10 +127,7 @@ fn send_links<L: Line, A: Allocator>(
 ) -> Result<(), PortFault>
     requires can { HasRoom (L.state line.old) }
     requires awaits { AwaitsLinks spelling links.now text.old }
-    ensures went { OnOk result (Transmits (text.old.items ++ flat_map (spelled_in spelling) links.now)
-        (L.state line.old) (L.state line.new)) }
-    ensures fault { IfErr result (λ e. SendingFault e (L.state line.old) (L.state line.new)) }
-    ensures faithful { (w : ℕ) → L.faithful line.old w → L.faithful line.new w }
+    ensures step { SendsText L.Line (text.old.items ++ flat_map (spelled_in spelling) links.now) result line.old line.new }
 {
     let mut rest = send_piece(line, text, spelling, links)?;
     while !rest.is_empty() {
@@ -155,14 +145,11 @@ fn send_piece<'a, L: Line, A: Allocator>(
 ) -> Result<&'a [Link], PortFault>
     requires can { HasRoom (L.state line.old) }
     requires awaits { AwaitsLinks spelling links.now text.old }
-    ensures went { IfOk result (λ rest. PutsSome spelling text.old.items links.now rest.now
-        (L.state line.old) (L.state line.new)) }
+    ensures step { Steps L.Line (λ rest. PutsSome spelling text.old.items links.now rest.now) SendingFault result line.old line.new }
     ensures fewer { IfOk result (λ rest. 0 < length links.now → length rest.now < length links.now) }
     ensures emptied { OnOk result (text.new.items ≡ []) }
     ensures awaits { IfOk result (λ rest. AwaitsLinks spelling rest.now text.new) }
     ensures down { IfErr result (λ e. e ≡ PortFault.Down) }
-    ensures fault { IfErr result (λ e. SendingFault e (L.state line.old) (L.state line.new)) }
-    ensures faithful { (w : ℕ) → L.faithful line.old w → L.faithful line.new w }
 {
     let most = spelling.links_in(MOST - SHARD_HEAD);
     let (piece, rest) = links.split_at(links.len().min(most));
@@ -186,10 +173,7 @@ pub fn send_ask<L: Line, A: Allocator>(
 ) -> Result<(), PortFault>
     requires can { HasRoom (L.state line.old) }
     requires shard { shard < MAX_SHARDS }
-    ensures went { OnOk result (Transmits (text_of (AskFrame round shard labels.now))
-        (L.state line.old) (L.state line.new)) }
-    ensures fault { IfErr result (λ e. SendingFault e (L.state line.old) (L.state line.new)) }
-    ensures faithful { (w : ℕ) → L.faithful line.old w → L.faithful line.new w }
+    ensures step { SendsText L.Line (text_of (AskFrame round shard labels.now)) result line.old line.new }
 {
     if let Some(parts) = ask_parts(round, shard, labels) {
         if parts.1.len() >= LONG {
@@ -206,12 +190,8 @@ pub fn hear_answer<L: Line, A: Allocator + Copy>(
     source: &mut LineSource<L>,
 ) -> Result<Answer<A>, PortFault>
     requires { HasRoom (L.state source.old.line) }
-    ensures went { IfOk result (λ a.
-        Receives (text_of (AnswerFrame a)) (L.state source.old.line) (L.state source.new.line)) }
+    ensures step { Steps L.Line (λ a. Receives (text_of (AnswerFrame a))) AnswerFault result source.old.line source.new.line }
     ensures lawful { IfOk result (λ a. IsAnswer a) }
-    ensures fault { IfErr result
-        (λ e. AnswerFault e (L.state source.old.line) (L.state source.new.line)) }
-    ensures faithful { (w : ℕ) → L.faithful source.old.line w → L.faithful source.new.line w }
 {
     match hear(alloc, source) {
         Ok(Frame::Answer(answer)) => Ok(answer),
@@ -233,12 +213,8 @@ fn hear<L: Line, A: Allocator + Copy>(
     source: &mut LineSource<L>,
 ) -> Result<Frame<A>, FrameFault>
     requires { HasRoom (L.state source.old.line) }
-    ensures went { IfOk result (λ f.
-        Receives (text_of (value_of f)) (L.state source.old.line) (L.state source.new.line)) }
+    ensures step { Steps L.Line (λ f. Receives (text_of (value_of f))) FailsToRead result source.old.line source.new.line }
     ensures lawful { IfOk result (λ f. IsLawful (value_of f)) }
-    ensures broke { IfErr result
-        (λ fault. FailsToRead fault (L.state source.old.line) (L.state source.new.line)) }
-    ensures faithful { (w : ℕ) → L.faithful source.old.line w → L.faithful source.new.line w }
 {
     read_frame(alloc, source)
 }
@@ -246,10 +222,8 @@ fn hear<L: Line, A: Allocator + Copy>(
 // Sends a whole text by one put.
 fn send<L: Line>(line: &mut L, bytes: &[u8]) -> Result<(), PortFault>
     requires { HasRoom (L.state line.old) }
-    ensures went { OnOk result (Transmits bytes.now (L.state line.old) (L.state line.new)) }
-    ensures fault { IfErr result (λ e. SendingFault e (L.state line.old) (L.state line.new)) }
+    ensures step { SendsText L.Line bytes.now result line.old line.new }
     ensures down { IfErr result (λ e. e ≡ PortFault.Down) }
-    ensures faithful { (w : ℕ) → L.faithful line.old w → L.faithful line.new w }
 {
     match line.put(bytes) {
         Ok(()) => Ok(()),
@@ -260,9 +234,7 @@ fn send<L: Line>(line: &mut L, bytes: &[u8]) -> Result<(), PortFault>
 // Sends a text in two parts, by a put for each.
 fn send_both<L: Line>(line: &mut L, front: &[u8], rest: &[u8]) -> Result<(), PortFault>
     requires { HasRoom (L.state line.old) }
-    ensures went { OnOk result (Transmits (front.now ++ rest.now) (L.state line.old) (L.state line.new)) }
-    ensures fault { IfErr result (λ e. SendingFault e (L.state line.old) (L.state line.new)) }
-    ensures faithful { (w : ℕ) → L.faithful line.old w → L.faithful line.new w }
+    ensures step { SendsText L.Line (front.now ++ rest.now) result line.old line.new }
 {
     send(line, front)?;
     send(line, rest)

@@ -1,6 +1,6 @@
 -- What is kept, without what is live of it.
 use Rattle.std.proofs.Common.{◌≡◌, ℕ, List, [], ◌∷◌, Bool, true, false, cond, Option, Some, None, Less, Equal, Greater, nat_cmp, refl, sym, ap, ◌∙◌, subst, inl, inr, arith}
-use Rattle.std.specs.Prelude.{IfSome, IsSome, Result, Ok, Err, OnErr, ◌==◌}
+use Rattle.std.specs.Prelude.{IfSome, IsSome, Result, Ok, Err, IfOk, OnErr, ◌==◌}
 use Rattle.std.specs.Ordering.{is_eq}
 use Rattle.std.specs.Cmp.{nat_cmp_is}
 use Rattle.std.specs.Option.{option_map}
@@ -11,11 +11,12 @@ use Rattle.std.proofs.lemmas.Bool.{cases_eq, cases_lt, eq-eqb, ne_eqb}
 use Rattle.std.proofs.lemmas.Map.Made.{lookup-map_values}
 use Rattle.links.specs.declared.links.Link.{Link}
 use Rattle.links.specs.Labels.{Coarsens}
-use Rattle.frames.specs.FrameValue.{ShardFrame}
-use Rattle.worker_replies.specs.Serving.{shelf_of, shelf_with}
+use Rattle.frames.specs.declared.frame.Frame.{Frame}
+use Rattle.frames.specs.FrameValue.{ShardFrame, FaultFrame, value_of}
+use Rattle.worker_replies.specs.Serving.{Shelf, shelf_of, shelf_with, IsReply, MayReply}
 use Rattle.shard_scans.proofs.Written.{kept_coarser}
 use Rattle.shard_scans.specs.Live.{KeptShardState, AreLiveLinks, IsLive, IsAllLive}
-use Rattle.worker_engine.specs.Shelves.{shelf_list, AreAllLive, AreAllUnder}
+use Rattle.worker_engine.specs.Shelves.{shelf_list, AreAllLive, AreAllUnder, Replies}
 
 abbrev links_of : KeptShardState → List Link
 links_of kept = kept.links
@@ -100,3 +101,10 @@ module _ (old new : List (ℕ × KeptShardState)) (number : ℕ) (kept : KeptSha
       go : (b : Bool) → IfSome (cond b (Some kept) (lookup (is_at (nat_cmp s)) old)) (IsLive labels)
       go true = subst (λ listed. IfSome listed (AreLiveLinks kept.links labels)) (sym live) tt
       go false = all s
+
+-- where memory was wanting for a reply, code 1 may stand in its place
+pub may_reply : {A E : Type 0} (kept : Option (List Link)) (round shard : ℕ) (labels : List ℕ) (result : Result (Frame A) E) (v : Frame A) → Replies kept round shard labels result
+    → IfOk result (λ reply. v ≡ reply) → OnErr result (value_of v ≡ FaultFrame round shard 1) → MayReply kept round shard labels (value_of v)
+may_reply {A = A} kept round shard labels (Ok reply) v replies same fault = inl (subst (λ (f : Frame A). IsReply kept round shard labels (value_of f)) (sym same) replies.reply)
+may_reply None round shard labels (Err e) v replies same fault = let none = replies.is_kept in absurd (cc)
+may_reply (Some links) round shard labels (Err e) v replies same fault = inr fault

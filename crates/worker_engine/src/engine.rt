@@ -1,12 +1,11 @@
 //! A worker's engine: it keeps shards and replies to asks.
-ghost use Rattle.std.specs.Prelude.{◌≡◌, [], IsSome, IfOk, OnOk, OnErr, true};
+ghost use Rattle.std.specs.Prelude.{◌≡◌, [], IfOk, OnOk, OnErr, true};
 ghost use Rattle.frames.specs.FrameValue.{value_of, ShardFrame, FaultFrame};
 ghost use Rattle.frames.specs.Lawful.{IsLawful, IsShard, IsAsk};
-ghost use Rattle.frames.specs.FrameStream.{AreLawful};
-ghost use Rattle.worker_replies.specs.Serving.{shelf_of, shelf_with, IsReply, MayWantMemory, AreReplyTo, MayFollow, IsShardFrame, replies_in};
+ghost use Rattle.worker_replies.specs.Serving.{shelf_of, shelf_with};
 ghost use Rattle.links.specs.Labels.{Coarsens};
 ghost use Rattle.shard_scans.specs.Live.{IsAllLive};
-ghost use Rattle.worker_engine.specs.Shelves.{shelf_list, IsReplyWith, AreAllLive, AreAllUnder};
+ghost use Rattle.worker_engine.specs.Shelves.{shelf_list, IsReplyWith, AreAllLive, AreAllUnder, KeepsShards, Replies, Hears};
 
 mod hearing;
 mod threads;
@@ -76,11 +75,7 @@ impl<A: Allocator + Copy> Engine<A> {
     /// of a shard that is kept; the engine is unchanged then.
     pub fn hear(&mut self, frame: Frame<A>) -> Result<Option<Frame<A>>, AllocError>
         requires lawful { IsLawful (value_of frame) }
-        ensures shelf { OnOk result (shelf_of self.new ≡ shelf_with (shelf_of self.old) (value_of frame)) }
-        ensures reply { IfOk result (λ reply. AreReplyTo (shelf_of self.old) (value_of frame) (replies_in reply)) }
-        ensures lawful { IfOk result (λ reply. AreLawful (replies_in reply)) }
-        ensures unchanged { OnErr result (self.new ≡ self.old) }
-        ensures wants_memory { OnErr result (MayWantMemory (shelf_of self.old) (value_of frame)) }
+        ensures hears { Hears (value_of frame) result self.old self.new }
     {
         match frame {
             Frame::Shard { number, links } => {
@@ -99,33 +94,6 @@ impl<A: Allocator + Copy> Engine<A> {
         }
     }
 
-    /// Hears one frame as [`hear`](Engine::hear) does, but replies to each ask: to one that finds no memory by a fault with
-    /// the code [`NO_MEMORY`], which takes none.
-    ///
-    /// It costs what that costs. The only error is want of memory for a shard; the engine is unchanged then.
-    pub fn hear_or_fault(&mut self, frame: Frame<A>) -> Result<Option<Frame<A>>, AllocError>
-        requires lawful { IsLawful (value_of frame) }
-        ensures shelf { OnOk result (shelf_of self.new ≡ shelf_with (shelf_of self.old) (value_of frame)) }
-        ensures reply { IfOk result (λ reply. MayFollow (shelf_of self.old) (value_of frame) (replies_in reply)) }
-        ensures lawful { IfOk result (λ reply. AreLawful (replies_in reply)) }
-        ensures unchanged { OnErr result (self.new ≡ self.old) }
-        ensures wants_memory { OnErr result (IsShardFrame (value_of frame)) }
-    {
-        match frame {
-            Frame::Ask {
-                round,
-                shard,
-                labels,
-            } => {
-                let ask = Ask { round, shard };
-                let reply = self.reply(ask, labels);
-                Ok(Some(ask.reply_or_fault(reply)))
-            }
-            Frame::Hello { .. } | Frame::Shard { .. } | Frame::Answer(_) | Frame::Fault { .. } =>
-                self.hear(frame),
-        }
-    }
-
     // Keeps a shard's links under its number, in place of earlier ones.
     fn keep(&mut self, number: u32, links: Links<A>) -> Result<(), AllocError>
         requires { IsShard number links }
@@ -140,10 +108,8 @@ impl<A: Allocator + Copy> Engine<A> {
     // The reply to an ask, whose labels are kept.
     fn reply(&mut self, ask: Ask, labels: Labels<A>) -> Result<Frame<A>, AllocError>
         requires { IsAsk ask.round ask.shard labels }
-        ensures reply { IfOk result (λ reply. IsReply (shelf_of self.old ask.shard) ask.round ask.shard labels (value_of reply)) }
-        ensures lawful { IfOk result (λ reply. IsLawful (value_of reply)) }
+        ensures replies { Replies (shelf_of self.old ask.shard) ask.round ask.shard labels result }
         ensures unchanged { self.new ≡ self.old }
-        ensures is_kept { OnErr result (IsSome (shelf_of self.old ask.shard)) }
     {
         make_live(&mut self.shards, &labels, &self.labels);
         self.labels = labels;
@@ -206,11 +172,8 @@ fn reply_under<A: Allocator + Copy>(
 ) -> Result<Frame<A>, AllocError>
     requires ask { IsAsk ask.round ask.shard labels.now }
     requires live { AreAllUnder labels.now shards.old.entries }
-    ensures reply { IfOk result (λ reply. IsReply (shelf_of (shelf_list shards.old.entries) ask.shard) ask.round ask.shard labels.now (value_of reply)) }
-    ensures lawful { IfOk result (λ reply. IsLawful (value_of reply)) }
-    ensures shelf { shelf_list shards.new.entries ≡ shelf_list shards.old.entries }
-    ensures live { AreAllUnder labels.now shards.new.entries }
-    ensures is_kept { OnErr result (IsSome (shelf_of (shelf_list shards.old.entries) ask.shard)) }
+    ensures replies { Replies (shelf_of (shelf_list shards.old.entries) ask.shard) ask.round ask.shard labels.now result }
+    ensures keeps { KeepsShards labels.now shards.old.entries shards.new.entries }
 {
     let Some(kept) = shards.get_mut(&ask.shard) else {
         return Ok(ask.fault(NOT_KEPT));
@@ -226,8 +189,7 @@ fn make_live<A: Allocator>(
     last: &Labels<A>,
 )
     requires { AreAllUnder last.now shards.old.entries }
-    ensures shelf { shelf_list shards.new.entries ≡ shelf_list shards.old.entries }
-    ensures live { AreAllUnder labels.now shards.new.entries }
+    ensures keeps { KeepsShards labels.now shards.old.entries shards.new.entries }
     ensures stays { Coarsens labels.now last.now → shards.new ≡ shards.old }
 {
     if !labels.coarsens(last) {

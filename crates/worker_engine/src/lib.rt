@@ -9,7 +9,7 @@
 //!
 //! What it promises:
 //! - [`Engine::hear`], by threads [`Engine::hear_par`], keeps a shard in place of an earlier one of its number, replies to
-//!   an ask by what it keeps ([`Engine::hear_or_fault`] always), and changes nothing at another frame or without memory.
+//!   an ask by what it keeps, and changes nothing at another frame or without memory.
 //! - [`serve`] writes what a session of [`frames::VERSION`] owes for the frames of a stream, or a prefix of that where
 //!   it ends early; a longer stream owes no other beginning, in whichever version ([`worker_replies::laws`]).
 //!

@@ -24,11 +24,7 @@ use Rattle.std.proofs.lemmas.Bool.Decides.{eqb_tells}
 
 -- numbers are told apart by `==`
 numbers_apart : IsEquivalence eqb
-numbers_apart = record {
-  refl = λ x. eq-eqb x x refl;
-  symm = λ x y. elim (eqb_tells x y) [ inl (test, same) ↦ test ∙ sym (eq-eqb y x (sym same)) | inr (test, other) ↦ test ∙ sym (ne_eqb y x (λ same. other (sym same))) ];
-  congr = λ x y z same. ap (λ k. eqb k z) (eqb-true x y same);
-}
+numbers_apart = search (arith, eq-eqb, eqb_tells, ne_eqb, eqb, eqb-true)
 
 Contains-map : {X Y : Type 0} (f : X → Y) (xs : List X) (x : X) → Contains xs x → Contains (map f xs) (f x)
 Contains-map f xs x (k, lt, here) = (k, omega (arith, lt, length-map xs f), get_or-map f xs k x (f x) lt ∙ ap f here)
@@ -88,10 +84,4 @@ module _ (links : List Link) (labels : List ℕ) (offers : List Offer) (are : Ar
 -- an answer that says the light offers of a shard is lawful
 pub light_answer_is_lawful : (links : List Link) (labels : List ℕ) (answer : AnswerValue) → length links ≤ 2 ^ 24 → AreLabels labels → EndsUpTo (length labels) links
     → IsU32 answer.round → IsU32 answer.shard → AreLightOffers links labels answer.offers → IsAnswer answer
-light_answer_is_lawful links labels answer few all up_to round shard are = record {
-  round = round;
-  shard = shard;
-  count = omega (arith, few, few_offers links labels answer.offers are);
-  fit = offers_fit links labels answer.offers are few all up_to;
-  ascending = are.ascending;
-}
+light_answer_is_lawful links labels answer few all up_to round shard are = search (arith, few_offers, offers_fit)

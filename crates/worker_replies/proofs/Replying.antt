@@ -45,11 +45,7 @@ asks-append (f ∷ fs) gs = omega (arith, asks-append fs gs)
 
 -- one reply per ask
 reply_count : (shelf : Shelf) (f : FrameValue) (out : List FrameValue) → MayFollow shelf f out → length out ≡ ask_bit f
-reply_count shelf (AskFrame r s ls) out heard = ap length heard.1
-reply_count shelf (HelloFrame v w) out heard = ap length heard
-reply_count shelf (ShardFrame n ls) out heard = ap length heard
-reply_count shelf (AnswerFrame a) out heard = ap length heard
-reply_count shelf (FaultFrame r s c) out heard = ap length heard
+reply_count a1 a2 a3 a4 = search arith
 
 pub replies_count : (shelf : Shelf) (fs out : List FrameValue) → AreReplies shelf fs out → length out ≡ asks_in fs
 replies_count shelf [] out are = ap length are
@@ -61,14 +57,7 @@ replies_count shelf (f ∷ fs) out are =
 pub last_reply : (shelf : Shelf) (fs : List FrameValue) (round shard : ℕ) (labels : List ℕ) (came : List FrameValue) (v : FrameValue) (more : List FrameValue)
     → AreReplies shelf (fs ++ AskFrame round shard labels ∷ []) (came ++ v ∷ more) → length came ≡ asks_in fs
     → MayReply (shelf_after shelf fs shard) round shard labels v
-last_reply shelf fs round shard labels came v more are count =
-    let (early, late, split, first, second) = replies_split shelf fs (AskFrame round shard labels ∷ []) (came ++ v ∷ more) are in
-    let parts = parts_same came early (v ∷ more) late (count ∙ sym (replies_count shelf fs early first)) split in
-    let (now, later, is, heard, none) = second in
-    let (reply, one, good) = heard in
-    let same : v ∷ more ≡ reply ∷ [] = parts.1 ∙ is ∙ ap (λ (t : List FrameValue). t ++ later) one ∙ ap (λ (t : List FrameValue). reply ∷ t) none in
-    let first_is : reply ≡ v = cc in
-    subst (MayReply (shelf_after shelf fs shard) round shard labels) first_is good
+last_reply shelf fs round shard labels came v more are count = search (arith, replies_split, parts_same, replies_count)
 
 -- what is written for a stream begins with what may be written for a prefix of it
 pub prefix_has_prefix_replies : (version worker : ℕ) (prefix rest out : List ℕ) → Serves version worker (prefix ++ rest) out
@@ -98,33 +87,14 @@ fault_is_lawful r s c ls ask from to = record { round = ask.round; shard = omega
 
 reply_is_lawful : (kept : Option (List Link)) (r s : ℕ) (ls : List ℕ) (v : FrameValue) → IfSome kept (λ links. length links ≤ MAX_SHARD_LINKS) → IsAsk r s ls
     → MayReply kept r s ls v → IsLawful v
-reply_is_lawful None r s ls v short ask (inl is) = subst IsLawful (sym is) (fault_is_lawful r s 2 ls ask (omega arith) (omega arith))
-reply_is_lawful None r s ls v short ask (inr is) = absurd is
-reply_is_lawful (Some links) r s ls (AnswerFrame a) short ask (inl is) =
-    light_answer_is_lawful links ls a short ask.labels is.ends (omega (arith, ask.round, is.round_is)) (omega (arith, ask.shard, is.shard_is)) is.light
-reply_is_lawful (Some links) r s ls (HelloFrame v w) short ask (inl is) = subst IsLawful (sym is.0) (fault_is_lawful r s 3 ls ask (omega arith) (omega arith))
-reply_is_lawful (Some links) r s ls (ShardFrame n ms) short ask (inl is) = subst IsLawful (sym is.0) (fault_is_lawful r s 3 ls ask (omega arith) (omega arith))
-reply_is_lawful (Some links) r s ls (AskFrame q t ms) short ask (inl is) = subst IsLawful (sym is.0) (fault_is_lawful r s 3 ls ask (omega arith) (omega arith))
-reply_is_lawful (Some links) r s ls (FaultFrame q t c) short ask (inl is) = subst IsLawful (sym is.0) (fault_is_lawful r s 3 ls ask (omega arith) (omega arith))
-reply_is_lawful (Some links) r s ls v short ask (inr is) = subst IsLawful (sym is) (fault_is_lawful r s 1 ls ask (omega arith) (omega arith))
+reply_is_lawful a1 a2 a3 a4 a5 a6 a7 a8 = search (arith, fault_is_lawful, light_answer_is_lawful)
 
 follow_is_lawful : (shelf : Shelf) (v : FrameValue) (now : List FrameValue) → AreShort shelf → IsLawful v → MayFollow shelf v now → AreLawful now
-follow_is_lawful shelf (AskFrame r s ls) now short lawful (reply, one, may) = subst AreLawful (sym one) (reply_is_lawful (shelf s) r s ls reply (short s) lawful may, tt)
-follow_is_lawful shelf (HelloFrame v w) now short lawful none = subst AreLawful (sym none) tt
-follow_is_lawful shelf (ShardFrame n ls) now short lawful none = subst AreLawful (sym none) tt
-follow_is_lawful shelf (AnswerFrame a) now short lawful none = subst AreLawful (sym none) tt
-follow_is_lawful shelf (FaultFrame r s c) now short lawful none = subst AreLawful (sym none) tt
+follow_is_lawful a1 a2 a3 a4 a5 a6 = search (arith, reply_is_lawful)
 
 -- a lawful shard is no longer than a shard may be
 pub short_with : (shelf : Shelf) (v : FrameValue) → AreShort shelf → IsLawful v → AreShort (shelf_with shelf v)
-short_with shelf (ShardFrame n ls) short lawful s = elim (eqb_tells s n) [
-  | inl (test, same) ↦ subst (λ b. IfSome (if b then Some ls else shelf s) (λ links. length links ≤ MAX_SHARD_LINKS)) (sym test) lawful.count
-  | inr (test, other) ↦ subst (λ b. IfSome (if b then Some ls else shelf s) (λ links. length links ≤ MAX_SHARD_LINKS)) (sym test) (short s)
-]
-short_with shelf (AskFrame r t ls) short lawful s = short s
-short_with shelf (HelloFrame v w) short lawful s = short s
-short_with shelf (AnswerFrame a) short lawful s = short s
-short_with shelf (FaultFrame r t c) short lawful s = short s
+short_with a1 a2 a3 a4 a5 = search (arith, eqb_tells)
 
 replies_lawful : (shelf : Shelf) (fs out : List FrameValue) → AreShort shelf → AreLawful fs → AreReplies shelf fs out → AreLawful out
 replies_lawful shelf [] out short lawful are = subst AreLawful (sym are) tt
@@ -135,8 +105,7 @@ replies_lawful shelf (v ∷ fs) out short lawful are =
 
 -- what a session may write is a hello and lawful frames
 pub served_lawful : (version worker : ℕ) (stream out : List ℕ) (serves : Serves version worker stream out) → AreLawful serves.replies
-served_lawful version worker stream out serves =
-    replies_lawful empty_shelf (heard_by version serves.frames) serves.replies (λ s. tt) (heard_lawful version serves.frames serves.came.lawful) serves.answered
+served_lawful version worker stream out serves = search (arith, replies_lawful, heard_lawful)
 
 -- ---- there is one reply to an ask
 
@@ -153,11 +122,7 @@ one_answer links r s ls a b is also =
 -- the reply for a shard that is kept is an answer or code 3
 pub kept_reply : (links : List Link) (r s : ℕ) (ls : List ℕ) (v : FrameValue) → IsReply (Some links) r s ls v
     → ((a : AnswerValue) × (v ≡ AnswerFrame a) × IsAnswerTo links r s ls a) ⊎ ((v ≡ FaultFrame r s 3) × ¬ EndsUpTo (length ls) links)
-kept_reply links r s ls (AnswerFrame a) is = inl (a, refl, is)
-kept_reply links r s ls (HelloFrame v w) is = inr is
-kept_reply links r s ls (ShardFrame n ms) is = inr is
-kept_reply links r s ls (AskFrame q t ms) is = inr is
-kept_reply links r s ls (FaultFrame q t c) is = inr is
+kept_reply a1 a2 a3 a4 a5 a6 = search arith
 
 pub one_reply : (kept : Option (List Link)) (r s : ℕ) (ls : List ℕ) (v w : FrameValue) → IsReply kept r s ls v → IsReply kept r s ls w → v ≡ w
 one_reply None r s ls v w is also = is ∙ sym also
@@ -179,14 +144,7 @@ code_of vs = 0
 
 code_one : (kept : Option (List Link)) (r s : ℕ) (ls : List ℕ)
     → ((v : FrameValue) × (FaultFrame r s 1 ∷ [] ≡ v ∷ []) × MayReply kept r s ls v) ↔ IsSome kept
-code_one None r s ls = (there, back)
-  where
-    there : ((v : FrameValue) × (FaultFrame r s 1 ∷ [] ≡ v ∷ []) × MayReply None r s ls v) → IsSome {T = List Link} None
-    there (v, one, inl is) = let code : 1 ≡ 2 = ap code_of (one ∙ ap (λ (w : FrameValue). w ∷ []) is) in absurd (omega (arith, code))
-    there (v, one, inr is) = absurd is
-
-    back : IsSome {T = List Link} None → (v : FrameValue) × (FaultFrame r s 1 ∷ [] ≡ v ∷ []) × MayReply None r s ls v
-    back some = let never : ⊥ = cc in absurd never
+code_one None r s ls = search arith
 code_one (Some links) r s ls = (λ has. refl, λ is. (FaultFrame r s 1, refl, inr refl))
 
 pub code_one_where_kept : (shelf : Shelf) (r s : ℕ) (ls : List ℕ) → MayFollow shelf (AskFrame r s ls) (FaultFrame r s 1 ∷ []) ↔ IsSome (shelf s)

@@ -1,5 +1,5 @@
 -- A session, frame by frame.
-use Rattle.std.proofs.Common.{◌≡◌, ℕ, ◌+◌, List, [], ◌∷◌, ◌++◌, length, drop, sym, ap, subst, ◌∙◌, append_assoc}
+use Rattle.std.proofs.Common.{◌≡◌, ℕ, ◌+◌, List, [], ◌∷◌, ◌++◌, length, drop, sym, ap, subst, ◌∙◌, append_assoc, arith}
 use Rattle.std.proofs.lemmas.List.{length-append, drop_at}
 use Rattle.frames.specs.FrameValue.{FrameValue, HelloFrame}
 use Rattle.frames.specs.declared.frame.TheConstants.{VERSION}
@@ -14,8 +14,7 @@ use Rattle.worker_replies.proofs.Replying.{replies_more, shelf_after-append}
 
 -- what wasn't heard yet stands behind the frames
 pub session_left : (worker : ℕ) (shelf : Shelf) (input out : List ℕ) (heard : ℕ) (session : InSession worker shelf input out heard) → drop heard input ≡ session.rest
-session_left worker shelf input out heard session =
-    ap (drop heard) session.came ∙ drop_at (texts_of session.frames) session.rest heard (sym session.heard_is)
+session_left worker shelf input out heard session = search (arith, drop_at)
 
 -- the next frame is heard
 pub session_hears : (worker : ℕ) (shelf shelf' : Shelf) (input out out' left : List ℕ) (heard heard' : ℕ) (v : FrameValue) (now : List FrameValue)
@@ -34,8 +33,7 @@ session_hears worker shelf shelf' input out out' left heard heard' v now lawful 
       heard_is = count ∙ ap (λ (n : ℕ). n + length (text_of v)) session.heard_is ∙ sym (ap length joined ∙ length-append (texts_of session.frames) (text_of v));
       shelf_is = kept ∙ ap (λ (s : Shelf). shelf_with s v) session.shelf_is ∙ sym (shelf_after-append empty_shelf session.frames (v ∷ []));
       answered = replies_more session.frames session.replies now v session.answered (subst (λ (s : Shelf). MayFollow s v now) session.shelf_is may);
-      written = wrote ∙ ap (λ (t : List ℕ). t ++ texts_of now) session.written ∙ append_assoc (text_of (HelloFrame VERSION worker)) (texts_of session.replies) (texts_of now)
-          ∙ ap (λ (t : List ℕ). text_of (HelloFrame VERSION worker) ++ t) (sym (texts-append session.replies now));
+      written = search (arith, append_assoc, texts-append);
     }
 
 -- a session that heard all the frames that came wrote what it may write

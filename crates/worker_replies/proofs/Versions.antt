@@ -1,5 +1,5 @@
 -- The frames that a worker of a version hears.
-use Rattle.std.proofs.Common.{◌≡◌, ℕ, Bool, true, false, cond, List, [], ◌∷◌, ◌++◌, refl, sym, ap, subst, ◌∙◌, lit≤, le-leb}
+use Rattle.std.proofs.Common.{◌≡◌, ℕ, Bool, true, false, cond, List, [], ◌∷◌, ◌++◌, refl, sym, ap, subst, ◌∙◌, lit≤, le-leb, arith}
 use Rattle.std.specs.Prelude.{nat_le, if◌then◌else◌}
 use Rattle.std.proofs.lemmas.List.Sums.{take_while-cons}
 use Rattle.frames.specs.FrameValue.{FrameValue, HelloFrame, ShardFrame, AskFrame, AnswerFrame, FaultFrame}
@@ -14,15 +14,7 @@ this_version = record { from_first = lit≤ tt; to_this = lit≤ tt }
 
 -- this version has each lawful frame
 has_each : (v : FrameValue) → IsLawful v → nat_le (version_of v) VERSION ≡ true
-has_each (ShardFrame number links) lawful = by (are_narrow links)
-  where
-    by : (narrow : Bool) → nat_le (if narrow then 1 else 2) VERSION ≡ true
-    by true = refl
-    by false = refl
-has_each (HelloFrame version worker) lawful = le-leb version VERSION lawful.version.to_this
-has_each (AskFrame round shard labels) lawful = refl
-has_each (AnswerFrame answer) lawful = refl
-has_each (FaultFrame round shard code) lawful = refl
+has_each a1 a2 = search (arith, le-leb)
 
 -- so a worker of this version hears all frames
 pub all_heard : (frames : List FrameValue) → AreLawful frames → heard_by VERSION frames ≡ frames
@@ -52,8 +44,4 @@ heard_more version (v ∷ some) more =
 -- of lawful frames those that are heard are lawful
 pub heard_lawful : (version : ℕ) (frames : List FrameValue) → AreLawful frames → AreLawful (heard_by version frames)
 heard_lawful version [] lawful = tt
-heard_lawful version (v ∷ frames) lawful = subst AreLawful (sym (heard_next version v frames)) (go (nat_le (version_of v) version) (heard_lawful version frames lawful.1))
-  where
-    go : (has : Bool) → AreLawful (heard_by version frames) → AreLawful (cond has (v ∷ heard_by version frames) [])
-    go true rest = (lawful.0, rest)
-    go false rest = tt
+heard_lawful version (v ∷ frames) lawful = search (arith, heard_next, cond, heard_lawful version frames lawful.1)

@@ -2,7 +2,7 @@
 ghost use Rattle.std.specs.Prelude.{◌≡◌, ◌<◌, ◌≤◌, length, All, IfOk};
 ghost use Rattle.ports.specs.EngineLines.{line_of};
 ghost use Rattle.wires.specs.Lines.{HasRoom};
-ghost use Rattle.wires.specs.Testing.{with_stops};
+ghost use Rattle.ports.specs.Testing.{with_stops};
 
 use super::runs::{Solved, run_of};
 use forest_run::{Cutting, run_plain};

@@ -3,7 +3,7 @@
 ghost use Rattle.std.specs.Prelude.{◌≡◌, ◌<◌, ◌≤◌, length, All, IfOk};
 ghost use Rattle.ports.specs.EngineLines.{line_of};
 ghost use Rattle.wires.specs.Lines.{HasRoom};
-ghost use Rattle.wires.specs.Testing.{with_stops};
+ghost use Rattle.ports.specs.Testing.{with_stops};
 
 use super::runs::{Solved, run_of, run_of_worked};
 use super::same::expect_same;
@@ -34,8 +34,8 @@ struct Gate<'a> {
 
 impl<'a> Line for Gate<'a> {
     ghost use Rattle.ports.specs.EngineLines.{line_of, IsEngineLine};
-    ghost use Rattle.wires.specs.Testing.{with_stops};
-    ghost use Rattle.wires.specs.LineLaws.{fused_serves};
+    ghost use Rattle.ports.specs.Testing.{with_stops};
+    ghost use Rattle.ports.specs.LineLaws.{fused_serves};
     ghost use Rattle.ports.specs.LineLaws.{engine_serves};
 
     ghost state = { λ s. with_stops (line_of s.line) s.stopped };

@@ -1,7 +1,7 @@
 // Stored bytes in place of a worker: answers that are refused, and answers that lie.
 ghost use Rattle.std.specs.Prelude.{◌≡◌, length, All, IfOk};
 ghost use Rattle.wires.specs.Lines.{HasRoom};
-ghost use Rattle.wires.specs.Testing.{line_of_script};
+ghost use Rattle.ports.specs.Testing.{line_of_script};
 
 use super::runs::{Solved, fault_of, run_of, run_of_worked};
 use super::same::expect_same;

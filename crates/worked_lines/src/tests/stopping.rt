@@ -2,7 +2,7 @@
 ghost use Rattle.std.specs.Prelude.{◌<◌};
 ghost use Rattle.ports.specs.EngineLines.{line_of};
 ghost use Rattle.wires.specs.Lines.{HasRoom};
-ghost use Rattle.wires.specs.Testing.{line_of_script, with_stops};
+ghost use Rattle.ports.specs.Testing.{line_of_script, with_stops};
 
 use super::runs::{Counts, run_of_worked};
 use super::same::expect_same;

@@ -13,9 +13,10 @@ use std::alloc::Allocator;
 use std::thread::Threads;
 
 impl<A: Allocator + Copy + Send + Sync> Engine<A> {
-    // Hears the next frame of a stream as `hear_or_fault` hears it, but that it scans by threads. An ask under the labels of
-    // the last one is replied to by those that are kept, without a copy or a look at them, and one under labels that coarsen
-    // them, as they were seen to while they came, leaves the lists of live links as they are.
+    // Hears the next frame of a stream as `hear_par` hears it, but that an ask which finds no memory is replied to by a fault
+    // with the code `NO_MEMORY`, which takes none. An ask under the labels of the last one is replied to by those that are
+    // kept, without a copy or a look at them, and one under labels that coarsen them, as they were seen to while they came,
+    // leaves the lists of live links as they are.
     pub(crate) fn hear_next<R: Threads + Sync, S: Source>(
         &mut self,
         rt: &R,

@@ -1,10 +1,9 @@
 //! A worker's engine that scans by threads.
-ghost use Rattle.std.specs.Prelude.{◌≡◌, IsSome, IfOk, OnOk, OnErr};
+ghost use Rattle.std.specs.Prelude.{◌≡◌};
 ghost use Rattle.frames.specs.FrameValue.{value_of};
 ghost use Rattle.frames.specs.Lawful.{IsLawful, IsAsk};
-ghost use Rattle.frames.specs.FrameStream.{AreLawful};
-ghost use Rattle.worker_replies.specs.Serving.{shelf_of, shelf_with, IsReply, MayWantMemory, AreReplyTo, replies_in};
-ghost use Rattle.worker_engine.specs.Shelves.{shelf_list, AreAllUnder};
+ghost use Rattle.worker_replies.specs.Serving.{shelf_of};
+ghost use Rattle.worker_engine.specs.Shelves.{shelf_list, AreAllUnder, KeepsShards, Replies, Hears};
 
 use super::{Ask, Engine, NOT_KEPT, make_live};
 use frames::Frame;
@@ -26,11 +25,7 @@ impl<A: Allocator + Copy + Send + Sync> Engine<A> {
         frame: Frame<A>,
     ) -> Result<Option<Frame<A>>, AllocError>
         requires lawful { IsLawful (value_of frame) }
-        ensures shelf { OnOk result (shelf_of self.new ≡ shelf_with (shelf_of self.old) (value_of frame)) }
-        ensures reply { IfOk result (λ reply. AreReplyTo (shelf_of self.old) (value_of frame) (replies_in reply)) }
-        ensures lawful { IfOk result (λ reply. AreLawful (replies_in reply)) }
-        ensures unchanged { OnErr result (self.new ≡ self.old) }
-        ensures wants_memory { OnErr result (MayWantMemory (shelf_of self.old) (value_of frame)) }
+        ensures hears { Hears (value_of frame) result self.old self.new }
     {
         match frame {
             Frame::Ask {
@@ -54,10 +49,8 @@ impl<A: Allocator + Copy + Send + Sync> Engine<A> {
         labels: Labels<A>,
     ) -> Result<Frame<A>, AllocError>
         requires { IsAsk ask.round ask.shard labels }
-        ensures reply { IfOk result (λ reply. IsReply (shelf_of self.old ask.shard) ask.round ask.shard labels (value_of reply)) }
-        ensures lawful { IfOk result (λ reply. IsLawful (value_of reply)) }
+        ensures replies { Replies (shelf_of self.old ask.shard) ask.round ask.shard labels result }
         ensures unchanged { self.new ≡ self.old }
-        ensures is_kept { OnErr result (IsSome (shelf_of self.old ask.shard)) }
     {
         make_live(&mut self.shards, &labels, &self.labels);
         self.labels = labels;
@@ -75,11 +68,8 @@ pub(super) fn reply_under_par<R: Threads + Sync, A: Allocator + Copy + Send + Sy
 ) -> Result<Frame<A>, AllocError>
     requires ask { IsAsk ask.round ask.shard labels.now }
     requires live { AreAllUnder labels.now shards.old.entries }
-    ensures reply { IfOk result (λ reply. IsReply (shelf_of (shelf_list shards.old.entries) ask.shard) ask.round ask.shard labels.now (value_of reply)) }
-    ensures lawful { IfOk result (λ reply. IsLawful (value_of reply)) }
-    ensures shelf { shelf_list shards.new.entries ≡ shelf_list shards.old.entries }
-    ensures live { AreAllUnder labels.now shards.new.entries }
-    ensures is_kept { OnErr result (IsSome (shelf_of (shelf_list shards.old.entries) ask.shard)) }
+    ensures replies { Replies (shelf_of (shelf_list shards.old.entries) ask.shard) ask.round ask.shard labels.now result }
+    ensures keeps { KeepsShards labels.now shards.old.entries shards.new.entries }
 {
     let Some(kept) = shards.get_mut(&ask.shard) else {
         return Ok(ask.fault(NOT_KEPT));

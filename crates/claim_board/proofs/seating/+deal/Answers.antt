@@ -28,7 +28,8 @@ deal-requires g t c κs within =
     let kept : BoardState = board_state c.args.rest.table_id c.args.rest.me.0.size in
     let board : kept ≡ board_state c.split_seat-token.new.seat.table_id c.split_seat-token.new.seat.me.0.size = sym (λ i. board_state (s.0 i) (size i)) in
     let of_board : board_state c.split_seat-token.result.table_id c.split_seat-token.result.me.0.size ≡ kept = λ i. board_state (s.3 i) (token_size i) in
-    let fresh : seat ≡ record { board = kept; number = c.len-number.result; events = [] } = c.fresh-else-count-eq1.ensures ∙ (λ i. record { board = of_board i; number = c.len-number.result; events = [] }) in
+    let fresh : seat ≡ record { board = kept; number = c.len-number.result; events = [] } = c.fresh-else-count-eq1.ensures
+    ∙ (λ i. record { board = of_board i; number = c.len-number.result; events = [] }) in
     let in_order : InOrder kept new = InOrder-push kept old new seat c.len-number.result added c.requires.in_order fresh here in (
       omega arith,
       (
@@ -39,7 +40,13 @@ deal-requires g t c κs within =
             omega arith,
             (
               dealt c.args.rest.me _ _ c.requires.view some c.split_seat-token.new.seat.me (length new) s.2 longer,
-              (subst IsInRange (sym size) c.requires.range, (omega arith, (search rules, (subst (λ (b : BoardState). InOrder b new) board in_order, no_events-push kept old new seat c.len-number.result added c.requires.fresh fresh)))),
+              (
+                subst IsInRange (sym size) c.requires.range,
+                (
+                  omega arith,
+                  (search rules, (subst (λ (b : BoardState). InOrder b new) board in_order, no_events-push kept old new seat c.len-number.result added c.requires.fresh fresh)),
+                ),
+              ),
             ),
           ),
         ),

@@ -9,8 +9,13 @@ pub join_seat-requires : goal.join_seat-requires
 join_seat-requires g t c =
     let last = InOrderAt-last c.args.words.now.table_id c.pop.new.self.items c.args.seats.now.items c.in-Some.seat c.in-Some.ensures.items c.requires.in_order in
     let longer : length c.args.seats.now.items ≡ length c.pop.new.self.items + 1 = ap length c.in-Some.ensures.items ∙ length-append c.pop.new.self.items (c.in-Some.seat ∷ []) in
-    let number = last.1 in
-    (c.requires.table.0, c.into_token.ensures.table_is ∙ last.0, ap (λ (m : Me (Unit {0}) View). m.1) c.into_token.ensures.alone, c.requires.table.1, join_required _ _ _ _ _ c.requires.view c.into_token.ensures.alone _ _ _ (omega arith))
+    let number = last.1 in (
+      c.requires.table.0,
+      c.into_token.ensures.table_is ∙ last.0,
+      ap (λ (m : Me (Unit {0}) View). m.1) c.into_token.ensures.alone,
+      c.requires.table.1,
+      join_required _ _ _ _ _ c.requires.view c.into_token.ensures.alone _ _ _ (omega arith),
+    )
 
 pub gather-requires : goal.gather-requires
 gather-requires g t c κs within =

@@ -15,4 +15,5 @@ pub returns-else-found-eq0-clause-own : goal.returns-else-found-eq0-clause-own
 returns-else-found-eq0-clause-own g c =
     let found = c.compare_exchange-found.result in
     subst (λ (s : SeatState). ◌≡◌ {A = Claim} (Held (found - 1)) (Held s.number) ↔ Contains (held s.events) c.args.shard) c.seat.view_is
-    (claimed_own (step c.self.inside.table.shared.table_id.slots c.args.shard 0 (c.from-mine.result + 1) none) c.seat.inside.token.me c.compare_exchange-found.new.seat.me found c.if-found-eq0.false c.compare_exchange-found.ensures.2)
+    (claimed_own (step c.self.inside.table.shared.table_id.slots c.args.shard 0
+    (c.from-mine.result + 1) none) c.seat.inside.token.me c.compare_exchange-found.new.seat.me found c.if-found-eq0.false c.compare_exchange-found.ensures.2)

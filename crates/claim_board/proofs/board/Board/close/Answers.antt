@@ -26,7 +26,8 @@ returns-clause-run g c =
     let row = slots_items c.close_with.result.words in
     let rule = subst (λ (ws : List ℕ). AgreesWithRun c.self.inside.table.shared.key ws v.2.0.views) v.2.2 v.2.1.0 in
     let all = c.requires.seats.all ∙ sym (ap (λ (b : BoardState). b.seats) c.self.view_is) in
-    let view = kept_view c.gather.new.kept.me c.into_token-kept.result.me c.in-Some.last c.pop.new.self.items c.args.seats.items c.in-Some.ensures.items c.into_token-kept.ensures.alone c.gather.ensures.view in
+    let view = kept_view c.gather.new.kept.me c.into_token-kept.result.me c.in-Some.last c.pop.new.self.items c.args.seats.items
+    c.in-Some.ensures.items c.into_token-kept.ensures.alone c.gather.ensures.view in
     came c.self.inside.table.shared.key row v.2.0.views rule c.gather.new.kept.id c.gather.new.kept.me.0 c.args.seats.items v.2.1.1 view all
 
 pub returns-clause-owners : goal.returns-clause-owners

@@ -19,7 +19,8 @@ loop-frame-preserved g c =
       grew = grew_then _ _ _ c.loop-frame.invariant.grew c.in_ok-write_reply-in-Ok.ensures.grew;
       session = λ w start.
           session_hears w _ _ input c.loop-frame.self-inside.out.items _ text.0 heard (heard + c.in-Ok.count) (value_of c.in-Ok.frame) (replies_in c.in_ok-reply-in-Ok.reply)
-          c.in-Ok.ensures.lawful (sym slice ∙ text.1) (ap (λ n. heard + n) c.in-Ok.ensures.count) c.in_ok-reply-in-Ok.ensures.shelf c.in_ok-reply-in-Ok.ensures.reply c.in_ok-write_reply-in-Ok.ensures.wrote
+          c.in-Ok.ensures.lawful (sym slice ∙ text.1) (ap (λ n. heard + n) c.in-Ok.ensures.count) c.in_ok-reply-in-Ok.ensures.shelf
+          c.in_ok-reply-in-Ok.ensures.reply c.in_ok-write_reply-in-Ok.ensures.wrote
           (c.loop-frame.invariant.session w start);
     }
 

@@ -9,4 +9,11 @@ pub returns-clause-sound : goal.returns-clause-sound
 returns-clause-sound g c fresh known = inl ([], fresh_faultless g.L.Line.state _ _ fresh known refl refl c.empty.ensures refl refl refl refl)
 
 pub returns-clause-honest : goal.returns-clause-honest
-returns-clause-honest g c fresh known faithful = (faithful, ((g.L.Line.state c.args.line).ends, [], inl ([], fresh_faultless g.L.Line.state _ _ fresh known refl refl c.empty.ensures refl refl refl refl)))
+returns-clause-honest g c fresh known faithful = (
+  faithful,
+  (
+    (g.L.Line.state c.args.line).ends,
+    [],
+    inl ([], fresh_faultless g.L.Line.state _ _ fresh known refl refl c.empty.ensures refl refl refl refl),
+  ),
+)

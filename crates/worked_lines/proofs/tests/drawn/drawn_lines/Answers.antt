@@ -2,7 +2,7 @@ use Rattle.std.proofs.Common.{[], ◌∷◌, rules}
 use Rattle.std.proofs.lemmas.List.Elements.{All-nil, All-cons, All-append}
 use Rattle.ports.specs.EngineLines.{line_of}
 use Rattle.wires.specs.Lines.{HasRoom}
-use Rattle.wires.specs.Testing.{with_stops}
+use Rattle.ports.specs.Testing.{with_stops}
 use Rattle.worked_lines.proofs.tests.drawn.drawn_lines.Goals as goal
 
 pub loop-worker-preserved : goal.loop-worker-preserved

@@ -2,7 +2,7 @@ use Rattle.std.proofs.Common.{◌≡◌, vec_len}
 use Rattle.std.specs.Prelude.{All}
 use Rattle.ports.specs.EngineLines.{line_of}
 use Rattle.wires.specs.Lines.{HasRoom}
-use Rattle.wires.specs.Testing.{with_stops}
+use Rattle.ports.specs.Testing.{with_stops}
 use Rattle.worked_lines.proofs.tests.drawn.drawn_lines.Given as goal
 
 abbrev pub invariant-loop-worker : goal.invariant-loop-worker

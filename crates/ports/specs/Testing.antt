@@ -2,8 +2,8 @@
 use Rattle.std.specs.Prelude.{◌≡◌, ℕ, ◌+◌, ◌-◌, ◌==◌, min, Bool, false}
 use Rattle.std.specs.Prelude.{List, [], ◌++◌, length, take, drop, Some, None, Result, Ok, Err, if◌then◌else◌}
 use Rattle.std.specs.Io.{ReadsAtMost}
-use Rattle.wires.specs.declared.fused.Fuse.{Fuse}
-use Rattle.wires.specs.declared.fused.Fuse.TheVariants.{Calls, Bytes}
+use Rattle.ports.specs.declared.fused.Fuse.{Fuse}
+use Rattle.ports.specs.declared.fused.Fuse.TheVariants.{Calls, Bytes}
 use Rattle.wires.specs.declared.fault.LineFault.{LineFault}
 use Rattle.wires.specs.Lines.{LineState, Gets}
 

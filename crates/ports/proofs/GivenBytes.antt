@@ -2,7 +2,7 @@
 use Rattle.std.proofs.Common.{◌≡◌, ◌≢◌, ℕ, ◌+◌, List, take, drop, refl, ne_eqb}
 use Rattle.std.proofs.lemmas.List.{drop-drop}
 use Rattle.std.proofs.Math.Seq.{take-add}
-use Rattle.wires.specs.Testing.{ScriptLineState, after_get}
+use Rattle.ports.specs.Testing.{ScriptLineState, after_get}
 
 -- a script between two gets
 abbrev pub script_at : List ℕ → ℕ → ℕ → ScriptLineState

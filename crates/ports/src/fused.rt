@@ -2,12 +2,11 @@
 ghost use Rattle.std.specs.Prelude.{◌≡◌, ℕ, ◌+◌, ◌<◌, ◌≤◌, true, false, length, IfOk, OnOk, IsErr};
 ghost use Rattle.std.specs.Io.{ReadsAtMost};
 ghost use Rattle.wires.specs.Lines.{HasRoom, Puts, Gets};
-ghost use Rattle.wires.specs.Testing.{stops_puts, stops_gets, after_call, given_by, GotInto, PassesGet, with_stops};
-ghost use Rattle.wires.specs.LineLaws.{fused_serves};
+ghost use Rattle.ports.specs.Testing.{stops_puts, stops_gets, after_call, given_by, GotInto, PassesGet, with_stops};
+ghost use Rattle.ports.specs.LineLaws.{fused_serves};
 
-use crate::fault::LineFault;
-use crate::line::Line;
 use std::marker::Model;
+use wires::{Line, LineFault};
 
 /// What may still pass.
 #[derive(Clone, Copy, Debug, PartialEq, Eq)]
@@ -30,7 +29,7 @@ pub struct FusedLine<L> {
 }
 
 impl<L> Model for FusedLine<L> {
-    ghost use Rattle.wires.specs.Testing.{FusedLineState};
+    ghost use Rattle.ports.specs.Testing.{FusedLineState};
 
     ghost Value = { FusedLineState L };
 

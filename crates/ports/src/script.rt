@@ -2,13 +2,12 @@
 ghost use Rattle.std.specs.Prelude.{◌≡◌, ℕ, ◌+◌, ◌<◌, ◌≤◌, min, length, Ok, IsOk, vec_len};
 ghost use Rattle.std.specs.Io.{ReadsAtMost};
 ghost use Rattle.wires.specs.Lines.{HasRoom, Puts, Gets};
-ghost use Rattle.wires.specs.Testing.{fresh_script, line_of_script, after_get};
+ghost use Rattle.ports.specs.Testing.{fresh_script, line_of_script, after_get};
 
-use crate::fault::LineFault;
-use crate::line::Line;
 use crate::memory::give;
 use std::alloc::{Allocator, Global};
 use std::marker::Model;
+use wires::{Line, LineFault};
 
 /// A line whose puts pass and are dropped, and whose gets give the stored bytes in order, then 0.
 ///
@@ -22,7 +21,7 @@ pub struct ScriptLine<A: Allocator = Global> {
 
 impl<A: Allocator> Model for ScriptLine<A> {
     ghost use Rattle.std.specs.Prelude.{◌≤◌, take, drop, vec_len};
-    ghost use Rattle.wires.specs.Testing.{ScriptLineState};
+    ghost use Rattle.ports.specs.Testing.{ScriptLineState};
 
     ghost Value = { ScriptLineState };
 

@@ -1,6 +1,0 @@
-use Rattle.std.proofs.Common.{◌≡◌, length, min, sym, rules, arith}
-use Rattle.wires.proofs.GivenBytes.{script_played}
-use Rattle.wires.proofs.script.ScriptLineLine.get.Goals as goal
-
-pub returns-clause-after : goal.returns-clause-after
-returns-clause-after g c = search (arith, min, script_played)
