@@ -6,7 +6,6 @@ use lib.ListN.{get_elem?}
 use Rattle.std.proofs.lemmas.Bool.{eq-eqb, cases_lt}
 use Rattle.std.proofs.lemmas.List.{map-append}
 use Rattle.atomic_table.specs.Table.{Me}
-use Rattle.claim_board.specs.declared.event.Event.{Event}
 use Rattle.claim_board.specs.declared.rule.Size.{Size}
 use Rattle.claim_board.specs.declared.rule.View.{View}
 use Rattle.claim_board.specs.Machine.{owner, held}

@@ -1,13 +1,13 @@
 -- Laws of runs: one owner for each shard, and each shard once in its list.
-use Rattle.std.proofs.Common.{◌≡◌, ◌≢◌, ℕ, ◌==◌, not, cond, Bool, true, false, List, [], ◌∷◌, ◌++◌, AllPairs, Contains, refl, sym, ap, ◌∙◌, subst, arith, append_assoc, append-nil}
-use Rattle.std.proofs.lemmas.Bool.{eq-eqb}
-use Rattle.std.proofs.lemmas.List.Elements.{Contains-get_or}
+use Rattle.std.proofs.Common.{◌≡◌, ◌≢◌, ℕ, ◌<◌, ◌≤◌, ◌==◌, not, cond, Bool, true, false, List, [], ◌∷◌, ◌++◌, AllPairs, Contains, refl, sym, ap, ◌∙◌, subst, ⊎_elim, arith, append_assoc, append-nil}
+use Rattle.std.proofs.lemmas.Bool.{eq-eqb, cases_lt}
+use Rattle.std.proofs.lemmas.List.Elements.{Contains-get_or, Contains-append_cases, Contains-append_right, Contains-push_cases}
 use Rattle.std.proofs.lemmas.List.Kept.{AllPairs-filter}
 use Rattle.std.proofs.lemmas.List.Quantifiers.{all_pairs_push}
 use Rattle.claim_board.specs.declared.event.Event.{Event}
 use Rattle.claim_board.specs.declared.event.Event.TheVariants.{Win, Turned, GiveBack}
 use Rattle.claim_board.specs.Machine.{seat_of, owner, IsAllowed, IsRun, of_seat, held}
-use Rattle.claim_board.specs.Laws.{OwnerIsHolder, HeldByOneSeat, HeldOnce, HandedOn}
+use Rattle.claim_board.specs.Laws.{OwnerIsHolder, HeldByOneSeat, HeldOnce, NoOtherEvents, HandedOn}
 use Rattle.claim_board.proofs.Lists.{among_decides}
 use Rattle.claim_board.proofs.Runs.{IsRun-none, IsRun-push, held-push, of_seat-push, owns, Some-owns, owner_has}
 
@@ -52,6 +52,40 @@ once-append run (event ∷ later) is old seat =
 
 pub held_once : HeldOnce
 held_once run is_run seat = once-append [] run is_run (λ number i j d before within. absurd (omega arith)) seat
+
+-- ---- no other events
+
+still_there : (b : Bool) (first event : Event) (events : List Event) → Contains events event → Contains (cond b (first ∷ events) events) event
+still_there true first event events has = Contains-append_right (first ∷ []) events event has
+still_there false first event events has = has
+
+first_there : (first event : Event) (events : List Event) → first ≡ event → Contains (cond (seat_of first == seat_of event) (first ∷ events) events) event
+first_there first event events is = rw (is, eq-eqb (seat_of event) (seat_of event) refl) (0, omega arith, refl)
+
+-- an event of a run is one of its seat's
+of_own : (run : List Event) (event : Event) → Contains run event → Contains (of_seat (seat_of event) run) event
+of_own [] event has = let k = has.1 in absurd (omega arith)
+of_own (first ∷ run) event has =
+    ⊎_elim
+    (λ (here : Contains (first ∷ []) event). ⊎_elim
+    (λ (none : Contains [] event). let k = none.1 in absurd (omega arith))
+    (λ (is : first ≡ event). first_there first event (of_seat (seat_of event) run) is)
+    (Contains-push_cases [] first event here))
+    (λ (later : Contains run event). still_there (seat_of first == seat_of event) first event (of_seat (seat_of event) run) (of_own run event later))
+    (Contains-append_cases (first ∷ []) run event has)
+
+pub no_other_events : NoOtherEvents
+no_other_events size row views rule event has =
+    let own : Contains (of_seat (seat_of event) rule.run) event = of_own rule.run event has in
+    ⊎_elim
+    (λ (within : seat_of event < size.seats).
+    let old = rule.seated (seat_of event) within in
+    (rule.place (seat_of event), old.0, old.1, old.2, old.3, subst (λ (es : List Event). Contains es event) (rule.known (rule.place (seat_of event)) old.0 (seat_of event) old.1 old.2 old.3).1 own))
+    (λ (past : size.seats ≤ seat_of event).
+    let none : Contains [] event = subst (λ (es : List Event). Contains es event) (rule.others (seat_of event) past) own in
+    let k = none.1 in
+    absurd (omega arith))
+    (cases_lt (seat_of event) size.seats)
 
 -- ---- a worked run
 

@@ -4,15 +4,15 @@ use Rattle.std.specs.Prelude.{slice_index}
 use mathlib.Core.Option.{some, some-ne-none, some-injective}
 use lib.ListN.{get_elem?}
 use Rattle.std.proofs.lemmas.List.{length-replicate}
-use Rattle.std.proofs.lemmas.Bool.{eq-eqb, ne_eqb}
+use Rattle.std.proofs.lemmas.Bool.{eq-eqb, ne_eqb, cases_eq}
 use Rattle.atomic_table.specs.Table.{Splits, Joins}
-use Rattle.atomic_table.proofs.Lists.{at_set}
+use Rattle.atomic_table.proofs.Lists.{at_set, set_here, set_else, at_longer, at_last}
 use Rattle.claim_board.specs.declared.event.Event.{Event}
 use Rattle.claim_board.specs.declared.rule.Size.{Size}
 use Rattle.claim_board.specs.declared.rule.View.{View}
 use Rattle.claim_board.specs.Machine.{of_seat}
-use Rattle.claim_board.specs.Rule.{Knows, AgreesWithRun, several, lone, opener, without_first, first_alone, with_before, nobody}
-use Rattle.claim_board.proofs.Lists.{at_end, of_replicate}
+use Rattle.claim_board.specs.Rule.{Knows, IsSeatedAt, AgreesWithRun, several, lone, opener, without_first, first_alone, with_before, nobody}
+use Rattle.claim_board.proofs.Lists.{at_within, at_end, at_replicate, of_replicate}
 use Rattle.claim_board.proofs.Runs.{IsRun-none}
 use Rattle.claim_board.proofs.Steps.{Rules}
 
@@ -26,6 +26,7 @@ begins size row long zeros = record {
   words = zeros;
   place = λ number. 0;
   known = known;
+  seated = λ number within. (opener size, [], refl, (number, omega arith, at_replicate size.seats number [] within));
   others = λ number past. refl;
 }
   where
@@ -87,6 +88,42 @@ module _ (key size : Size) (row : List ℕ) (views : List View) (rule : AgreesWi
           (moves number e ∙ sym last, ap (λ n. of_seat n rule.run) e ∙ first_known.1 ∙ some-injective events list same, ap (λ (v : View). v.size) (sym is) ∙ first_known.2)
       of_lone (suc k, number_is, same) = absurd (some-ne-none list (sym same))
 
+  seated_after : (number : ℕ) → IsSeatedAt views (rule.place number) number → IsSeatedAt cut (place_after number) number
+  seated_after number old =
+      ⊎_elim
+      (λ (e : number ≡ first). (
+        lone size first events,
+        events,
+        ap (get_elem? cut) (moves number e) ∙ at_last (set views id (several size (first + 1) rest)) (lone size first events) (length views) (length-set views id (several size (first + 1) rest)),
+        (0, e ∙ sym (add-zero first), refl),
+      ))
+      (λ (apart : number ≢ first). subst (λ p. IsSeatedAt cut p number) (sym (stays number apart))
+      (⊎_elim
+      (λ (here : rule.place number ≡ id). at_id apart here)
+      (λ (far : rule.place number ≢ id). (
+        old.0,
+        old.1,
+        at_longer (set views id (several size (first + 1) rest)) (lone size first events ∷ []) (rule.place number) old.0 (set_else views id (rule.place number) (several size (first + 1) rest) far ∙ old.2),
+        old.3,
+      ))
+      (cases_eq (rule.place number) id)))
+      (cases_eq number first)
+    where
+      at_id : number ≢ first → rule.place number ≡ id → IsSeatedAt cut (rule.place number) number
+      at_id apart here =
+          let view_is : several size first (events ∷ rest) ≡ old.0 = some-injective (several size first (events ∷ rest)) old.0 (sym at ∙ ap (get_elem? views) (sym here) ∙ old.2) in
+          later (subst (λ (v : View). Knows v number old.1) (sym view_is) old.3)
+        where
+          later : Knows (several size first (events ∷ rest)) number old.1 → IsSeatedAt cut (rule.place number) number
+          later (zero, number_is, same) = absurd (apart (number_is ∙ add-zero first))
+          later (suc k, number_is, same) = (
+            several size (first + 1) rest,
+            old.1,
+            at_longer (set views id (several size (first + 1) rest)) (lone size first events ∷ []) (rule.place number) (several size (first + 1) rest)
+                (ap (get_elem? (set views id (several size (first + 1) rest))) here ∙ set_here views id (several size (first + 1) rest) (at_within views id (several size first (events ∷ rest)) at)),
+            (k, omega arith, same),
+          )
+
   pub splits : AgreesWithRun key row cut
   splits = record {
     run = rule.run;
@@ -101,6 +138,7 @@ module _ (key size : Size) (row : List ℕ) (views : List View) (rule : AgreesWi
         (at_set views id place (several size (first + 1) rest) view h))
         (λ (t : (place ≡ length (set views id (several size (first + 1) rest))) × (lone size first events ≡ view)). new_known place view number list (t.0 ∙ length-set views id (several size (first + 1) rest)) t.1 knows)
         (at_end (set views id (several size (first + 1) rest)) (lone size first events) view place there);
+    seated = λ number within. seated_after number (rule.seated number within);
     others = rule.others;
   }
 
@@ -133,6 +171,9 @@ module _ (key : Size) (v : View) (size : Size) (first : ℕ) (events : List Even
   not_first : (number : ℕ) → number ≢ first → place_joined number ≡ rule.place number
   not_first number is = ap (λ b. cond b id (rule.place number)) (ne_eqb number first is)
 
+  at_both : get_elem? joined id ≡ some both
+  at_both = set_else kept other id nobody (λ e. apart (sym e)) ∙ set_here views id both (at_within views id v at)
+
   both_known : (place : ℕ) (view : View) (number : ℕ) (list : List Event) → place ≡ id → both ≡ view → Knows view number list → (place_joined number ≡ place) × (of_seat number rule.run ≡ list) × (view.size ≡ key)
   both_known place view number list here is knows = of_both (subst (λ (u : View). Knows u number list) (sym is) knows)
     where
@@ -149,6 +190,33 @@ module _ (key : Size) (v : View) (size : Size) (first : ℕ) (events : List Even
       let old = rule.known place view number list here knows in
       (not_first number (λ e. far (sym old.0 ∙ ap rule.place e ∙ first_was.0)) ∙ old.0, old.1, old.2)
 
+  seated_joined : (number : ℕ) → IsSeatedAt views (rule.place number) number → IsSeatedAt joined (place_joined number) number
+  seated_joined number old =
+      ⊎_elim
+      (λ (e : number ≡ first). (both, events, ap (get_elem? joined) (first_is number e) ∙ at_both, (0, e ∙ sym (add-zero first), refl)))
+      (λ (later : number ≢ first). subst (λ p. IsSeatedAt joined p number) (sym (not_first number later))
+      (⊎_elim
+      (λ (here : rule.place number ≡ id).
+      let view_is : v ≡ old.0 = some-injective v old.0 (sym at ∙ ap (get_elem? views) (sym here) ∙ old.2) in
+      let k = subst (λ (u : View). Knows u number old.1) (sym view_is) old.3 in
+      let k1 = k.1 in
+      (both, old.1, ap (get_elem? joined) here ∙ at_both, (suc k.0, omega arith, k.2)))
+      (λ (far : rule.place number ≢ id). ⊎_elim (λ (here : rule.place number ≡ other). at_other later here)
+      (λ (farther : rule.place number ≢ other). (old.0, old.1, set_else kept other (rule.place number) nobody farther ∙ set_else views id (rule.place number) both far ∙ old.2, old.3))
+      (cases_eq (rule.place number) other))
+      (cases_eq (rule.place number) id)))
+      (cases_eq number first)
+    where
+      -- the joined seat had its first number alone
+      at_other : number ≢ first → rule.place number ≡ other → IsSeatedAt joined (rule.place number) number
+      at_other later here =
+          let view_is : lone size first events ≡ old.0 = some-injective (lone size first events) old.0 (sym there ∙ ap (get_elem? views) (sym here) ∙ old.2) in
+          no_other (subst (λ (u : View). Knows u number old.1) (sym view_is) old.3)
+        where
+          no_other : Knows (lone size first events) number old.1 → IsSeatedAt joined (rule.place number) number
+          no_other (zero, number_is, same) = absurd (later (number_is ∙ add-zero first))
+          no_other (suc k, number_is, same) = absurd (some-ne-none old.1 (sym same))
+
   pub joins : AgreesWithRun key row joined
   joins = record {
     run = rule.run;
@@ -163,6 +231,7 @@ module _ (key : Size) (v : View) (size : Size) (first : ℕ) (events : List Even
         (λ (u : (place ≢ id) × (get_elem? views place ≡ some view)). rest_known place view number list t.0 u.1 knows u.0)
         (at_set views id place both view t.1))
         (at_set kept other place nobody view here);
+    seated = λ number within. seated_joined number (rule.seated number within);
     others = rule.others;
   }
 

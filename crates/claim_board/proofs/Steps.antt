@@ -1,14 +1,14 @@
 -- Each step of a seat keeps the rule: its event goes to the end of the run.
-use Rattle.std.proofs.Common.{◌≡◌, ◌≢◌, ◌↔◌, ℕ, zero, suc, ◌+◌, ◌-◌, ◌<◌, ◌≤◌, ◌==◌, cond, List, [], ◌∷◌, ◌++◌, length, set, Option, Some, None, Contains, refl, sym, ap, ◌∙◌, subst, ⊎_elim, arith, true≢false, add-one, add-zero, length-set, get_or-set_same, get_or-set_other}
+use Rattle.std.proofs.Common.{◌≡◌, ◌≢◌, ◌↔◌, ℕ, suc, ◌+◌, ◌-◌, ◌<◌, ◌≤◌, ◌==◌, cond, List, [], ◌∷◌, ◌++◌, length, set, Option, Some, None, Contains, refl, sym, ap, ◌∙◌, subst, ⊎_elim, arith, true≢false, add-one, add-zero, length-set, get_or-set_same, get_or-set_other}
 use Rattle.std.specs.Prelude.{slice_index}
-use mathlib.Core.Option.{some, none, some-ne-none, some-injective}
+use mathlib.Core.Option.{some, none, some-injective}
 use lib.ListN.{get_elem?}
 use prog.Atomic.{either}
 use Rattle.std.proofs.lemmas.Bool.{eqb-true, eq-eqb, ne_eqb, cases_eq, cases_lt}
 use Rattle.std.proofs.lemmas.Bool.Decides.{not_from_Decides}
 use Rattle.atomic_table.specs.Table.{State, Me, Step, step, Act, Valid, Allows, stepped, carried_after}
 use Rattle.atomic_table.specs.Table.Act.{keeps}
-use Rattle.atomic_table.proofs.Lists.{at_set}
+use Rattle.atomic_table.proofs.Lists.{at_set, set_here, set_else}
 use Rattle.claim_board.specs.declared.claim.Claim.{Claim}
 use Rattle.claim_board.specs.declared.claim.Claim.TheVariants.{Held}
 use Rattle.claim_board.specs.declared.event.Event.{Event}
@@ -16,10 +16,10 @@ use Rattle.claim_board.specs.declared.event.Event.TheVariants.{Win, Turned, Give
 use Rattle.claim_board.specs.declared.rule.Size.{Size}
 use Rattle.claim_board.specs.declared.rule.View.{View}
 use Rattle.claim_board.specs.Machine.{seat_of, owner_after, owner, IsAllowed, IsRun, of_seat, held_after, held}
-use Rattle.claim_board.specs.Rule.{word_of, Knows, AgreesWithRun, lone, first_events, with_event, Claimed, GivenBack}
+use Rattle.claim_board.specs.Rule.{word_of, Knows, IsSeatedAt, AgreesWithRun, lone, first_events, with_event, Claimed, GivenBack}
 use Rattle.claim_board.specs.Shards.{has_shard}
 use Rattle.claim_board.specs.Kept.{among, IsSeat}
-use Rattle.claim_board.proofs.Lists.{among_decides}
+use Rattle.claim_board.proofs.Lists.{at_within, among_decides}
 use Rattle.claim_board.proofs.Runs.{owner-push, held-push, of_seat-mine, of_seat-other, IsRun-push, owns, Some-owns, owner_has}
 
 -- the shard of an event
@@ -53,6 +53,17 @@ module _ (key size : Size) (row : List ℕ) (views : List View) (rule : AgreesWi
   pub mine : (rule.place seat ≡ id) × (of_seat seat rule.run ≡ events) × (size ≡ key)
   mine = rule.known id (lone size seat events) seat events at (0, sym (add-zero seat), refl)
 
+  seated_after : (event : Event) (place number : ℕ) → IsSeatedAt views place number → IsSeatedAt (set views id (lone size seat (events ++ event ∷ []))) place number
+  seated_after event place number old =
+      let new = lone size seat (events ++ event ∷ []) in
+      ⊎_elim
+      (λ (e : place ≡ id).
+      let view_is : lone size seat events ≡ old.0 = some-injective (lone size seat events) old.0 (sym at ∙ ap (get_elem? views) (sym e) ∙ old.2) in
+      let k = lone_knows size seat number events old.1 (subst (λ (v : View). Knows v number old.1) (sym view_is) old.3) in
+      (new, events ++ event ∷ [], ap (get_elem? (set views id new)) e ∙ set_here views id new (at_within views id (lone size seat events) at), (0, k.0 ∙ sym (add-zero seat), refl)))
+      (λ (apart : place ≢ id). (old.0, old.1, set_else views id place new apart ∙ old.2, old.3))
+      (cases_eq place id)
+
   -- The event goes to the end of the run. It is allowed there, and it changes the word of its shard alone, to what the
   -- owner after it asks. Its seat's view gains it. A view at another place has other numbers, since each number has one
   -- place, so the events of its numbers are as they were.
@@ -75,6 +86,7 @@ module _ (key size : Size) (row : List ℕ) (views : List View) (rule : AgreesWi
         let old = rule.known place view number list t.1 knows in
         (old.0, of_seat-other number rule.run event (λ e. t.0 (sym old.0 ∙ ap rule.place (sym e ∙ by) ∙ mine.0)) ∙ old.1, old.2))
         (at_set views id place (lone size seat (events ++ event ∷ [])) view there);
+    seated = λ number within. seated_after event (rule.place number) number (rule.seated number within);
     others = λ number past. of_seat-other number rule.run event (λ e. let s : seat ≡ number = sym by ∙ e in let k : size.seats ≡ key.seats = ap (λ (s : Size). s.seats) mine.2 in absurd (omega arith)) ∙ rule.others number past;
   }
 

@@ -1,8 +1,13 @@
 -- What every run of the board leaves.
 use Rattle.std.specs.Prelude.{◌≡◌, ◌≢◌, ◌↔◌, ℕ, List, [], ◌∷◌, Some, AllPairs, Contains}
+use mathlib.Core.Option.{some}
+use lib.ListN.{get_elem?}
 use Rattle.claim_board.specs.declared.event.Event.{Event}
 use Rattle.claim_board.specs.declared.event.Event.TheVariants.{Win, Turned, GiveBack}
-use Rattle.claim_board.specs.Machine.{owner, IsRun, of_seat, held}
+use Rattle.claim_board.specs.declared.rule.Size.{Size}
+use Rattle.claim_board.specs.declared.rule.View.{View}
+use Rattle.claim_board.specs.Machine.{seat_of, owner, IsRun, of_seat, held}
+use Rattle.claim_board.specs.Rule.{Knows, AgreesWithRun}
 
 -- the owner of a shard is the seat whose list has it
 abbrev pub OwnerIsHolder : Type 0
@@ -17,6 +22,18 @@ HeldByOneSeat =
 -- no shard is twice in the list of a seat
 abbrev pub HeldOnce : Type 0
 HeldOnce = (run : List Event) → IsRun run → (seat : ℕ) → AllPairs (λ a b. a ≢ b) (held (of_seat seat run))
+
+-- some view has the event's seat, with this event among the seat's
+abbrev pub IsOfView : List View → Event → Type 0
+IsOfView views event =
+    (at : ℕ) × (view : View) × (events : List Event)
+    × (get_elem? views at ≡ some view) × Knows view (seat_of event) events × Contains events event
+
+-- between any two steps the words are what a run leaves that has no event but those of the views' seats
+abbrev pub NoOtherEvents : Type 0
+NoOtherEvents =
+    (size : Size) (row : List ℕ) (views : List View) (rule : AgreesWithRun size row views) (event : Event)
+    → Contains rule.run event → IsOfView views event
 
 -- seat 0 wins shard 0, seat 1 and then seat 0 are turned away from it, seat 0 gives it back, and seat 1 wins it
 abbrev pub handed_on : List Event

@@ -19,8 +19,11 @@ word_of (Some seat) = suc seat
 abbrev pub Knows : View → ℕ → List Event → Type 0
 Knows view number events = (k : ℕ) × (number ≡ view.first + k) × (get_elem? view.lists k ≡ some events)
 
--- there is a run that leaves these words, with the events of each seat that a view has, in that seat's order, each once; and
--- none of a number past the board's seats
+-- the view at this place has this number
+abbrev pub IsSeatedAt : List View → ℕ → ℕ → Type 0
+IsSeatedAt views place number = (view : View) × (events : List Event) × (get_elem? views place ≡ some view) × Knows view number events
+
+-- there is a run that leaves these words, with the events of each seat, in that seat's order, each once, and no others
 pub record AgreesWithRun (size : Size) (row : List ℕ) (views : List View) : Type 0 where
   pub run : List Event
   pub is_run : IsRun run
@@ -32,7 +35,9 @@ pub record AgreesWithRun (size : Size) (row : List ℕ) (views : List View) : Ty
   -- a view that has a number stands at that place, and its events are the seat's in the run
   pub known : (at : ℕ) (view : View) (number : ℕ) (events : List Event) → get_elem? views at ≡ some view → Knows view number events
       → (place number ≡ at) × (of_seat number run ≡ events) × (view.size ≡ size)
-  -- a number that is none of the board's has no event
+  -- each number of the board is in a view
+  pub seated : (number : ℕ) → number < size.seats → IsSeatedAt views (place number) number
+  -- and no other number has an event
   pub others : (number : ℕ) → size.seats ≤ number → of_seat number run ≡ []
 
 -- the numbers from `first` on, with their events

@@ -1,5 +1,5 @@
 //! Laws of the board's machine, over all of its runs. A caller that needs one calls its function, which does nothing.
-ghost use Rattle.claim_board.specs.Laws.{OwnerIsHolder, HeldByOneSeat, HeldOnce, HandedOn};
+ghost use Rattle.claim_board.specs.Laws.{OwnerIsHolder, HeldByOneSeat, HeldOnce, NoOtherEvents, HandedOn};
 
 /// In every run the owner of a shard is the seat whose list has it.
 pub fn owner_is_holder()
@@ -14,6 +14,12 @@ pub fn held_by_one_seat()
 /// In no run is a shard twice in the list of a seat.
 pub fn held_once()
     ensures { HeldOnce }
+{}
+
+/// Between any two steps each event of the run is one that some seat's token knows of: no event is of a seat that nobody
+/// holds.
+pub fn no_other_events()
+    ensures { NoOtherEvents }
 {}
 
 /// A worked run: a shard goes from seat 0 to seat 1, and both are turned away from it in between.

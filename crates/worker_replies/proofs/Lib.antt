@@ -2,4 +2,3 @@ pub mod Offering
 pub mod Versions
 pub mod Replying
 pub mod Sessions
-pub mod Worked

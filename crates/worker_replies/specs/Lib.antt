@@ -1,4 +1,3 @@
 pub mod Serving
 pub mod Session
 pub mod Laws
-pub mod Examples

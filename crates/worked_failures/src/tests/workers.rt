@@ -23,7 +23,6 @@ enum By {
 enum HearBy {
     Hear,
     HearPar,
-    HearOrFault,
 }
 
 // What a scan of the links offers.
@@ -56,7 +55,7 @@ fn expect_offers(
     Ok(())
 }
 
-// The engine's reply to a frame. A fault for want of memory in place of the answer tells of that too.
+// The engine's reply to a frame.
 fn heard<'a>(
     rt: &(impl Abort + Threads + Sync),
     by: HearBy,
@@ -67,16 +66,6 @@ fn heard<'a>(
     match by {
         HearBy::Hear => engine.hear(frame),
         HearBy::HearPar => engine.hear_par(rt, frame),
-        HearBy::HearOrFault => match engine.hear_or_fault(frame)? {
-            Some(
-                Frame::Fault {
-                    round: 1,
-                    shard: 0,
-                    code: 1,
-                },
-            ) => Err(AllocError),
-            reply => Ok(reply),
-        },
     }
 }
 
@@ -143,8 +132,6 @@ fn scans_and_engines(rt: HostRuntime) {
         Call::Hear(HearBy::Hear, &SHARD64),
         Call::Hear(HearBy::HearPar, &SHARD),
         Call::Hear(HearBy::HearPar, &SHARD64),
-        Call::Hear(HearBy::HearOrFault, &SHARD),
-        Call::Hear(HearBy::HearOrFault, &SHARD64),
     ] {
         expect_each(
             &rt,
@@ -159,15 +146,30 @@ fn scans_and_engines(rt: HostRuntime) {
     }
 }
 
-/// A session over a shard and the ask, at its limit of frames, if it has one: how it ends, and what it writes behind its
+/// A session over a shard and an ask, at its limit of frames, if it has one: how it ends, and what it writes behind its
 /// hello.
 #[derive(Clone, Copy)]
 struct Session {
     shard: &'static [u8],
+    ask: &'static [u8],
     limit: Option<u64>,
     end: Result<Served, ServeFault>,
     answer: &'static [u8],
 }
+
+// An ask of the shard under two labels, where it has a third vertex, and an ask of a shard that isn't kept; with the fault
+// for each.
+const SHORT_ASK: [u8; 25] = [
+    3, 0, 0, 0, 20, 0, 0, 0, 1, 0, 0, 0, 0, 0, 0, 0, 2, 0, 0, 0, 1, 0, 0, 0, 2,
+];
+
+const NO_LABEL: [u8; 14] = [5, 0, 0, 0, 9, 0, 0, 0, 1, 0, 0, 0, 0, 3];
+
+const ANOTHER_ASK: [u8; 29] = [
+    3, 0, 0, 0, 24, 0, 0, 0, 1, 0, 0, 0, 7, 0, 0, 0, 3, 0, 0, 0, 1, 0, 0, 0, 2, 0, 0, 0, 3,
+];
+
+const NOT_KEPT: [u8; 14] = [5, 0, 0, 0, 9, 0, 0, 0, 1, 0, 0, 0, 7, 2];
 
 // The session goes so; or it wants memory and wrote no answer; or it wrote that it had no memory in the answer's place.
 fn expect_session(
@@ -176,7 +178,7 @@ fn expect_session(
     memory: &Memory,
     session: Session,
 ) -> Result<(), AllocError> {
-    let heard = joined(rt, alloc, session.shard, &ASK);
+    let heard = joined(rt, alloc, session.shard, session.ask);
     let mut source = heard.as_slice();
     let mut sink = Vec::new(alloc);
     let end = match session.limit {
@@ -227,6 +229,7 @@ fn sessions_over_the_triangle(rt: HostRuntime) {
         for (limit, end, answer) in limits {
             let session = Session {
                 shard,
+                ask: &ASK,
                 limit,
                 end,
                 answer,
@@ -239,5 +242,32 @@ fn sessions_over_the_triangle(rt: HostRuntime) {
                 },
             );
         }
+    }
+}
+
+// Where an end has no label its fault or that for want of memory is written, and where the shard isn't kept its own alone.
+#[test]
+fn sessions_with_a_fault(rt: HostRuntime) {
+    let end = Ok(Served {
+        frames: 2,
+        answers: 0,
+        faults: 1,
+    });
+    let asks: [(&[u8], &[u8]); 2] = [(&SHORT_ASK, &NO_LABEL), (&ANOTHER_ASK, &NOT_KEPT)];
+    for (ask, answer) in asks {
+        let session = Session {
+            shard: &SHARD,
+            ask,
+            limit: None,
+            end,
+            answer,
+        };
+        expect_any(
+            &rt,
+            rt.alloc(),
+            |memory: &Memory| -> Result<(), AllocError> {
+                expect_session(&rt, rt.alloc(), memory, session)
+            },
+        );
     }
 }

@@ -95,6 +95,28 @@ const EMPTY_ASK: [u8; 17] = [3, 0, 0, 0, 12, 0, 0, 0, 1, 0, 0, 0, 0, 0, 0, 0, 0]
 
 const EMPTY_ANSWER: [u8; 17] = [4, 0, 0, 0, 12, 0, 0, 0, 1, 0, 0, 0, 0, 0, 0, 0, 0];
 
+// Two links of the triangle, and the answer: the link of 2 and 3 is the least that leaves 3.
+const PART: [u8; 37] = [
+    2, 0, 0, 0, 32, 0, 0, 0, 0, 0, 0, 0, 2, 0, 0, 0, 1, 0, 0, 0, 2, 0, 0, 0, 5, 0, 0, 0, 2, 0, 0,
+    0, 3, 0, 0, 0, 5,
+];
+
+const PART_ANSWER: [u8; 41] = [
+    4, 0, 0, 0, 36, 0, 0, 0, 1, 0, 0, 0, 0, 0, 0, 0, 3, 0, 0, 0, 1, 0, 0, 0, 0, 0, 0, 0, 2, 0, 0,
+    0, 0, 0, 0, 0, 3, 0, 0, 0, 1,
+];
+
+// An ask under the label of vertex 1 alone, and one of shard 7.
+const ASK_OF_ONE: [u8; 21] = [
+    3, 0, 0, 0, 16, 0, 0, 0, 1, 0, 0, 0, 0, 0, 0, 0, 1, 0, 0, 0, 1,
+];
+
+const ANOTHER_ASK: [u8; 29] = [
+    3, 0, 0, 0, 24, 0, 0, 0, 1, 0, 0, 0, 7, 0, 0, 0, 3, 0, 0, 0, 1, 0, 0, 0, 2, 0, 0, 0, 3,
+];
+
+const ANOTHER_NOT_KEPT: [u8; 14] = [5, 0, 0, 0, 9, 0, 0, 0, 1, 0, 0, 0, 7, 2];
+
 fn served(frames: u64, answers: u64, faults: u64) -> Result<Served, ServeFault> {
     Ok(Served {
         frames,
@@ -155,12 +177,13 @@ fn expect_session(
 
 // Sessions over whole streams, one that ends inside an ask, and ones that end at a shard that is unlawful: an ask of a
 // shard that is held, or isn't, or of too few labels; a hello, to which nothing is replied; a shard that is sent again, and
-// stands in place of the first; no links and no labels; weights past 32 bits, and no links as if one were.
+// stands in place of the first; no links and no labels; weights past 32 bits, and no links as if one were; two links of
+// the triangle, which are asked under enough labels, and under too few, beside a shard that isn't held.
 #[test]
 fn sessions_over_the_triangle(rt: HostRuntime) {
     let torn = Err(ServeFault::Read(FrameFault::Torn));
     let bad_field = Err(ServeFault::Read(FrameFault::BadField));
-    let sessions: [(&[&[u8]], Result<Served, ServeFault>, &[&[u8]]); 10] = [
+    let sessions: [(&[&[u8]], Result<Served, ServeFault>, &[&[u8]]); 11] = [
         (&[&SHARD, &ASK], served(2, 1, 0), &[&HELLO, &ANSWER]),
         (&[&SHARD, &ASK[..10]], torn, &[&HELLO]),
         (&[&ASK], served(1, 0, 1), &[&HELLO, &NOT_KEPT]),
@@ -194,6 +217,11 @@ fn sessions_over_the_triangle(rt: HostRuntime) {
             &[&EMPTY_SHARD, &EMPTY_ASK, &ASK],
             served(3, 2, 0),
             &[&HELLO, &EMPTY_ANSWER, &EMPTY_ANSWER],
+        ),
+        (
+            &[&PART, &ASK, &ASK_OF_ONE, &ANOTHER_ASK],
+            served(4, 1, 2),
+            &[&HELLO, &PART_ANSWER, &NO_LABEL, &ANOTHER_NOT_KEPT],
         ),
     ];
     for (heard, end, written) in sessions {
@@ -292,7 +320,7 @@ const HEARD: [(&[u8], Option<&[u8]>); 8] = [
 
 #[test]
 fn an_engine_hears_each_kind_of_frame(rt: HostRuntime) {
-    for by in [By::OneThread, By::Threads, By::OrFault] {
+    for by in [By::OneThread, By::Threads] {
         let mut worker = Worker::new(rt.alloc(), by);
         expect_replies(&rt, rt.alloc(), &mut worker);
     }

@@ -33,12 +33,11 @@ pub(crate) fn scanned(
     offers
 }
 
-/// How an engine hears: it scans by one thread or by threads, or it has a fault for an ask that finds no memory.
+/// How an engine scans: by one thread, or by threads.
 #[derive(Clone, Copy)]
 pub(crate) enum By {
     OneThread,
     Threads,
-    OrFault,
 }
 
 /// A worker's engine, and how it hears.
@@ -68,7 +67,6 @@ impl<A: Allocator + Copy + Send + Sync> Worker<A> {
         let heard = match self.by {
             By::OneThread => self.engine.hear(frame),
             By::Threads => self.engine.hear_par(rt, frame),
-            By::OrFault => self.engine.hear_or_fault(frame),
         };
         heard.expect(rt, "memory")
     }
@@ -520,7 +518,7 @@ impl Near {
 #[test]
 fn half_as_many_links_as_vertices(rt: HostRuntime) {
     let links = near_links(&rt, rt.alloc());
-    for by in [By::OneThread, By::Threads, By::OrFault] {
+    for by in [By::OneThread, By::Threads] {
         for count in [NEAR / 2 - 1, NEAR / 2, NEAR / 2 + 1, 2 * NEAR] {
             let few = links.as_slice().get(..count as usize).expect(&rt, "links");
             let mut near = Near {
@@ -557,7 +555,7 @@ fn far_links(rt: &impl Abort, alloc: Global) -> Vec<Link> {
 #[test]
 fn links_of_labels_that_lie_far_apart(rt: HostRuntime) {
     let links = far_links(&rt, rt.alloc());
-    for by in [By::OneThread, By::Threads, By::OrFault] {
+    for by in [By::OneThread, By::Threads] {
         let mut worker = Worker::new(rt.alloc(), by);
         worker.keep(&rt, 0, links.to_vec(rt.alloc()).expect(&rt, "memory"));
         for size in [1, 1, 2, 4, 4, 256, 2048, FAR_APART] {

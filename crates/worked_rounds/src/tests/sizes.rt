@@ -158,14 +158,6 @@ fn engines_of_each_size(rt: HostRuntime) {
     }
 }
 
-// The same of asks that would have a fault where there were no memory, past the size of each piece of one thread.
-#[test]
-fn engines_with_faults_for_asks(rt: HostRuntime) {
-    for size in [(0, 0), (2, 1), (100, 65), (3, 65_537), (65_537, 131_072)] {
-        expect_answers(&rt, rt.alloc(), By::OrFault, size);
-    }
-}
-
 // As many links as a shard may have.
 #[test]
 fn an_engine_keeps_the_longest_shard(rt: HostRuntime) {

@@ -1,10 +1,10 @@
-use Rattle.std.proofs.Common.{◌≡◌, ◌<◌, ◌+◌, ◌-◌, ◌↔◌, Contains, sym, ap, subst, ◌∙◌, arith}
+use Rattle.std.proofs.Common.{◌≡◌, ◌+◌, ◌-◌, ◌↔◌, Contains, subst, arith}
 use mathlib.Core.Option.{none}
 use Rattle.atomic_table.specs.Table.{step}
 use Rattle.claim_board.specs.declared.claim.Claim.{Claim}
 use Rattle.claim_board.specs.declared.claim.Claim.TheVariants.{Held}
 use Rattle.claim_board.specs.Machine.{held}
-use Rattle.claim_board.specs.State.{BoardState, SeatState}
+use Rattle.claim_board.specs.State.{SeatState}
 use Rattle.claim_board.proofs.Steps.{claim_allowed_as, claimed_own}
 use Rattle.claim_board.proofs.board.Board.claim.Goals as goal
 

@@ -1,10 +1,6 @@
 use Rattle.std.proofs.Common.{◌<◌, ◌&&◌, filter, not, ◌==◌, Contains, sym, ap, subst, ◌∙◌, arith}
-use Rattle.atomic_table.specs.Table.{Me}
-use Rattle.claim_board.specs.declared.event.Event.TheVariants.{GiveBack}
-use Rattle.claim_board.specs.declared.rule.View.{View}
 use Rattle.claim_board.specs.Machine.{held}
 use Rattle.claim_board.specs.State.{BoardState, SeatState}
-use Rattle.claim_board.specs.Rule.{first_events}
 use Rattle.claim_board.proofs.Runs.{held-push}
 use Rattle.claim_board.proofs.Lists.{among-filter, taken_out}
 use Rattle.claim_board.proofs.Steps.{give_back_allowed_as, seat_after}
