@@ -1,7 +1,7 @@
 #!/usr/bin/env python3
 """Shortens the proofs of a crate: where `search` finds what is written out, it puts `search` there.
 
-usage: tools/shorten.py [--rounds N] [--jobs N] [--first FILE] CRATE
+usage: tools/shorten.py [--rounds N] [--jobs N] [--files WORD] CRATE
 
 First, of each clause, arm or field of more than a line, and of each lemma with several clauses, it tries whether `search`
 proves it by the lemmas that it cites. Then it takes out lemmas that are one `search` themselves, if only other searches
@@ -13,7 +13,7 @@ half of the edits again, and then the second.
 
   --rounds N    at most N checks that try edits (if not set: until nothing is left to try)
   --jobs N      the processes of each check (2, if not set)
-  --first WORD  only proof files whose paths have this word in them
+  --files WORD  only proof files whose paths have this word in them
 
 The files have to be proved before, and are changed where they lie. At the end the crate is checked as it is: the last
 line says how many edits and lines went, and the status is 0 only if all is proved. What the last check refuses is put
@@ -22,6 +22,7 @@ back whole. RT is the command that checks (`rt`, if not set).
 import argparse
 import os
 import re
+import signal
 import subprocess
 import sys
 from collections import defaultdict
@@ -290,8 +291,10 @@ class Crate:
     def errors(self, files):
         """The files and lines where a check of these files tells of an error. The crate's own are put back then."""
         self.write(files)
-        told = self.check("--allow-holes")
-        self.write(self.files)
+        try:
+            told = self.check("--allow-holes")
+        finally:
+            self.write(self.files)
         if "logic=" not in told and not ERROR.search(told):
             sys.exit(f"tools/shorten.py: no verdict on {self.name}:\n{told[-2000:]}")
         return [(f"{self.at}/{it[1]}", int(it[2]) - 1) for it in ERROR.finditer(told)]
@@ -499,11 +502,13 @@ def main():
     words.add_argument("crate")
     words.add_argument("--rounds", type=int, default=99)
     words.add_argument("--jobs", type=int, default=2)
-    words.add_argument("--first", default="")
+    words.add_argument("--files", default="")
     asked = words.parse_args()
+    for it in (signal.SIGHUP, signal.SIGTERM):
+        signal.signal(it, lambda *_: sys.exit("tools/shorten.py: cut off"))
     if asked.crate not in crate_lines():
         sys.exit(f"tools/shorten.py: crates.txt has no crate {asked.crate}")
-    crate = Crate(asked.crate, asked.jobs, asked.first)
+    crate = Crate(asked.crate, asked.jobs, asked.files)
     before, lines = crate.files, crate.lines()
     tried, kept = search_instead(crate, asked.rounds)
     gone = inline(crate, asked.rounds)

@@ -604,3 +604,6 @@ def what_the_last_check_refuses_is_put_back(room):
     status, said, told, text, _ = it.run("small", LAST="logic=not-proved functions=1")
     expect((status, said, text), (1, "small: 2 of 3 edits, 1 lemmas, 0 of 20 lines gone, NOT PROVED, put back\n", LONG))
     expect(told.endswith("logic=not-proved functions=1\n"), True)
+    # nor is anything left of a check without a verdict
+    it.put("searcher.py", "print('no room is left')")
+    expect(it.run("small")[:4], (1, "", "tools/shorten.py: no verdict on small:\nno room is left\n\n", LONG))
