@@ -3,7 +3,7 @@ ghost use Rattle.std.specs.Prelude.{IsTrue};
 ghost use Rattle.links.specs.Least.{AreDistinct};
 ghost use Rattle.links.specs.Link.{EndsUpTo};
 
-use super::drawn_lists::expect_one_forest;
+use super::drawn_lists::{expect_forest, expect_one_forest};
 use super::same::expect_same;
 use link_key::{Forest, Labels, Link, Offers};
 use links::repeats::drop_usual_repeats;
@@ -34,6 +34,15 @@ fn forests_of_the_worked_graphs(rt: HostRuntime) {
         let forest = expect_one_forest(&rt, rt.alloc(), graph.n, graph.arcs);
         let wanted = links_between(&rt, rt.alloc(), graph.n, graph.forest);
         expect_same(&rt, forest.as_slice(), wanted.as_slice());
+    }
+}
+
+// A forest closes no cycle, so it is its own forest.
+#[test]
+fn forests_of_forests(rt: HostRuntime) {
+    for graph in WORKED {
+        let wanted = links_between(&rt, rt.alloc(), graph.n, graph.forest);
+        expect_forest(&rt, rt.alloc(), graph.n, graph.forest, wanted.as_slice());
     }
 }
 
@@ -129,15 +138,15 @@ fn repeats_side_by_side(rt: HostRuntime) {
 // The second of two equal links is the 64th, which is looked at, or the 65th, which isn't.
 #[test]
 fn repeats_past_the_sample(rt: HostRuntime) {
-    for count in [62, 63] {
+    for first in [64, 65] {
         let mut arcs = Vec::new(rt.alloc());
-        for head in 0..count {
-            arcs.push((1, head + 2, 0)).expect(&rt, "memory");
+        for head in 2..first {
+            arcs.push((1, head, 0)).expect(&rt, "memory");
         }
         arcs.push((69, 70, 0)).expect(&rt, "memory");
         let once = arcs.clone().expect(&rt, "memory");
         arcs.push((70, 69, 0)).expect(&rt, "memory");
-        let wanted = if count == 62 { &once } else { &arcs };
+        let wanted = if first == 64 { &once } else { &arcs };
         expect_once(&rt, rt.alloc(), arcs.as_slice(), 0, wanted.as_slice());
     }
 }
