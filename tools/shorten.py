@@ -395,7 +395,7 @@ def texts_outside(crate):
             if name.endswith((".antt", ".rt")):
                 with open(f"{at}/{name}", encoding="utf-8") as it:
                     texts.append(it.read())
-    return "\n".join(it for it in texts if f"Rattle.{crate.name}.proofs" in it or f"crate::proofs" in it)
+    return "\n".join(it for it in texts if f"Rattle.{crate.name}.proofs" in it or "crate::proofs" in it)
 
 
 def is_only_hint(crate, lemma):
@@ -452,12 +452,14 @@ def with_imports(crate, lines, lemma):
     imports = {name.split(" as ")[-1]: it[1] for it in map(IMPORT.match, crate.files[lemma.path]) if it for name in it[2].split(", ")}
     module = f"Rattle.{crate.name}.proofs.{os.path.relpath(lemma.path, f'{crate.at}/proofs')[:-5].replace('/', '.')}"
     for hint in lemma.hints:
-        source, used = imports.get(hint, module), [it for it in lines if it and it.startswith("use ")]
-        if any(re.search(rf"[{{ ]{re.escape(hint)}[,}}]", it) for it in used):
+        start = f"use {imports.get(hint, module)}.{{"
+        used = [at for at, line in enumerate(lines) if line and line.startswith("use ")]
+        if any(re.search(rf"[{{ ]{re.escape(hint)}[,}}]", lines[at]) for at in used):
             continue
-        same = next((at for at, it in enumerate(lines) if it and it.startswith(f"use {source}.{{")), None)
+        same = next((at for at in used if lines[at].startswith(start)), None)
         if same is None:
-            lines = [f"use {source}.{{{hint}}}", *lines] if not used else [it for line in lines for it in ([line, f"use {source}.{{{hint}}}"] if line == used[-1] else [line])]
+            at = used[-1] + 1 if used else 0
+            lines = [*lines[:at], f"{start}{hint}}}", *lines[at:]]
         else:
             lines = [*lines[:same], f"{lines[same][:-1]}, {hint}}}", *lines[same + 1 :]]
     return lines
