@@ -603,3 +603,93 @@ def the_crates_that_changed_since_a_commit_are_tried(room):
     refused = [f"other/{name}: refused: src/lib.rt:4:5: {GOAL}" for name in "bc"]
     it.expect(0, [*refused, "2 wrong bodies refused, 0 survived"], 3, ["--jobs", "1", "--since", head])
     it.expect(2, ["tests/wrong_bodies.py: git knows no commit nowhere"], 0, ["--since", "nowhere"])
+
+
+# ---- shorter proofs
+
+# It proves each line that doesn't search for what is hard, and notes each check in CALLS. A last check ends as LAST says.
+SEARCHER = r"""
+import os, sys
+with open(os.environ["CALLS"], "a", encoding="utf-8") as calls:
+    calls.write(" ".join(sys.argv[1:]) + "\n")
+with open("proofs/Small.antt", encoding="utf-8") as it:
+    wrong = [at for at, line in enumerate(it, 1) if "hard" in line and "search" in line]
+for at in wrong:
+    print(f"proofs/Small.antt:{at}:1: error: `search` found no proof")
+if not wrong:
+    print("logic=proved functions=1" if "--allow-holes" in sys.argv else os.environ.get("LAST", "logic=proved functions=1"))
+"""
+LONG = """-- what is easy and what is hard
+use Rattle.std.proofs.Common.{◌≡◌, ℕ}
+
+-- it is one search already
+easy : (a : ℕ) → a ≡ a
+easy a = search arith
+
+pub long : (a : ℕ) → a ≡ a
+long a =
+    let b = easy a in
+    b
+
+pub hard : (a : ℕ) → a ≡ a
+hard a =
+    let b = long a in
+    by_cases b
+
+pub by_cases : (a : ℕ) → a ≡ a
+by_cases zero = easy zero
+by_cases (suc a) = easy (suc a)
+"""
+SHORT = """-- what is easy and what is hard
+use Rattle.std.proofs.Common.{◌≡◌, ℕ, arith}
+
+pub long : (a : ℕ) → a ≡ a
+long a = search arith
+
+pub hard : (a : ℕ) → a ≡ a
+hard a =
+    let b = long a in
+    by_cases b
+
+pub by_cases : (a : ℕ) → a ≡ a
+by_cases a1 = search arith
+"""
+
+
+class Proofs(Folder):
+    """One with a crate of three lemmas that are written out, of which a search proves two."""
+
+    def __init__(self, room):
+        super().__init__(room, ["tools/shorten.py", "tools/crates.py", "tools/toolchain.py"])
+        self.put("crates.txt", "small:\n")
+        self.put("searcher.py", SEARCHER)
+        self.put("crates/small/proofs/Small.antt", LONG)
+
+    def run(self, *words, **more):
+        """Status, standard output and error of the tool, and the lines of the proof file and of the checks."""
+        self.put("calls", "")
+        env = {**os.environ, "RT": f"'{sys.executable}' '{self.room}/searcher.py'", "CALLS": f"{self.room}/calls", **more}
+        words = [sys.executable, f"{self.room}/tools/shorten.py", *words]
+        ended = subprocess.run(words, env=env, capture_output=True, text=True, timeout=SECONDS, check=False)
+        return ended.returncode, ended.stdout, ended.stderr, self.read("crates/small/proofs/Small.antt"), len(self.read("calls").splitlines())
+
+
+@case
+def proofs_that_a_search_finds_get_shorter(room):
+    it = Proofs(room)
+    told = "small, check 1: 2 of 3 edits kept, 3 lines fewer\nsmall, check 1: 1 lemmas taken out, 0 needed\n"
+    expect(it.run("small"), (0, "small: 2 of 3 edits, 1 lemmas, 7 of 20 lines gone, proved\n", told, SHORT, 3))
+    # nothing is left but what is hard
+    expect(it.run("small")[1:2], ("small: 0 of 1 edits, 0 lemmas, 0 of 13 lines gone, proved\n",))
+    expect(it.run("large")[:3], (1, "", "tools/shorten.py: crates.txt has no crate large\n"))
+
+
+@case
+def what_the_last_check_refuses_is_put_back(room):
+    it = Proofs(room)
+    status, said, told, text, _ = it.run("small", LAST="logic=not-proved functions=1")
+    expect((status, said, text), (1, "small: 2 of 3 edits, 1 lemmas, 0 of 20 lines gone, NOT PROVED, put back\n", LONG))
+    expect(told.endswith("logic=not-proved functions=1\n"), True)
+    # nor is anything left of a check without a verdict
+    it.put("searcher.py", "print('no room is left')")
+    expect(it.run("small")[:4], (1, "", "tools/shorten.py: no verdict on small:\nno room is left\n\n", LONG))

@@ -11,7 +11,8 @@ use Rattle.gr_text.specs.Graph.{HasEnds, IsWeight, AreLawfulLines, AreLawfulSoFa
 use Rattle.gr_text.specs.Fault.{SaidSoFar, Unsaid, Stated, HaveSaid, IsWrong, IsFaultAfter, IsFirstFaulty}
 use Rattle.gr_text.specs.Laws.{MeansOrFails}
 use Rattle.gr_text.specs.declared.faults.GrKind.{GrKind}
-use Rattle.gr_text.specs.declared.faults.GrKind.TheVariants.{UnknownLine, NoProblemYet, SecondProblem, BadProblem, TooLarge, BadArc, EndOutOfRange, WeightOutOfRange, TooManyArcs, MissingProblem, MissingArcs}
+use Rattle.gr_text.specs.declared.faults.GrKind.TheVariants.{UnknownLine, NoProblemYet, SecondProblem, BadProblem, TooLarge}
+use Rattle.gr_text.specs.declared.faults.GrKind.TheVariants.{BadArc, EndOutOfRange, WeightOutOfRange, TooManyArcs, MissingProblem, MissingArcs}
 use Rattle.gr_text.proofs.OrNot.{both_or_not, within_or_not}
 use Rattle.gr_text.proofs.Steps.{Say-silent, AreLawfulLines-silent, AreLawfulLines-problem, AreLawfulLines-arc}
 use Rattle.gr_text.proofs.Cuts.{cut_of}

@@ -1,5 +1,6 @@
 -- What a reader has read when another piece is fed, and what stopped it stays.
-use Rattle.std.proofs.Common.{◌≡◌, ℕ, ◌+◌, ◌-◌, ◌<◌, ◌≤◌, min, inl, inr, List, [], ◌∷◌, ◌++◌, refl, ap, sym, ◌∙◌, subst, arith, append_assoc, length, take, Option, Some, None, MatchOption, length-append, append-nil, ◌==◌, Bool, cond, take_all}
+use Rattle.std.proofs.Common.{◌≡◌, ℕ, ◌+◌, ◌-◌, ◌<◌, ◌≤◌, min, inl, inr, List, [], ◌∷◌, ◌++◌, refl, ap, sym}
+use Rattle.std.proofs.Common.{◌∙◌, subst, arith, append_assoc, length, take, Option, Some, None, MatchOption, length-append, append-nil, ◌==◌, Bool, cond, take_all}
 use Rattle.std.specs.List.{AllByRecursion, flat_map, count_by}
 use Rattle.std.proofs.lemmas.List.{take-append-le}
 use Rattle.std.proofs.Math.Seq.{take-append-add}
@@ -63,7 +64,8 @@ pub fitting : (limit fed len : ℕ) (text piece : List ℕ) → length text ≡ 
 fitting limit fed len text piece counted within is = search (arith, take_of_more, take_all, cases_lt)
 
 -- the reader stops within a piece
-pub stops_within : (e : ReadFault) (limit fed len : ℕ) (text piece : List ℕ) → length text ≡ fed → fed ≤ limit → len ≡ min (limit - fed) (length piece) → StopsAt e (text ++ take len piece) → StopsBy e limit (text ++ piece)
+pub stops_within : (e : ReadFault) (limit fed len : ℕ) (text piece : List ℕ) → length text ≡ fed → fed ≤ limit
+    → len ≡ min (limit - fed) (length piece) → StopsAt e (text ++ take len piece) → StopsBy e limit (text ++ piece)
 stops_within (fault.Gr f) limit fed len text piece counted within is stops = search (arith, fitting)
 stops_within (fault.Source number) limit fed len text piece counted within is stops = stops
 stops_within fault.TooLong limit fed len text piece counted within is stops = absurd stops

@@ -1,5 +1,6 @@
 -- The text of a forest means just its links.
-use Rattle.std.proofs.Common.{◌≡◌, ◌≢◌, ℕ, ℤ, pos, negsuc, neg_ℤ, suc, ◌+◌, ◌*◌, ◌-◌, ◌/◌, ◌%◌, ◌<◌, ◌≤◌, ◌^◌, ◌==◌, min, max, not, cond, false, Bool, List, [], ◌∷◌, ◌++◌, length, map, filter, codes, decimal, ◌≤ℤ◌, ◌<ℤ◌, refl, sym, ap, ◌∙◌, append_assoc, subst, inl, inr, arith}
+use Rattle.std.proofs.Common.{◌≡◌, ◌≢◌, ℕ, ℤ, pos, negsuc, neg_ℤ, suc, ◌+◌, ◌*◌, ◌-◌, ◌/◌, ◌%◌, ◌<◌, ◌≤◌, ◌^◌, ◌==◌, min, max, not, cond}
+use Rattle.std.proofs.Common.{false, Bool, List, [], ◌∷◌, ◌++◌, length, map, filter, codes, decimal, ◌≤ℤ◌, ◌<ℤ◌, refl, sym, ap, ◌∙◌, append_assoc, subst, inl, inr, arith}
 use Rattle.std.specs.List.{AllByRecursion, flat_map}
 use Rattle.std.specs.Fmt.{signed_decimal}
 use Rattle.std.proofs.lemmas.Int.{ints}
@@ -82,7 +83,8 @@ signed_some (negsuc n) low high = λ e. absurd (cc)
 -- ---- fields
 
 -- a field behind a space
-behind_space : (field after : List ℕ) (fields : List (List ℕ)) → field ≢ [] → AllByRecursion IsFieldByte field → BeginsBlank after → AreFields after fields → AreFields (32 ∷ (field ++ after)) (field ∷ fields)
+behind_space : (field after : List ℕ) (fields : List (List ℕ)) → field ≢ [] → AllByRecursion IsFieldByte field
+    → BeginsBlank after → AreFields after fields → AreFields (32 ∷ (field ++ after)) (field ∷ fields)
 behind_space field after fields some bytes blank rest = (32 ∷ [], after, (inl refl, tt), some, bytes, refl, blank, rest)
 
 -- the last field
@@ -112,7 +114,8 @@ arc_of l = record { tail = l.low; head = l.high; weight = l.weight }
 
 header_is_line : (n k : ℕ) → n < 2 ^ 64 → k < 2 ^ 64 → IsLine (header_line n k)
 header_is_line n k n_small k_small = subst IsLine (sym (header_apart n k)) (
-    All-both (λ b. b ≢ 10) (codes "p sp ") (decimal n ++ (codes " " ++ decimal k)) ((λ is. omega (arith, is)), ((λ is. omega (arith, is)), ((λ is. omega (arith, is)), ((λ is. omega (arith, is)), ((λ is. omega (arith, is)), tt)))))
+    All-both (λ b. b ≢ 10) (codes "p sp ") (decimal n ++ (codes " " ++ decimal k))
+    ((λ is. omega (arith, is)), ((λ is. omega (arith, is)), ((λ is. omega (arith, is)), ((λ is. omega (arith, is)), ((λ is. omega (arith, is)), tt)))))
     (All-both (λ b. b ≢ 10) (decimal n) (codes " " ++ decimal k) (decimal_line n n_small) ((λ is. omega (arith, is)), decimal_line k k_small)))
 
 header_says : (n k : ℕ) → n < 2 ^ 64 → k < 2 ^ 64 → Says (header_line n k) (Problem n k)
@@ -150,8 +153,11 @@ weight_high l = let fits = l.weight_fits in omega (arith, ints, fits)
 body_is_line : (l : Link) → IsLine (body_line l)
 body_is_line l = subst IsLine (sym (body_apart l)) (
     All-both (λ b. b ≢ 10) (codes "a ") (decimal l.low ++ (codes " " ++ (decimal l.high ++ (codes " " ++ signed_decimal l.weight)))) ((λ is. omega (arith, is)), ((λ is. omega (arith, is)), tt))
-    (All-both (λ b. b ≢ 10) (decimal l.low) (codes " " ++ (decimal l.high ++ (codes " " ++ signed_decimal l.weight))) (decimal_line l.low (low_small l))
-    ((λ is. omega (arith, is)), All-both (λ b. b ≢ 10) (decimal l.high) (codes " " ++ signed_decimal l.weight) (decimal_line l.high (high_small l)) ((λ is. omega (arith, is)), signed_line l.weight (weight_low l) (weight_high l)))))
+    (All-both (λ b. b ≢ 10) (decimal l.low) (codes " " ++ (decimal l.high ++ (codes " " ++ signed_decimal l.weight))) (decimal_line l.low (low_small l)) (
+      (λ is. omega (arith, is)),
+      All-both (λ b. b ≢ 10) (decimal l.high) (codes " " ++ signed_decimal l.weight)
+          (decimal_line l.high (high_small l)) ((λ is. omega (arith, is)), signed_line l.weight (weight_low l) (weight_high l)),
+    )))
 
 body_says : (l : Link) → Says (body_line l) (ArcLine (arc_of l))
 body_says l = subst (λ (line : List ℕ). Says line (ArcLine (arc_of l))) (sym (body_apart l)) (

@@ -44,7 +44,8 @@ pub problem_without_vertices : (fields : List (List ℕ)) (field : List ℕ) →
 problem_without_vertices fields field is other =
     never_problem fields (codes "sp" ∷ []) field is (λ more n m (f, g, e, wf, wg). let same : f ≡ field = cc in other n (subst (λ (x : List ℕ). Writes x n) same wf))
 
-pub problem_without_arcs : (fields : List (List ℕ)) (field first : List ℕ) → fields ≡ codes "p" ∷ codes "sp" ∷ first ∷ [] → ((n : ℕ) → ¬ (Writes field n)) → NeverSay (codes "p") (fields ++ field ∷ []) IsProblem
+pub problem_without_arcs : (fields : List (List ℕ)) (field first : List ℕ) → fields ≡ codes "p" ∷ codes "sp" ∷ first ∷ []
+    → ((n : ℕ) → ¬ (Writes field n)) → NeverSay (codes "p") (fields ++ field ∷ []) IsProblem
 problem_without_arcs fields field first is other =
     never_problem fields (codes "sp" ∷ first ∷ []) field is (λ more n m (f, g, e, wf, wg). let same : g ≡ field = cc in other m (subst (λ (x : List ℕ). Writes x m) same wg))
 
@@ -60,7 +61,8 @@ pub arc_without_head : (fields : List (List ℕ)) (field first : List ℕ) → f
 arc_without_head fields field first is other =
     never_arc fields (first ∷ []) field is (λ more arc (f, g, h, e, wf, wg, wh). let same : g ≡ field = cc in other arc.head (subst (λ (x : List ℕ). Writes x arc.head) same wg))
 
-pub arc_without_weight : (fields : List (List ℕ)) (field first second : List ℕ) → fields ≡ codes "a" ∷ first ∷ second ∷ [] → ((z : ℤ) → ¬ (WritesSigned field z)) → NeverSay (codes "a") (fields ++ field ∷ []) IsArcLine
+pub arc_without_weight : (fields : List (List ℕ)) (field first second : List ℕ) → fields ≡ codes "a" ∷ first ∷ second ∷ []
+    → ((z : ℤ) → ¬ (WritesSigned field z)) → NeverSay (codes "a") (fields ++ field ∷ []) IsArcLine
 arc_without_weight fields field first second is other =
     never_arc fields (first ∷ second ∷ []) field is (λ more arc (f, g, h, e, wf, wg, wh). let same : h ≡ field = cc in other arc.weight (subst (λ (x : List ℕ). WritesSigned x arc.weight) same wh))
 

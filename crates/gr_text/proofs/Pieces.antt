@@ -11,7 +11,8 @@ use Rattle.gr_text.proofs.Parts.{not_begun}
 use Rattle.gr_text.proofs.Feeding.{HasRead-fault, read_on}
 
 -- whole lines, where no part of a line has come
-pub Stands-lines : {swap : Swap} (r : ReaderValue) (so_far : LinesSoFarValue) (fed count : ℕ) (text piece : List ℕ) → Stands swap r text → r.partial.begun ≡ false → AddsLines count piece r.so_far so_far
+pub Stands-lines : {swap : Swap} (r : ReaderValue) (so_far : LinesSoFarValue) (fed count : ℕ) (text piece : List ℕ)
+    → Stands swap r text → r.partial.begun ≡ false → AddsLines count piece r.so_far so_far
     → Stands swap (record r { fed = fed; number = r.number + count; so_far = so_far }) (text ++ piece)
 Stands-lines {swap} r so_far fed count text piece stands fresh adds =
     let none : stands.part ≡ [] = not_begun stands.part (sym stands.kept.0 ∙ fresh) in
@@ -25,7 +26,8 @@ Stands-lines {swap} r so_far fed count text piece stands fresh adds =
       numbered = omega (arith, length-append stands.lines adds.lines, stands.numbered, adds.each_line);
     }
 
-pub has_read_on : {swap : Swap} (reader : ReaderValue) (text : List ℕ) → reader.fault ≡ None → length text ≤ reader.limit → length text ≡ reader.fed → Stands swap reader text → HasReadBut swap reader text
+pub has_read_on : {swap : Swap} (reader : ReaderValue) (text : List ℕ) → reader.fault ≡ None
+    → length text ≤ reader.limit → length text ≡ reader.fed → Stands swap reader text → HasReadBut swap reader text
 has_read_on {swap} reader text is short counted stands = search arith
 
 lines_taken : (old : ReaderValue) (so_far : LinesSoFarValue) (count : ℕ) (piece : List ℕ) → old.fault ≡ None → old.partial.begun ≡ false

@@ -77,7 +77,13 @@ arc_or_not (a ∷ x ∷ y ∷ z ∷ []) =
           let sf : f ≡ x = cc in
           let sg : g ≡ y = cc in
           let sh : h ≡ z = cc in
-          never (is, ((arc.tail, subst (λ (s : List ℕ). Writes s arc.tail) sf wf), ((arc.head, subst (λ (s : List ℕ). Writes s arc.head) sg wg), (arc.weight, subst (λ (s : List ℕ). WritesSigned s arc.weight) sh wh)))))
+          never (
+            is,
+            (
+              (arc.tail, subst (λ (s : List ℕ). Writes s arc.tail) sf wf),
+              ((arc.head, subst (λ (s : List ℕ). Writes s arc.head) sg wg), (arc.weight, subst (λ (s : List ℕ). WritesSigned s arc.weight) sh wh)),
+            ),
+          ))
     ]
 arc_or_not fields = inr (λ (arc, (f, g, h, e, wf, wg, wh)). cc)
 

@@ -11,8 +11,10 @@ use Rattle.gr_text.specs.LinesSoFar.{Swap, no_swap}
 use Rattle.gr_text.specs.Reader.{ReaderValue, HasRead, HasReadBut, IsRead, IsReadBut, StopsBy}
 use Rattle.gr_text.specs.Sourced.{IsReadOf}
 use Rattle.gr_text.specs.Kept.{HasKept, HasFollowed, IsKeptReadOf}
+use Rattle.gr_text.specs.Following.{IsKeeping, IsNewKeeper}
 use Rattle.gr_text.specs.declared.faults.ReadFault.{ReadFault}
 use Rattle.gr_text.specs.declared.faults.ReadFault.TheVariants as fault
+use Rattle.gr_text.specs.declared.keep.Keep as Keep
 use Rattle.gr_text.proofs.Feeding.{lawful_lines, read_on, stopped_by}
 use Rattle.gr_text.proofs.Keeping.{kept_none, kept_by, nothing_known}
 
@@ -21,19 +23,30 @@ clean : {swap : Swap} (reader : ReaderValue) (text : List ℕ) → HasReadBut sw
 clean reader text read none = search (arith, read_on, lawful_lines)
 
 -- the source hasn't given anything yet
-pub nothing_kept : (drops : Type 0) (knows : List Link → Type 0) (dropped : ℕ) (reader : ReaderValue) → dropped ≡ 0 → knows [] → HasRead reader [] → HasKept drops knows dropped reader []
+nothing_kept : (drops : Type 0) (knows : List Link → Type 0) (dropped : ℕ) (reader : ReaderValue) → dropped ≡ 0 → knows [] → HasRead reader [] → HasKept drops knows dropped reader []
 nothing_kept drops knows dropped reader none known read = record { swap = no_swap; are = kept_none drops dropped none; known = nothing_known knows known; read = read }
 
-pub nothing_fed : (drops : Type 0) (knows : List Link → Type 0) (dropped : ℕ) (reader : ReaderValue) (s : SourceState) → dropped ≡ 0 → knows [] → HasRead reader [] → HasFollowed drops knows dropped 0 reader s s
+pub nothing_fed : (drops : Type 0) (knows : List Link → Type 0) (dropped : ℕ) (reader : ReaderValue) (s : SourceState)
+    → dropped ≡ 0 → knows [] → HasRead reader [] → HasFollowed drops knows dropped 0 reader s s
 nothing_fed drops knows dropped reader s none known read = record { text = []; kept = nothing_kept drops knows dropped reader none known read; gave = gave_nothing s }
 
+pub new_reader : {K A : Type 0} (keep : Keep.Ghosts K A) (keeper : K) (reader : ReaderValue)
+    → IsNewKeeper keep keeper → reader.fault ≡ None → HasRead reader [] → IsKeeping keep keeper reader
+new_reader keep keeper reader new clean read = record {
+  ready = new.ready;
+  clean = clean;
+  kept = ([], nothing_kept keep.drops (keep.knows keeper) (keep.dropped keeper) reader new.none new.nothing read);
+}
+
 -- one more piece was fed
-pub fed_kept : {drops : Type 0} {knows : List Link → Type 0} {dropped : ℕ} (old new : ReaderValue) (text piece : List ℕ) → ((swap : Swap) (text : List ℕ) → HasReadBut swap old text → HasReadBut swap new (text ++ piece))
+pub fed_kept : {drops : Type 0} {knows : List Link → Type 0} {dropped : ℕ} (old new : ReaderValue) (text piece : List ℕ)
+    → ((swap : Swap) (text : List ℕ) → HasReadBut swap old text → HasReadBut swap new (text ++ piece))
     → HasKept drops knows dropped old text → HasKept drops knows dropped new (text ++ piece)
 fed_kept old new text piece fed kept = record { swap = kept.swap; are = kept.are; known = kept.known; read = fed kept.swap text kept.read }
 
 -- the source gave one more piece, which was fed
-pub piece_fed : {drops : Type 0} {knows : List Link → Type 0} {dropped : ℕ} (old new : ReaderValue) (piece : List ℕ) (s t u : SourceState) → ((swap : Swap) (text : List ℕ) → HasReadBut swap old text → HasReadBut swap new (text ++ piece))
+pub piece_fed : {drops : Type 0} {knows : List Link → Type 0} {dropped : ℕ} (old new : ReaderValue) (piece : List ℕ) (s t u : SourceState)
+    → ((swap : Swap) (text : List ℕ) → HasReadBut swap old text → HasReadBut swap new (text ++ piece))
     → HasFollowed drops knows dropped 0 old s t → Gave 0 0 piece t u → HasFollowed drops knows dropped 0 new s u
 piece_fed old new piece s t u fed so_far more = record {
   text = so_far.text ++ piece;
@@ -47,10 +60,12 @@ pub links_kept : {drops : Type 0} {knew knows : List Link → Type 0} {dropped n
 links_kept old new s t keeps so_far = record { text = so_far.text; kept = keeps so_far.text so_far.kept; gave = so_far.gave }
 
 -- it ended behind what the reader has read
-pub ends_behind : {drops : Type 0} {knows : List Link → Type 0} {dropped : ℕ} (reader : ReaderValue) (s t u : SourceState) → HasFollowed drops knows dropped 0 reader s t → Gave 0 1 [] t u → HasFollowed drops knows dropped 1 reader s u
+pub ends_behind : {drops : Type 0} {knows : List Link → Type 0} {dropped : ℕ} (reader : ReaderValue) (s t u : SourceState)
+    → HasFollowed drops knows dropped 0 reader s t → Gave 0 1 [] t u → HasFollowed drops knows dropped 1 reader s u
 ends_behind reader s t u so_far ended = search (arith, append-nil, gave_more)
 
-pub read_to_end : {drops : Type 0} {knows : List Link → Type 0} {dropped : ℕ} (limit : ℕ) (outcome : Result GraphValue ReadFault) (reader : ReaderValue) (s u : SourceState) → HasFollowed drops knows dropped 1 reader s u
+pub read_to_end : {drops : Type 0} {knows : List Link → Type 0} {dropped : ℕ} (limit : ℕ) (outcome : Result GraphValue ReadFault) (reader : ReaderValue) (s u : SourceState)
+    → HasFollowed drops knows dropped 1 reader s u
     → reader.fault ≡ None → reader.limit ≡ limit → ((swap : Swap) (text : List ℕ) → HasReadBut swap reader text → IsReadBut swap reader.limit text outcome)
     → IsKeptReadOf drops limit dropped outcome s u
 read_to_end {drops} {knows} {dropped} limit outcome reader s u ended none is answers = at outcome (answers kept.swap ended.text kept.read)
@@ -79,7 +94,8 @@ read_whole true limit enough outcome reader s u so_far few short none is answers
 read_whole false limit enough outcome reader s u so_far few short none is answers = absurd (omega (arith, few refl, short, is))
 
 -- a read failed behind what the reader has read
-pub breaks_off : {drops : Type 0} {knows : List Link → Type 0} {dropped : ℕ} (limit line : ℕ) (reader : ReaderValue) (s t u : SourceState) → HasFollowed drops knows dropped 0 reader s t → reader.fault ≡ None → reader.limit ≡ limit
+pub breaks_off : {drops : Type 0} {knows : List Link → Type 0} {dropped : ℕ} (limit line : ℕ) (reader : ReaderValue) (s t u : SourceState)
+    → HasFollowed drops knows dropped 0 reader s t → reader.fault ≡ None → reader.limit ≡ limit
     → ((swap : Swap) (text : List ℕ) → HasReadBut swap reader text → line ≡ 1 + count_by (λ b. b == line_feed) text) → Gave 1 0 [] t u → IsReadOf limit (Err (fault.Source line)) s u
 breaks_off limit line reader s t u so_far none is next failed = inr (inr (
   line,
@@ -99,5 +115,6 @@ pub read_up_to : {drops : Type 0} {knows : List Link → Type 0} {dropped : ℕ}
 read_up_to limit why reader s u so_far is at = search (arith, stopped_by)
 
 -- memory was refused behind what the reader was fed
-pub memory_lacks : {drops : Type 0} {knows : List Link → Type 0} {dropped : ℕ} (limit : ℕ) (reader : ReaderValue) (s u : SourceState) → HasFollowed drops knows dropped 0 reader s u → IsReadOf limit (Err fault.Memory) s u
+pub memory_lacks : {drops : Type 0} {knows : List Link → Type 0} {dropped : ℕ} (limit : ℕ) (reader : ReaderValue) (s u : SourceState)
+    → HasFollowed drops knows dropped 0 reader s u → IsReadOf limit (Err fault.Memory) s u
 memory_lacks limit reader s u so_far = inr (inl (record { bytes = so_far.text; gave = so_far.gave; stops = tt }))

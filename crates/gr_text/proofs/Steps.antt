@@ -1,5 +1,6 @@
 -- What lines say when one more comes.
-use Rattle.std.proofs.Common.{◌≡◌, ℕ, ◌+◌, ◌<◌, ◌≤◌, inl, inr, List, [], ◌∷◌, ◌++◌, refl, ap, sym, ◌∙◌, subst, arith, append-nil, map, length, Option, Some, None, cond, true, false, Bool, Result, Ok, Err, MatchResult}
+use Rattle.std.proofs.Common.{◌≡◌, ℕ, ◌+◌, ◌<◌, ◌≤◌, inl, inr, List, [], ◌∷◌, ◌++◌, refl, ap, sym, ◌∙◌}
+use Rattle.std.proofs.Common.{subst, arith, append-nil, map, length, Option, Some, None, cond, true, false, Bool, Result, Ok, Err, MatchResult}
 use Rattle.std.specs.Prelude.{option_to_list}
 use Rattle.std.specs.List.{filter}
 use Rattle.std.proofs.lemmas.List.{map-append, length_push}
@@ -48,7 +49,8 @@ AreLawfulLines-problem lines line n m say says vertices arc_lines = record {
 }
 
 -- an arc line
-pub AreLawfulLines-arc : (lines : List (List ℕ)) (line : List ℕ) (n m : ℕ) (arcs : List Arc) (arc : Arc) → AreLawfulLines lines n m arcs → Says line (ArcLine arc) → IsArcOf n arc → length arcs < m → AreLawfulLines (lines ++ line ∷ []) n m (arcs ++ arc ∷ [])
+pub AreLawfulLines-arc : (lines : List (List ℕ)) (line : List ℕ) (n m : ℕ) (arcs : List Arc) (arc : Arc) → AreLawfulLines lines n m arcs
+    → Says line (ArcLine arc) → IsArcOf n arc → length arcs < m → AreLawfulLines (lines ++ line ∷ []) n m (arcs ++ arc ∷ [])
 AreLawfulLines-arc lines line n m arcs arc lawful says is_arc room = record {
   say = subst (λ (ss : List Statement). Say (lines ++ line ∷ []) (Problem n m ∷ ss)) (sym (map-append ArcLine arcs (arc ∷ [])))
       (Say-more lines line (Problem n m ∷ map ArcLine arcs) (ArcLine arc) lawful.say says);
@@ -62,7 +64,8 @@ AreLawfulLines-arc lines line n m arcs arc lawful says is_arc room = record {
 pub AreLinksOf-loop : (arcs : List Arc) (links : List Link) (arc : Arc) → AreLinksOf arcs links → is_no_loop arc ≡ false → AreLinksOf (arcs ++ arc ∷ []) links
 AreLinksOf-loop arcs links arc are loop = search (arith, append-nil, cond, filter-append)
 
-pub AreLinksOf-link : (arcs : List Arc) (links : List Link) (arc : Arc) (link : Link) → AreLinksOf arcs links → is_no_loop arc ≡ true → key_of link ≡ arc_key arc → AreLinksOf (arcs ++ arc ∷ []) (links ++ link ∷ [])
+pub AreLinksOf-link : (arcs : List Arc) (links : List Link) (arc : Arc) (link : Link) → AreLinksOf arcs links
+    → is_no_loop arc ≡ true → key_of link ≡ arc_key arc → AreLinksOf (arcs ++ arc ∷ []) (links ++ link ∷ [])
 AreLinksOf-link arcs links arc link are no_loop key = search (arith, map-append, cond, filter-append)
 
 pub AreLinksOf-append : (arcs more : List Arc) (links others : List Link) → AreLinksOf arcs links → AreLinksOf more others → AreLinksOf (arcs ++ more) (links ++ others)
@@ -72,12 +75,14 @@ pub counts_of : (size : Option ProblemSize) (count : ℕ) (links : List Link) (l
 counts_of None count links lines (say, zero_count, none) = (say, zero_count)
 counts_of (Some size) count links lines (arcs, lawful, counted, are) = (arcs, lawful, counted)
 
-pub KeepsLinesBut-silent : (size : Option ProblemSize) (count : ℕ) (links : List Link) (lines : List (List ℕ)) (line : List ℕ) → AreKept size count links lines → IsSilent line → AreKept size count links (lines ++ line ∷ [])
+pub KeepsLinesBut-silent : (size : Option ProblemSize) (count : ℕ) (links : List Link) (lines : List (List ℕ)) (line : List ℕ)
+    → AreKept size count links lines → IsSilent line → AreKept size count links (lines ++ line ∷ [])
 KeepsLinesBut-silent None count links lines line (say, zero_count, none) silent = (Say-silent lines line [] say silent, zero_count, none)
 KeepsLinesBut-silent (Some size) count links lines line (arcs, lawful, counted, are) silent =
     (arcs, AreLawfulLines-silent lines line size.vertices size.arcs arcs lawful silent, counted, are)
 
-pub KeepsLinesBut-problem : (size : Option ProblemSize) (new : ProblemSize) (count : ℕ) (links : List Link) (lines : List (List ℕ)) (line : List ℕ) → AreKept size count links lines → Judges (verdict.Begins new) size count lines line
+pub KeepsLinesBut-problem : (size : Option ProblemSize) (new : ProblemSize) (count : ℕ) (links : List Link) (lines : List (List ℕ)) (line : List ℕ)
+    → AreKept size count links lines → Judges (verdict.Begins new) size count lines line
     → AreKept (Some new) count links (lines ++ line ∷ [])
 KeepsLinesBut-problem None new count links lines line (say, zero_count, none) (is, says, vertices, arcs) =
     ([], AreLawfulLines-problem lines line new.vertices new.arcs say says vertices arcs, sym zero_count, ap (map key_of) none)

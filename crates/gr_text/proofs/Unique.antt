@@ -36,7 +36,8 @@ stops_at_blank (b ∷ after) begins = λ other. other begins
 
 blanks_hold_no_field : (line blanks field after : List ℕ) → AllByRecursion IsBlank line → line ≡ blanks ++ field ++ after → field ≢ [] → AllByRecursion IsFieldByte field → ⊥
 blanks_hold_no_field line blanks [] after all e some fs = some refl
-blanks_hold_no_field line blanks (f ∷ field) after all e some fs = fs.0 (All-parts IsBlank blanks (f ∷ field) (All-parts IsBlank (blanks ++ f ∷ field) after (subst (AllByRecursion IsBlank) e all)).0).1.0
+blanks_hold_no_field line blanks (f ∷ field) after all e some fs =
+    fs.0 (All-parts IsBlank blanks (f ∷ field) (All-parts IsBlank (blanks ++ f ∷ field) after (subst (AllByRecursion IsBlank) e all)).0).1.0
 
 pub AreFields-unique : (line : List ℕ) (fs gs : List (List ℕ)) → AreFields line fs → AreFields line gs → fs ≡ gs
 AreFields-unique line [] [] a b = refl

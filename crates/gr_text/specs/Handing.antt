@@ -1,6 +1,6 @@
 -- How the bytes and lines of a text are handed to a sink, part by part.
 use Rattle.std.specs.Prelude.{◌≡◌, ℕ, ◌+◌, ◌*◌, ◌<◌, ◌≤◌, List, [], ◌∷◌, ◌++◌, length, take, drop, Result, IsOk, IfOk, IfErr, OnOk}
-use Rattle.std.specs.List.{flat_map}
+use Rattle.std.specs.List.{flat_map, AllByRecursion}
 use Rattle.byte_streams.specs.Streams.{SinkState, Took, HadNoSetback}
 use Rattle.links.specs.declared.links.Link.{Link}
 use Rattle.gr_text.specs.ForestText.{link_line}
@@ -53,3 +53,8 @@ pub record IsPart (links : List Link) (bytes : ℕ) (room : List ℕ) : Type 0 w
 abbrev pub text_of_parts : List ℕ → List ℕ → List ℕ
 text_of_parts [] room = []
 text_of_parts (bytes ∷ others) room = take bytes room ++ text_of_parts others (drop PART_ROOM room)
+
+-- each part is no longer than its room, and their text is the lines of these links
+abbrev pub AreSpelledParts : List Link → List ℕ → List ℕ → Type 0
+AreSpelledParts links bytes room =
+    AllByRecursion (λ part. part ≤ PART_ROOM) bytes × (text_of_parts bytes room ≡ flat_map link_line links)

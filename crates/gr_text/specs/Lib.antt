@@ -17,3 +17,4 @@ pub mod Kept
 pub mod Written
 pub mod Handing
 pub mod Laws
+pub mod Following

@@ -1,10 +1,14 @@
 -- The lines of a text.
-use Rattle.std.specs.Prelude.{◌≡◌, ◌≢◌, ℕ, List, [], ◌∷◌, ◌++◌}
+use Rattle.std.specs.Prelude.{◌≡◌, ◌≢◌, ℕ, ◌+◌, ◌==◌, List, [], ◌∷◌, ◌++◌, count_by}
 use Rattle.std.specs.List.{AllByRecursion, flat_map}
 
 -- the byte that ends a line
 abbrev pub line_feed : ℕ
 line_feed = 10
+
+-- the number of the line that the byte after a text belongs to
+abbrev pub line_after : List ℕ → ℕ
+line_after text = 1 + count_by (λ b. b == line_feed) text
 
 -- the bytes of a line
 abbrev pub IsLine : List ℕ → Type 0

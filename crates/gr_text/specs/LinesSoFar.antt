@@ -5,14 +5,19 @@ use Rattle.links.specs.Arc.{Arc}
 use Rattle.links.specs.Link.{AreLinksOf, EndsUpTo}
 use Rattle.links.specs.declared.links.Link.{Link}
 use Rattle.gr_text.specs.Lines.{EndsLines}
+use Rattle.gr_text.specs.PartialLine.{IsWhole}
 use Rattle.gr_text.specs.Statement.{Problem, ArcLine, IsSilent, Says, Say}
 use Rattle.gr_text.specs.Graph.{GraphValue, with_links, IsArcOf, AreLawfulLines}
-use Rattle.gr_text.specs.Fault.{IsFaultAfter, Lacks}
+use Rattle.gr_text.specs.Fault.{IsFaultAfter, IsWrongArc, Lacks}
 use Rattle.gr_text.specs.declared.faults.ReadFault.{ReadFault}
 use Rattle.gr_text.specs.declared.faults.ReadFault.TheVariants as fault
 use Rattle.gr_text.specs.declared.sizes.ProblemSize.{ProblemSize}
 use Rattle.gr_text.specs.declared.verdicts.Verdict.{Verdict}
 use Rattle.gr_text.specs.declared.verdicts.Verdict.TheVariants as verdict
+use Rattle.gr_text.specs.Word.{AreKeptOf}
+use Rattle.gr_text.specs.declared.faults.GrKind.{GrKind}
+use Rattle.gr_text.specs.declared.words.LineFields.{LineFields}
+use Rattle.gr_text.specs.declared.words.Signed.{Signed}
 
 -- the lines state this problem, if one, and as many arcs
 abbrev pub AreTallied : Option ProblemSize → ℕ → List (List ℕ) → Type 0
@@ -40,6 +45,12 @@ Judges (verdict.Adds link) None count lines line = ⊥
 Judges (verdict.Adds link) (Some size) count lines line =
     (arc : Arc) × Says line (ArcLine arc) × IsArcOf size.vertices arc × (count < size.arcs) × AreLinksOf (arc ∷ []) (option_to_list link)
 Judges (verdict.Faulty kind) size count lines line = IsFaultAfter lines line kind
+
+-- of an arc of which these numbers are kept, this is the link, or what is wrong with it in a graph of n vertices
+abbrev pub JudgesArc : Result (Option Link) GrKind → ℕ → ℕ → ℕ → Signed → Type 0
+JudgesArc result n u v w =
+    (arc : Arc) → AreKeptOf u v w arc
+    → MatchResult result (λ link. IsArcOf n arc × AreLinksOf (arc ∷ []) (option_to_list link)) (λ kind. IsWrongArc n arc kind)
 
 -- the same of each such line, after any lines that state this problem, if one, and as many arcs
 abbrev pub JudgesEach : Verdict → Option ProblemSize → ℕ → (List ℕ → Type 0) → Type 0
@@ -88,6 +99,12 @@ IsLineFault fault.Memory number lines line = Unit {0}
 abbrev pub IsTaken : {X : Type 0} → Result X ReadFault → Swap → LinesSoFarValue → ℕ → List (List ℕ) → List ℕ → Type 0
 IsTaken result swap kept number lines line = MatchResult result (λ _. KeepsLinesBut swap kept (lines ++ line ∷ [])) (λ e. IsLineFault e number lines line)
 
+-- a line of this number, of which this is kept, was taken behind any lines of which `old` is kept, or has this fault
+abbrev pub TakesLine : {X : Type 0} → Result X ReadFault → ℕ → LineFields → LinesSoFarValue → LinesSoFarValue → Type 0
+TakesLine result number line old new =
+    (swap : Swap) (lines : List (List ℕ)) (bytes : List ℕ) → KeepsLinesBut swap old lines → IsWhole line bytes
+    → IsTaken result swap new number lines bytes
+
 -- one more arc is kept, of this link, or a loop
 abbrev pub AddsLink : LinesSoFarValue → LinesSoFarValue → Option Link → Type 0
 AddsLink old new link = (new.size ≡ old.size) × (new.count ≡ old.count + 1) × (new.links ≡ old.links ++ option_to_list link)
@@ -114,3 +131,9 @@ IsLack (fault.Gr f) number lines = (f.line ≡ number) × Lacks lines f.kind
 IsLack (fault.Source number') number lines = ⊥
 IsLack fault.TooLong number lines = ⊥
 IsLack fault.Memory number lines = ⊥
+
+-- any whole lines of which this is kept have this graph, or this lacks behind them, in the line of this number
+abbrev pub GivesGraph : Result GraphValue ReadFault → ℕ → LinesSoFarValue → Type 0
+GivesGraph result number kept =
+    (swap : Swap) (lines : List (List ℕ)) → KeepsLinesBut swap kept lines
+    → MatchResult result (λ graph. IsGraphOfLinesBut swap lines graph) (λ e. IsLack e number lines)

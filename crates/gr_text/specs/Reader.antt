@@ -36,6 +36,12 @@ StopsAt (fault.Source number) text = ⊥
 StopsAt fault.TooLong text = ⊥
 StopsAt fault.Memory text = Unit {0}
 
+-- a piece was read behind any text that the reader had read, or the text isn't read on behind it
+abbrev pub ReadsPiece : {X : Type 0} → Result X ReadFault → List ℕ → ReaderValue → ReaderValue → Type 0
+ReadsPiece result piece old new =
+    (swap : Swap) (text : List ℕ) → Stands swap old text
+    → MatchResult result (λ _. Stands swap new (text ++ piece)) (λ e. StopsAt e (text ++ piece))
+
 -- why a text isn't read on, at most `limit` bytes of which may be read: the first faulty line among those that a line
 -- feed ends, or else that it is too long; or memory
 abbrev pub StopsBy : ReadFault → ℕ → List ℕ → Type 0

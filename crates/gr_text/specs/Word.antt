@@ -90,3 +90,9 @@ LineMeans (line.ArcEnds u v) fields = (f g : List ℕ) × (fields ≡ codes "a" 
 LineMeans (line.ArcWhole u v w) fields =
     (f g h : List ℕ) × (fields ≡ codes "a" ∷ f ∷ g ∷ h ∷ []) × KeepsNumber u f × KeepsNumber v g × KeepsSigned w h
 LineMeans line.BadArc fields = NeverSay (codes "a") fields IsArcLine
+
+-- behind any whole fields of which `old` is kept, and one more, of which this is kept, `new` is kept of all
+abbrev pub AddsField : LineFields → Word → LineFields → Type 0
+AddsField old kept new =
+    (fields : List (List ℕ)) (field : List ℕ) → field ≢ [] → LineMeans old fields → WordMeans kept field
+    → LineMeans new (fields ++ field ∷ [])

@@ -1,7 +1,6 @@
 ghost use Rattle.std.specs.Prelude.{◌≡◌, ◌≤◌, ◌+◌, ℕ, List, [], length, OnOk, MatchOption, MatchResult};
 ghost use Rattle.gr_text.specs.Kept.{BeginsSo, KeepsOn};
-ghost use Rattle.gr_text.specs.PartialLine.{IsWhole};
-ghost use Rattle.gr_text.specs.LinesSoFar.{AddsLines, AddsLink, FitsAfter, KeepsLinesBut, IsGraphOfLinesBut, IsLack, IsTaken, Swap, no_swap};
+ghost use Rattle.gr_text.specs.LinesSoFar.{AddsLines, AddsLink, FitsAfter, GivesGraph, KeepsLinesBut, TakesLine, no_swap};
 
 use crate::faults::{GrFault, GrKind, ReadFault};
 use crate::graphs::Graph;
@@ -52,8 +51,7 @@ impl<A: Allocator> LinesSoFar<A> {
     /// link finds none; nothing is read behind it.
     #[inline(always)]
     pub(crate) fn take_line(&mut self, number: u64, line: LineFields) -> Result<(), ReadFault>
-        ensures { (swap : Swap) (lines : List (List ℕ)) (bytes : List ℕ) → KeepsLinesBut swap self.old lines → IsWhole line bytes
-            → IsTaken result swap self.new number lines bytes }
+        ensures { TakesLine result number line self.old self.new }
     {
         match judge(self.size, self.count, line) {
             Verdict::Silent => Ok(()),
@@ -68,8 +66,7 @@ impl<A: Allocator> LinesSoFar<A> {
 
     /// The graph of the lines so far, where nothing lacks. `number` is that of the line after them.
     pub(crate) fn graph(self, number: u64) -> Result<Graph<A>, ReadFault>
-        ensures { (swap : Swap) (lines : List (List ℕ)) → KeepsLinesBut swap self lines
-            → MatchResult result (λ graph. IsGraphOfLinesBut swap lines graph) (λ e. IsLack e number lines) }
+        ensures { GivesGraph result number self }
     {
         match self.size {
             None => Err(ReadFault::Gr(GrFault {

@@ -3,7 +3,7 @@ ghost use Rattle.std.specs.Prelude.{◌≡◌, ◌*◌, ◌≤◌, ◌<◌, IfOk
 ghost use Rattle.std.specs.List.{flat_map, AllByRecursion};
 ghost use denote.Param.Send.{IsSync};
 ghost use Rattle.gr_text.specs.ForestText.{forest_text, link_line};
-ghost use Rattle.gr_text.specs.Handing.{HandsOut, IsPart, text_of_parts};
+ghost use Rattle.gr_text.specs.Handing.{AreSpelledParts, HandsOut, IsPart, text_of_parts};
 ghost use Rattle.gr_text.specs.Written.{WritesText};
 ghost use Rattle.gr_text.specs.declared.parallel_writer.TheConstants.{PART_ROOM};
 
@@ -53,7 +53,7 @@ fn spell_parts<R: Threads + Sync>(rt: &R, links: &[Link], room: &mut [u8], bytes
     { spell_part(first, one, of_one) };
     let mut spell_others = ||
         requires { IsSync R.row × (length later.now ≤ length of_others.now * PART_LINKS) × (length others.now ≡ length of_others.now * PART_ROOM) }
-        ensures { AllByRecursion (λ part. part ≤ PART_ROOM) of_others.exit.now × (text_of_parts of_others.exit.now others.exit.now ≡ flat_map link_line later.entry.now) }
+        ensures { AreSpelledParts later.entry.now of_others.exit.now others.exit.now }
     { spell_parts(rt, later, others, of_others) };
     join_mut(rt, &mut spell_one, &mut spell_others);
 }

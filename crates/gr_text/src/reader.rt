@@ -1,8 +1,8 @@
-ghost use Rattle.std.specs.Prelude.{◌≡◌, ℕ, ◌+◌, ◌≤◌, ◌==◌, List, [], ◌++◌, None, Some, IfErr, IfSome, IsTrue, OnOk, MatchResult, Err, ◌⊎◌, count_by, length};
-ghost use Rattle.gr_text.specs.Lines.{line_feed};
-ghost use Rattle.gr_text.specs.Kept.{HasKept};
+ghost use Rattle.std.specs.Prelude.{◌≡◌, ℕ, ◌+◌, ◌≤◌, List, [], ◌++◌, None, Some, IfErr, IfSome, IsTrue, OnOk, MatchResult, Err, ◌⊎◌, length};
+ghost use Rattle.gr_text.specs.Lines.{line_after};
+ghost use Rattle.gr_text.specs.Following.{IsKeeping, KeepsText};
 ghost use Rattle.gr_text.specs.LinesSoFar.{Swap};
-ghost use Rattle.gr_text.specs.Reader.{HasRead, HasReadBut, IsRead, IsReadBut, Stands, StopsAt, TakesPiece};
+ghost use Rattle.gr_text.specs.Reader.{HasRead, HasReadBut, IsRead, IsReadBut, ReadsPiece, TakesPiece};
 
 use crate::faults::ReadFault;
 use crate::graphs::Graph;
@@ -104,9 +104,8 @@ impl<A: Allocator> GrReader<A> {
     /// The number of the line that the next byte belongs to: 1 plus the number of line feeds among the
     /// bytes fed, until a fault. In constant time.
     pub fn line(&self) -> u64
-        ensures line { (text : List ℕ) → HasRead self.now text → self.now.fault ≡ None → result ≡ 1 + count_by (λ b. b == line_feed) text }
-        ensures line_but { (swap : Swap) (text : List ℕ) → HasReadBut swap self.now text → self.now.fault ≡ None
-            → result ≡ 1 + count_by (λ b. b == line_feed) text }
+        ensures line { (text : List ℕ) → HasRead self.now text → self.now.fault ≡ None → result ≡ line_after text }
+        ensures line_but { (swap : Swap) (text : List ℕ) → HasReadBut swap self.now text → self.now.fault ≡ None → result ≡ line_after text }
     {
         self.number
     }
@@ -166,14 +165,11 @@ impl<A: Allocator> GrReader<A> {
 
     /// Has a keeper look at the links, once the problem line has come. Where it fails, the reader isn't to be read on.
     pub(crate) fn keep<K: Keep<A>>(&mut self, keeper: &mut K) -> Result<(), AllocError>
-        requires ready { K.ready }
-        requires clean { self.old.fault ≡ None }
-        requires kept { (text : List ℕ) × HasKept K.drops (K.knows keeper.old) (K.dropped keeper.old) self.old text }
+        requires keeps { IsKeeping K.Keep keeper.old self.old }
         ensures limit { self.new.limit ≡ self.old.limit }
         ensures fed { self.new.fed ≡ self.old.fed }
         ensures fault { self.new.fault ≡ self.old.fault }
-        ensures kept { OnOk result ((text : List ℕ) → HasKept K.drops (K.knows keeper.old) (K.dropped keeper.old) self.old text
-            → HasKept K.drops (K.knows keeper.new) (K.dropped keeper.new) self.new text) }
+        ensures kept { OnOk result (KeepsText K.Keep keeper.old keeper.new self.old self.new) }
     {
         self.so_far.keep(keeper)
     }
@@ -186,8 +182,7 @@ impl<A: Allocator> GrReader<A> {
         ensures limit { self.new.limit ≡ self.old.limit }
         ensures fed { self.new.fed ≡ self.old.fed + length piece.now }
         ensures fault { self.new.fault ≡ self.old.fault }
-        ensures judged { (swap : Swap) (text : List ℕ) → Stands swap self.old text → MatchResult result
-            (λ _. Stands swap self.new (text ++ piece.now)) (λ e. StopsAt e (text ++ piece.now)) }
+        ensures judged { ReadsPiece result piece.now self.old self.new }
     {
         self.fed += piece.len() as u64;
         let mut rest = piece;

@@ -1,6 +1,6 @@
-ghost use Rattle.std.specs.Prelude.{◌≡◌, ◌≤◌, ◌<◌, ℕ, List, [], false, None, cond, length, IfOk, OnOk, MatchResult, Err};
-ghost use Rattle.byte_streams.specs.Streams.{SourceState};
-ghost use Rattle.gr_text.specs.Kept.{HasFollowed, HasKept, IsKeptReadOf};
+ghost use Rattle.std.specs.Prelude.{◌≡◌, ◌≤◌, ◌<◌, false, length, IfOk, OnOk};
+ghost use Rattle.gr_text.specs.Following.{FollowsOn, IsKeeping, IsNewKeeper, ReadsRest};
+ghost use Rattle.gr_text.specs.Kept.{IsKeptReadOf};
 ghost use Rattle.gr_text.specs.Sourced.{IsReadOf};
 
 use crate::faults::ReadFault;
@@ -62,10 +62,8 @@ pub fn read_graph_kept<K: Keep<A>, S: Source, A: Allocator>(
     alloc: A,
     source: &mut S,
 ) -> Result<Graph<A>, ReadFault>
-    requires ready { K.ready }
+    requires keeper { IsNewKeeper K.Keep keeper.old }
     requires can { S.can_read source.old }
-    requires none { K.dropped keeper.old ≡ 0 }
-    requires nothing { K.knows keeper.old [] }
     ensures outcome { IsKeptReadOf K.drops MAX_BYTES (K.dropped keeper.new) result (S.state source.old) (S.state source.new) }
 {
     read_kept_upto(keeper, alloc, source, MAX_BYTES)
@@ -78,10 +76,8 @@ fn read_kept_upto<K: Keep<A>, S: Source, A: Allocator>(
     source: &mut S,
     limit: u64,
 ) -> Result<Graph<A>, ReadFault>
-    requires ready { K.ready }
+    requires keeper { IsNewKeeper K.Keep keeper.old }
     requires can { S.can_read source.old }
-    requires none { K.dropped keeper.old ≡ 0 }
-    requires nothing { K.knows keeper.old [] }
     requires limit { limit ≤ MAX_BYTES }
     ensures outcome { IsKeptReadOf K.drops limit (K.dropped keeper.new) result (S.state source.old) (S.state source.new) }
 {
@@ -122,10 +118,8 @@ pub fn read_graph_kept_par<R: Threads + Sync, K: Keep<A>, S: Source, A: Allocato
     alloc: A,
     source: &mut S,
 ) -> Result<Graph<A>, ReadFault>
-    requires ready { K.ready }
+    requires keeper { IsNewKeeper K.Keep keeper.old }
     requires can { S.can_read source.old }
-    requires none { K.dropped keeper.old ≡ 0 }
-    requires nothing { K.knows keeper.old [] }
     ensures outcome { IsKeptReadOf K.drops MAX_BYTES (K.dropped keeper.new) result (S.state source.old) (S.state source.new) }
 {
     let mut reader = GrReader::new(alloc, MAX_BYTES);
@@ -170,14 +164,11 @@ fn read_rest<F: Feed<A>, K: Keep<A>, S: Source, A: Allocator>(
     buffer: &mut [u8],
 ) -> Result<Graph<A>, ReadFault>
     requires ready { F.ready }
-    requires keeps { K.ready }
     requires can { S.can_read source.old }
     requires room { 0 < length buffer.old }
     requires limit { reader.limit ≤ MAX_BYTES }
-    requires clean { reader.fault ≡ None }
-    requires kept { (text : List ℕ) × HasKept K.drops (K.knows keeper.old) (K.dropped keeper.old) reader text }
-    ensures { (before : SourceState) → HasFollowed K.drops (K.knows keeper.old) (K.dropped keeper.old) 0 reader before (S.state source.old)
-        → IsKeptReadOf K.drops reader.limit (K.dropped keeper.new) result before (S.state source.new) }
+    requires keeps { IsKeeping K.Keep keeper.old reader }
+    ensures { ReadsRest K.Keep result keeper.old reader (S.state source.old) keeper.new (S.state source.new) }
 {
     match read_pieces(feeder, keeper, &mut reader, source, buffer, MAX_BYTES + 1) {
         Ok(_ended) => reader.finish(),
@@ -196,20 +187,15 @@ fn read_pieces<F: Feed<A>, K: Keep<A>, S: Source, A: Allocator>(
     enough: u64,
 ) -> Result<bool, ReadFault>
     requires ready { F.ready }
-    requires keeps { K.ready }
     requires can { S.can_read source.old }
     requires room { 0 < length buffer.old }
     requires limit { reader.old.limit ≤ MAX_BYTES }
-    requires clean { reader.old.fault ≡ None }
-    requires kept { (text : List ℕ) × HasKept K.drops (K.knows keeper.old) (K.dropped keeper.old) reader.old text }
+    requires keeps { IsKeeping K.Keep keeper.old reader.old }
     ensures limit { reader.new.limit ≡ reader.old.limit }
-    ensures clean { OnOk result (reader.new.fault ≡ None) }
     ensures again { IfOk result (λ ended. ended ≡ false → S.can_read source.new) }
     ensures enough { IfOk result (λ ended. ended ≡ false → enough ≤ reader.new.limit) }
-    ensures kept { OnOk result ((text : List ℕ) × HasKept K.drops (K.knows keeper.new) (K.dropped keeper.new) reader.new text) }
-    ensures followed { (before : SourceState) → HasFollowed K.drops (K.knows keeper.old) (K.dropped keeper.old) 0 reader.old before (S.state source.old) → MatchResult result
-        (λ ended. HasFollowed K.drops (K.knows keeper.new) (K.dropped keeper.new) (cond ended 1 0) reader.new before (S.state source.new))
-        (λ why. IsReadOf reader.old.limit (Err why) before (S.state source.new)) }
+    ensures keeps { OnOk result (IsKeeping K.Keep keeper.new reader.new) }
+    ensures followed { FollowsOn K.Keep result keeper.old reader.old (S.state source.old) keeper.new reader.new (S.state source.new) }
 {
     let mut read = 0;
     while read < enough {

@@ -3,7 +3,7 @@ ghost use Rattle.links.specs.Arc.{Arc};
 ghost use Rattle.links.specs.Link.{AreLinksOf};
 ghost use Rattle.gr_text.specs.Word.{AreKeptOf, IsCappedSigned, KeepsArc, KeepsProblem};
 ghost use Rattle.gr_text.specs.PartialLine.{IsWhole};
-ghost use Rattle.gr_text.specs.LinesSoFar.{FitsAfter, JudgesEach};
+ghost use Rattle.gr_text.specs.LinesSoFar.{FitsAfter, JudgesArc, JudgesEach};
 ghost use Rattle.gr_text.specs.Sort.{IsOfSort, NoArc, NoProblem};
 ghost use Rattle.gr_text.specs.Graph.{IsArcOf, IsWeight};
 ghost use Rattle.gr_text.specs.Fault.{IsWrongArc};
@@ -95,8 +95,7 @@ fn judge_arc(size: Option<ProblemSize>, count: u32, u: u64, v: u64, w: Signed) -
 #[inline(always)]
 pub(crate) fn link_of(size: ProblemSize, u: u64, v: u64, w: Signed) -> Result<Option<Link>, GrKind>
     ensures fits { IfOk result (λ link. IfSome link (λ l. l.high ≤ size.vertices)) }
-    ensures judged { (arc : Arc) → AreKeptOf u v w arc → MatchResult result
-        (λ link. IsArcOf size.vertices arc × AreLinksOf (arc ∷ []) (option_to_list link)) (λ kind. IsWrongArc size.vertices arc kind) }
+    ensures judged { JudgesArc result size.vertices u v w }
 {
     let most = u64::from(size.vertices);
     if u < 1 || u > most || v < 1 || v > most {

@@ -1,6 +1,6 @@
 ghost use Rattle.std.specs.Prelude.{◌≡◌, ◌≢◌, ◌↔◌, ℕ, ℤ, ◌+◌, ◌*◌, ◌-◌, List, [], ◌∷◌, ◌++◌, IsTrue, MatchOption, codes};
 ghost use Rattle.gr_text.specs.Fields.{IsFieldByte, IsDigit, Writes, WritesSigned};
-ghost use Rattle.gr_text.specs.Word.{WordMeans, LineMeans, IsCapped, KeepsNumber, KeepsSigned};
+ghost use Rattle.gr_text.specs.Word.{AddsField, WordMeans, LineMeans, IsCapped, KeepsNumber, KeepsSigned};
 
 /// What is kept of a field while its bytes come, in constant memory.
 ///
@@ -199,8 +199,7 @@ impl LineFields {
 
     /// The line with one more whole field. In constant time.
     pub(crate) fn then(self, word: Word) -> LineFields
-        ensures { (fields : List (List ℕ)) (field : List ℕ) → field ≢ [] → LineMeans self fields → WordMeans word field
-            → LineMeans result (fields ++ field ∷ []) }
+        ensures { AddsField self word result }
     {
         match self {
             LineFields::Nothing => LineFields::begun(word),

@@ -12,7 +12,9 @@ module _ (candidates left rest : List Open) {last : ℕ} (numbers : List ℕ) {f
   stay_open one two d links labels are =
       subst (λ (now : List ℕ). AreOpenOf now d links rest) (sym (renamed_twice numbers further labels all'.none)) (two d links (renamed numbers labels) (one d links labels are))
 
-  pub lead_on : {count mid : ℕ} (marks between after : List Bool) → length between ≡ length marks → length numbers ≡ count + 1 → AreAllNumbers mid numbers → StayOpen candidates numbers left → LeadsOn count candidates marks numbers left between → LeadsOn mid left between further rest after → LeadsOn count candidates marks (renamed further numbers) rest after
+  pub lead_on : {count mid : ℕ} (marks between after : List Bool) → length between ≡ length marks → length numbers ≡ count + 1 → AreAllNumbers mid numbers → StayOpen candidates numbers left
+      → LeadsOn count candidates marks numbers left between → LeadsOn mid left between further rest after → LeadsOn count candidates marks (renamed further numbers) rest after
   lead_on {count} {mid} marks between after as_many len all stay one two d whole links later before labels fits up_to are stage =
       subst (λ (now : List ℕ). IsStage whole (links_of d links rest) later now (before ++ marked links after)) (sym (renamed_twice numbers further labels all'.none))
-      (two d whole links later before (renamed numbers labels) (fits ∙ sym as_many) (renamed_labels len all up_to) (stay d links labels are) (one d whole links later before labels fits up_to are stage))
+      (two d whole links later before (renamed numbers labels) (fits ∙ sym as_many) (renamed_labels len all up_to)
+      (stay d links labels are) (one d whole links later before labels fits up_to are stage))

@@ -22,11 +22,14 @@ counted a b n n' is = search (arith, cases_eq, nat_tests, closed, apart)
 
 -- What passes a test is written behind what was kept before it, and counted; what doesn't pass is written there too, and
 -- not counted.
-pub written_behind : {X : Type 0} (p : X → Bool) (before start now : List X) {i kept kept' : ℕ} (x : X) → i < length start → x ≡ get_or start i x → kept < length now → take kept now ≡ before ++ filter p (take i start) → ((kept' ≡ kept) × (p x ≡ false)) ⊎ ((kept' ≡ kept + 1) × (p x ≡ true)) → take kept' (set now kept x) ≡ before ++ filter p (take (i + 1) start)
+pub written_behind : {X : Type 0} (p : X → Bool) (before start now : List X) {i kept kept' : ℕ} (x : X) → i < length start → x ≡ get_or start i x → kept < length now
+    → take kept now ≡ before ++ filter p (take i start) → ((kept' ≡ kept) × (p x ≡ false)) ⊎ ((kept' ≡ kept + 1) × (p x ≡ true)) → take kept' (set now kept x) ≡ before ++ filter p (take (i + 1) start)
 written_behind {X} p before start now {i} {kept} {kept'} x i_in is kept_in so_far counted =
     elim counted [
-      | inl (same, fails) ↦ ap (λ n. take n (set now kept x)) same ∙ take-set now kept x ∙ so_far ∙ ap (λ (xs : List X). before ++ xs) (sym (one_more ∙ ap (λ b. filter p (take i start) ++ cond b (x ∷ []) []) fails ∙ append-nil (filter p (take i start))))
-      | inr (more, passes) ↦ ap (λ n. take n (set now kept x)) more ∙ take_more_set now kept x kept_in ∙ ap (λ xs. xs ++ x ∷ []) so_far ∙ append_assoc before (filter p (take i start)) (x ∷ []) ∙ ap (λ (xs : List X). before ++ xs) (sym (one_more ∙ ap (λ b. filter p (take i start) ++ cond b (x ∷ []) []) passes))
+      | inl (same, fails) ↦ ap (λ n. take n (set now kept x)) same ∙ take-set now kept x ∙ so_far ∙ ap (λ (xs : List X). before ++ xs)
+          (sym (one_more ∙ ap (λ b. filter p (take i start) ++ cond b (x ∷ []) []) fails ∙ append-nil (filter p (take i start))))
+      | inr (more, passes) ↦ ap (λ n. take n (set now kept x)) more ∙ take_more_set now kept x kept_in ∙ ap (λ xs. xs ++ x ∷ []) so_far ∙ append_assoc before
+          (filter p (take i start)) (x ∷ []) ∙ ap (λ (xs : List X). before ++ xs) (sym (one_more ∙ ap (λ b. filter p (take i start) ++ cond b (x ∷ []) []) passes))
     ]
   where
     one_more : filter p (take (i + 1) start) ≡ filter p (take i start) ++ filter p (x ∷ [])
@@ -37,9 +40,11 @@ abbrev pub kept_of : List ℕ → List Open → List Open
 kept_of numbers seen = filter is_open (map (renumbered numbers) seen)
 
 -- numbers that were given stay, so what was kept stays
-pub kept_same : (numbers numbers' : List ℕ) (seen : List Open) → HaveNumbers numbers seen → ((c : ℕ) → 0 < get_or numbers c 0 → get_or numbers' c 0 ≡ get_or numbers c 0) → kept_of numbers' seen ≡ kept_of numbers seen
+pub kept_same : (numbers numbers' : List ℕ) (seen : List Open) → HaveNumbers numbers seen
+    → ((c : ℕ) → 0 < get_or numbers c 0 → get_or numbers' c 0 ≡ get_or numbers c 0) → kept_of numbers' seen ≡ kept_of numbers seen
 kept_same numbers numbers' seen given stays =
-    ap (λ (xs : List Open). filter is_open xs) (same_lists (map (renumbered numbers') seen) (map (renumbered numbers) seen) (length-map seen (renumbered numbers') ∙ sym (length-map seen (renumbered numbers))) (λ k o lt.
+    ap (λ (xs : List Open). filter is_open xs)
+    (same_lists (map (renumbered numbers') seen) (map (renumbered numbers) seen) (length-map seen (renumbered numbers') ∙ sym (length-map seen (renumbered numbers))) (λ k o lt.
     let lt' : k < length seen = subst (λ n. k < n) (length-map seen (renumbered numbers')) lt in
     get_or-map (renumbered numbers') seen k o o lt' ∙ one (get_or seen k o) (given k o lt') ∙ sym (get_or-map (renumbered numbers) seen k o o lt')))
   where
@@ -63,10 +68,14 @@ module _ (numbers : List ℕ) (start : List Open) {i : ℕ} (x : Open) (i_in : i
   kept_open apart = one_more ∙ ap (λ b. kept_of numbers (take i start) ++ cond b (renumbered numbers x ∷ []) []) apart
 
   -- it is written behind those kept, and counted where it is kept
-  pub kept_passed : {kept kept' : ℕ} (now : List Open) → kept < length now → take kept now ≡ kept_of numbers (take i start) → ((kept' ≡ kept) × (is_open (renumbered numbers x) ≡ false)) ⊎ ((kept' ≡ kept + 1) × (is_open (renumbered numbers x) ≡ true)) → take kept' (set now kept (renumbered numbers x)) ≡ kept_of numbers (take (i + 1) start)
+  pub kept_passed : {kept kept' : ℕ} (now : List Open) → kept < length now → take kept now ≡ kept_of numbers (take i start)
+      → ((kept' ≡ kept) × (is_open (renumbered numbers x) ≡ false)) ⊎ ((kept' ≡ kept + 1) × (is_open (renumbered numbers x) ≡ true)) → take kept'
+      (set now kept (renumbered numbers x)) ≡ kept_of numbers (take (i + 1) start)
   kept_passed a1 a2 a3 a4 = search (arith, set, take-set, kept_closed, take_more_set, kept_open, apart)
 
 -- one more link whose labels have numbers
-pub given_more : (numbers : List ℕ) (start : List Open) {i : ℕ} (x : Open) → i < length start → x ≡ get_or start i x → (0 < get_or numbers x.low 0) × (0 < get_or numbers x.high 0) → HaveNumbers numbers (take i start) → HaveNumbers numbers (take (i + 1) start)
+pub given_more : (numbers : List ℕ) (start : List Open) {i : ℕ} (x : Open) → i < length start → x ≡ get_or start i x
+    → (0 < get_or numbers x.low 0) × (0 < get_or numbers x.high 0) → HaveNumbers numbers (take i start) → HaveNumbers numbers (take (i + 1) start)
 given_more numbers start {i} x i_in is had given =
-    subst (HaveNumbers numbers) (sym (take_more start i x i_in ∙ ap (λ o. take i start ++ o ∷ []) (sym is))) (All-push (λ (o : Open). (0 < get_or numbers o.low 0) × (0 < get_or numbers o.high 0)) (take i start) x given had)
+    subst (HaveNumbers numbers) (sym (take_more start i x i_in ∙ ap (λ o. take i start ++ o ∷ []) (sym is)))
+    (All-push (λ (o : Open). (0 < get_or numbers o.low 0) × (0 < get_or numbers o.high 0)) (take i start) x given had)

@@ -1,5 +1,6 @@
 -- Links that are marked by their places.
-use Rattle.std.proofs.Common.{◌≡◌, zero, suc, ℕ, ◌+◌, ◌<◌, ◌⊎◌, ◌↔◌, Bool, true, false, if◌then◌else◌, List, [], ◌∷◌, ◌++◌, Contains, length, get_or, set, take, replicate, get_or-set_same, get_or-set_other, refl, sym, ap, ◌∙◌, subst, inl, inr, arith}
+use Rattle.std.proofs.Common.{◌≡◌, zero, suc, ℕ, ◌+◌, ◌<◌, ◌⊎◌, ◌↔◌, Bool, true, false, if◌then◌else◌, List, [], ◌∷◌, ◌++◌}
+use Rattle.std.proofs.Common.{Contains, length, get_or, set, take, replicate, get_or-set_same, get_or-set_other, refl, sym, ap, ◌∙◌, subst, inl, inr, arith}
 use Rattle.std.proofs.lemmas.List.{append-nil, get_or_default, take_more_set, take-set}
 use Rattle.std.proofs.lemmas.Bool.{cases_eq}
 use Rattle.std.proofs.lemmas.List.Elements.{Contains-append_left, Contains-append_right, Contains-append_cases, Contains-push, Contains-push_cases}
@@ -68,7 +69,8 @@ module _ (links : List Link) (marks : List Bool) (r : ℕ) (x : Link) (r_in : r 
         ]
       ]
 
-marked_next : (links : List Link) (marks : List Bool) (i : ℕ) (x : Link) → i < length links → i < length marks → x ≡ get_or links i x → marked (take (suc i) links) (take (suc i) marks) ≡ marked (take i links) (take i marks) ++ (if get_or marks i false then x ∷ [] else [])
+marked_next : (links : List Link) (marks : List Bool) (i : ℕ) (x : Link) → i < length links → i < length marks → x ≡ get_or links i x
+    → marked (take (suc i) links) (take (suc i) marks) ≡ marked (take i links) (take i marks) ++ (if get_or marks i false then x ∷ [] else [])
 marked_next [] marks i x i_in i_in' is = absurd (omega (arith, i_in))
 marked_next (m ∷ links) [] i x i_in i_in' is = absurd (omega (arith, i_in'))
 marked_next (m ∷ links) (b ∷ marks) zero x i_in i_in' is = ap (λ (l : Link). if b then l ∷ [] else []) (sym is)
@@ -76,7 +78,8 @@ marked_next (m ∷ links) (true ∷ marks) (suc i) x i_in i_in' is = ap (λ (xs 
 marked_next (m ∷ links) (false ∷ marks) (suc i) x i_in i_in' is = marked_next links marks i x (omega (arith, i_in)) (omega (arith, i_in')) is
 
 -- one more link is written behind those that were marked before it, and counted where it is marked
-pub marked_behind : (links : List Link) (marks : List Bool) (now : List Link) {i kept kept' : ℕ} (x : Link) → i < length links → i < length marks → x ≡ get_or links i x → kept < length now → take kept now ≡ marked (take i links) (take i marks) → kept' ≡ kept + bool_byte (get_or marks i false) → take kept' (set now kept x) ≡ marked (take (i + 1) links) (take (i + 1) marks)
+pub marked_behind : (links : List Link) (marks : List Bool) (now : List Link) {i kept kept' : ℕ} (x : Link) → i < length links → i < length marks → x ≡ get_or links i x → kept < length now
+    → take kept now ≡ marked (take i links) (take i marks) → kept' ≡ kept + bool_byte (get_or marks i false) → take kept' (set now kept x) ≡ marked (take (i + 1) links) (take (i + 1) marks)
 marked_behind links marks now {i} {kept} {kept'} x i_in i_in' is kept_in so_far counts =
     by_mark (get_or marks i false) counts ∙ sym (ap (λ n. marked (take n links) (take n marks)) next ∙ marked_next links marks i x i_in i_in' is)
   where

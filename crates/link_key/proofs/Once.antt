@@ -25,13 +25,17 @@ swapped links a b a_in b_in distinct i j d lt j_in same =
     let j_in' : j < length links = omega (arith, j_in, long) in
     elim (cases_eq i a) [
       | inl i_a ↦ elim (cases_eq j b) [
-        | inl j_b ↦ apart links distinct b a d (λ e. omega (arith, e, i_a, j_b, lt)) b_in a_in (sym at.0 ∙ ap (λ k. get_or (swap links a b) k d) (sym i_a) ∙ same ∙ ap (λ k. get_or (swap links a b) k d) j_b ∙ at.1)
-        | inr j_other ↦ apart links distinct b j d (λ e. j_other (sym e)) b_in j_in' (sym at.0 ∙ ap (λ k. get_or (swap links a b) k d) (sym i_a) ∙ same ∙ at.2 j (λ e. omega (arith, e, i_a, lt)) j_other)
+        | inl j_b ↦ apart links distinct b a d (λ e. omega (arith, e, i_a, j_b, lt)) b_in a_in
+            (sym at.0 ∙ ap (λ k. get_or (swap links a b) k d) (sym i_a) ∙ same ∙ ap (λ k. get_or (swap links a b) k d) j_b ∙ at.1)
+        | inr j_other ↦ apart links distinct b j d (λ e. j_other (sym e)) b_in j_in'
+            (sym at.0 ∙ ap (λ k. get_or (swap links a b) k d) (sym i_a) ∙ same ∙ at.2 j (λ e. omega (arith, e, i_a, lt)) j_other)
       ]
       | inr i_not_a ↦ elim (cases_eq i b) [
         | inl i_b ↦ elim (cases_eq j a) [
-          | inl j_a ↦ apart links distinct a b d (λ e. omega (arith, e, i_b, j_a, lt)) a_in b_in (sym at.1 ∙ ap (λ k. get_or (swap links a b) k d) (sym i_b) ∙ same ∙ ap (λ k. get_or (swap links a b) k d) j_a ∙ at.0)
-          | inr j_other ↦ apart links distinct a j d (λ e. j_other (sym e)) a_in j_in' (sym at.1 ∙ ap (λ k. get_or (swap links a b) k d) (sym i_b) ∙ same ∙ at.2 j j_other (λ e. omega (arith, e, i_b, lt)))
+          | inl j_a ↦ apart links distinct a b d (λ e. omega (arith, e, i_b, j_a, lt)) a_in b_in
+              (sym at.1 ∙ ap (λ k. get_or (swap links a b) k d) (sym i_b) ∙ same ∙ ap (λ k. get_or (swap links a b) k d) j_a ∙ at.0)
+          | inr j_other ↦ apart links distinct a j d (λ e. j_other (sym e)) a_in j_in'
+              (sym at.1 ∙ ap (λ k. get_or (swap links a b) k d) (sym i_b) ∙ same ∙ at.2 j j_other (λ e. omega (arith, e, i_b, lt)))
         ]
         | inr i_not_b ↦ elim (cases_eq j a) [
           | inl j_a ↦ apart links distinct i b d i_not_b i_in' b_in (sym (at.2 i i_not_a i_not_b) ∙ same ∙ ap (λ k. get_or (swap links a b) k d) j_a ∙ at.0)

@@ -74,7 +74,8 @@ module _ {label : ℕ → ℕ} {links : List Link} {candidates : List Open} (are
       subst (IsBetween bound (length links)) (sym (are.each k o some_link lt')) (low.0, low.1, high.0, high.1, lt')
 
   -- where they are the labels of the vertices
-  pub opened_of : {n : ℕ} (labels : List ℕ) → length labels ≡ n + 1 → ((v : ℕ) → v < length labels → get_or labels v 0 ≡ label v) → All (λ (l : Link). l.high ≤ n) links → IsSorted key_cmp links → (d : Link) → AreOpenOf labels d links candidates
+  pub opened_of : {n : ℕ} (labels : List ℕ) → length labels ≡ n + 1 → ((v : ℕ) → v < length labels → get_or labels v 0 ≡ label v)
+      → All (λ (l : Link). l.high ≤ n) links → IsSorted key_cmp links → (d : Link) → AreOpenOf labels d links candidates
   opened_of {n} labels len same ends order d = (sorted, labelled)
     where
       sorted : IsSorted (open_cmp d links) candidates
@@ -117,7 +118,8 @@ module _ (numbers : List ℕ) (candidates : List Open) where
           rw (here, next) (order k o from to')
 
   -- their labels are numbers
-  pub left_between : {bound len last : ℕ} → AreBetween bound len candidates → length numbers ≡ bound → AreAllNumbers last numbers → AreBetween (last + 1) len (filter is_open (map (renumbered numbers) candidates))
+  pub left_between : {bound len last : ℕ} → AreBetween bound len candidates → length numbers ≡ bound
+      → AreAllNumbers last numbers → AreBetween (last + 1) len (filter is_open (map (renumbered numbers) candidates))
   left_between {bound} {len} {last} ends same all =
       All-filter is_open (IsBetween (last + 1) len) (map (renumbered numbers) candidates)
       (All-map (IsBetween (last + 1) len) (renumbered numbers) candidates (λ k o lt. number (get_or candidates k o) (ends k o lt)))
@@ -132,7 +134,8 @@ module _ (numbers : List ℕ) (candidates : List Open) where
     at_ends : (o : Open) → Contains candidates o → IsLabelled labels (link_of d links o) o
     at_ends o o_in = All-contains (λ (p : Open). IsLabelled labels (link_of d links p) p) candidates o labelled o_in
 
-    new_ends : (o : Open) → IsLabelled labels (link_of d links o) o → (get_or (renamed numbers labels) (link_of d links o).low 0 ≡ get_or numbers o.low 0) × (get_or (renamed numbers labels) (link_of d links o).high 0 ≡ get_or numbers o.high 0)
+    new_ends : (o : Open) → IsLabelled labels (link_of d links o) o
+        → (get_or (renamed numbers labels) (link_of d links o).low 0 ≡ get_or numbers o.low 0) × (get_or (renamed numbers labels) (link_of d links o).high 0 ≡ get_or numbers o.high 0)
     new_ends o at = search (arith, renamed_to)
 
     pub left_labelled : AreLabelled (renamed numbers labels) d links (filter is_open (map (renumbered numbers) candidates))
@@ -147,7 +150,8 @@ module _ (numbers : List ℕ) (candidates : List Open) where
         P o = IsLabelled (renamed numbers labels) (link_of d links o) o
 
     -- what is left is apart by the new labels, and no other is
-    pub left_in : (l : Link) → Contains (links_of d links (filter is_open (map (renumbered numbers) candidates))) l → Contains (links_of d links candidates) l × ¬ (HasOneLabel (renamed numbers labels) l)
+    pub left_in : (l : Link) → Contains (links_of d links (filter is_open (map (renumbered numbers) candidates))) l
+        → Contains (links_of d links candidates) l × ¬ (HasOneLabel (renamed numbers labels) l)
     left_in l l_in =
         let found = from_map (link_of d links) (filter is_open (map (renumbered numbers) candidates)) l l_in in
         let o' = found.0 in
@@ -165,7 +169,8 @@ module _ (numbers : List ℕ) (candidates : List Open) where
         differ : (a b : ℕ) → not (a == b) ≡ true → a ≡ b → ⊥
         differ a b passes same = grind (arith, nat_tests)
 
-    pub left_if : (l : Link) → Contains (links_of d links candidates) l → ¬ (HasOneLabel (renamed numbers labels) l) → Contains (links_of d links (filter is_open (map (renumbered numbers) candidates))) l
+    pub left_if : (l : Link) → Contains (links_of d links candidates) l → ¬ (HasOneLabel (renamed numbers labels) l)
+        → Contains (links_of d links (filter is_open (map (renumbered numbers) candidates))) l
     left_if l l_in apart =
         let found = from_map (link_of d links) candidates l l_in in
         let o = found.0 in
@@ -173,7 +178,8 @@ module _ (numbers : List ℕ) (candidates : List Open) where
         let differ : get_or numbers o.low 0 ≡ get_or numbers o.high 0 → ⊥ = λ same. apart (subst (HasOneLabel (renamed numbers labels)) found.2 (is.0 ∙ same ∙ sym is.1)) in
         let passes = test (get_or numbers o.low 0) (get_or numbers o.high 0) differ in
         subst (Contains (links_of d links (filter is_open (map (renumbered numbers) candidates)))) found.2
-        (in_map (link_of d links) (filter is_open (map (renumbered numbers) candidates)) (renumbered numbers o) (kept_if is_open (map (renumbered numbers) candidates) (renumbered numbers o) (in_map (renumbered numbers) candidates o found.1) passes))
+        (in_map (link_of d links) (filter is_open (map (renumbered numbers) candidates)) (renumbered numbers o)
+        (kept_if is_open (map (renumbered numbers) candidates) (renumbered numbers o) (in_map (renumbered numbers) candidates o found.1) passes))
       where
         test : (a b : ℕ) → (a ≡ b → ⊥) → not (a == b) ≡ true
         test a b apart' = grind (arith, nat_tests)
@@ -186,7 +192,8 @@ pub renamed_twice : (numbers further labels : List ℕ) → get_or further 0 0 �
 renamed_twice numbers further [] none = refl
 renamed_twice numbers further (c ∷ labels) none = ap₂ (λ (k : ℕ) (ks : List ℕ). k ∷ ks) (renamed_at numbers further c none) (renamed_twice numbers further labels none)
 
-pub renamed_numbers : {count last : ℕ} {numbers further : List ℕ} → AreAllNumbers count numbers → length further ≡ count + 1 → last ≤ count → AreAllNumbers last further → AreAllNumbers last (renamed further numbers)
+pub renamed_numbers : {count last : ℕ} {numbers further : List ℕ} → AreAllNumbers count numbers
+    → length further ≡ count + 1 → last ≤ count → AreAllNumbers last further → AreAllNumbers last (renamed further numbers)
 renamed_numbers {count} {last} {numbers} {further} are len few all = search (arith, renamed_at, renamed_len)
 
 -- nothing is left

@@ -50,7 +50,8 @@ leaves_apart a1 a2 a3 a4 a5 = search arith
 
 -- The cut property. Were the ends of the least link left joined by smaller links of the list, one of those would leave
 -- the label too; it would be left, and so no smaller.
-pub least_is_forest_link : {links rest later : List Link} {labels : List ℕ} {taken : List Link} → IsStage links rest later labels taken → (c : ℕ) (l : Link) → IsLeastOut labels rest c l → IsForestLink links l
+pub least_is_forest_link : {links rest later : List Link} {labels : List ℕ} {taken : List Link}
+    → IsStage links rest later labels taken → (c : ℕ) (l : Link) → IsLeastOut labels rest c l → IsForestLink links l
 least_is_forest_link {links} {rest} {later} {labels} stage c l is = (stage.among l is.member, around)
   where
     around : Joins (LinksBelow links l) l.low l.high → ⊥
@@ -72,7 +73,8 @@ pub renamed_len : (numbers labels : List ℕ) → length (renamed numbers labels
 renamed_len numbers labels = length-map labels (λ (c : ℕ). get_or numbers c 0)
 
 -- labels that were one are one
-renamed_same : (numbers labels : List ℕ) (u v : ℕ) → u < length labels → v < length labels → get_or labels u 0 ≡ get_or labels v 0 → get_or (renamed numbers labels) u 0 ≡ get_or (renamed numbers labels) v 0
+renamed_same : (numbers labels : List ℕ) (u v : ℕ) → u < length labels → v < length labels
+    → get_or labels u 0 ≡ get_or labels v 0 → get_or (renamed numbers labels) u 0 ≡ get_or (renamed numbers labels) v 0
 renamed_same numbers labels u v u_in v_in same = renamed_to numbers labels u u_in ∙ ap (λ c. get_or numbers c 0) same ∙ sym (renamed_to numbers labels v v_in)
 
 -- each label gets a number, so the new labels are up to the last
@@ -80,7 +82,9 @@ pub renamed_labels : {count last : ℕ} {numbers labels : List ℕ} → length n
 renamed_labels {count} {last} {numbers} {labels} len all are = search (arith, renamed_to, renamed_len)
 
 -- A round: what is left is what its new labels leave apart.
-pub round_stage : {count last : ℕ} {links later rest rest' before after : List Link} {labels numbers filled : List ℕ} → AreLabelsUpTo count labels → AreTouched labels rest rest numbers before after → AreFilled numbers filled → length filled ≡ count + 1 → AreAllNumbers last filled → ((l : Link) → Contains rest' l → Contains rest l × ¬ (HasOneLabel (renamed filled labels) l)) → ((l : Link) → Contains rest l → ¬ (HasOneLabel (renamed filled labels) l) → Contains rest' l) → IsStage links rest later labels before → IsStage links rest' later (renamed filled labels) after
+pub round_stage : {count last : ℕ} {links later rest rest' before after : List Link} {labels numbers filled : List ℕ} → AreLabelsUpTo count labels → AreTouched labels rest rest numbers before after
+    → AreFilled numbers filled → length filled ≡ count + 1 → AreAllNumbers last filled → ((l : Link) → Contains rest' l → Contains rest l × ¬ (HasOneLabel (renamed filled labels) l))
+    → ((l : Link) → Contains rest l → ¬ (HasOneLabel (renamed filled labels) l) → Contains rest' l) → IsStage links rest later labels before → IsStage links rest' later (renamed filled labels) after
 round_stage {count} {last} {links} {later} {rest} {rest'} {before} {after} {labels} {numbers} {filled} up_to touched are len all left_in left_if stage = record {
   ends = λ l l_in. subst (λ k. l.high < k) (sym (renamed_len filled labels)) (stage.ends l l_in);
   joined = λ u v u_in v_in same.
@@ -150,7 +154,8 @@ round_stage {count} {last} {links} {later} {rest} {rest'} {before} {after} {labe
     ]
 
 -- each vertex by itself, nothing taken and all links left
-pub stage_start : (n : ℕ) (links rest : List Link) (labels : List ℕ) → ((l : Link) → Contains rest l ↔ Contains links l) → EndsUpTo n links → length labels ≡ n + 1 → ((v : ℕ) → v < length labels → get_or labels v 0 ≡ v) → IsStage links rest [] labels []
+pub stage_start : (n : ℕ) (links rest : List Link) (labels : List ℕ) → ((l : Link) → Contains rest l ↔ Contains links l)
+    → EndsUpTo n links → length labels ≡ n + 1 → ((v : ℕ) → v < length labels → get_or labels v 0 ≡ v) → IsStage links rest [] labels []
 stage_start n links rest labels same ends len own = record {
   ends = in_table;
   joined = λ u v u_in v_in same. joins_same (Contains []) u v (sym (own u u_in) ∙ same ∙ own v v_in);
@@ -209,7 +214,8 @@ stage_part parts stage = record {
 }
 
 -- then those of the others whose ends aren't joined
-pub stage_rest : {links rest light later : List Link} {labels labels' : List ℕ} {taken taken' : List Link} → AreParts rest light later → IsStage links rest [] labels taken → IsStage links [] later labels' taken' → IsStage links (filter (is_apart labels') later) [] labels' taken'
+pub stage_rest : {links rest light later : List Link} {labels labels' : List ℕ} {taken taken' : List Link} → AreParts rest light later
+    → IsStage links rest [] labels taken → IsStage links [] later labels' taken' → IsStage links (filter (is_apart labels') later) [] labels' taken'
 stage_rest {links} {rest} {light} {later} {labels} {labels'} parts before stage = record {
   ends = stage.ends;
   joined = stage.joined;

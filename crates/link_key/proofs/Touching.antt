@@ -1,5 +1,6 @@
 -- A pass by first touch over links in the order of their keys, link by link.
-use Rattle.std.proofs.Common.{◌≡◌, ℕ, ◌+◌, ◌<◌, ◌≤◌, ◌⊎◌, ◌↔◌, ◌==◌, if◌then◌else◌, Bool, true, false, List, [], ◌∷◌, ◌++◌, Contains, length, get_or, take, is_lt, get_or-take, length-take, refl, sym, ap, ◌∙◌, subst, inl, inr, arith}
+use Rattle.std.proofs.Common.{◌≡◌, ℕ, ◌+◌, ◌<◌, ◌≤◌, ◌⊎◌, ◌↔◌, ◌==◌, if◌then◌else◌, Bool, true, false, List, [], ◌∷◌}
+use Rattle.std.proofs.Common.{◌++◌, Contains, length, get_or, take, is_lt, get_or-take, length-take, refl, sym, ap, ◌∙◌, subst, inl, inr, arith}
 use Rattle.std.proofs.lemmas.List.Sums.{sum_by-le}
 use Rattle.std.specs.List.Sorted.{IsSorted}
 use Rattle.std.proofs.lemmas.List.{get_or_past, get_or_default, take_more}
@@ -35,12 +36,14 @@ zeros_few numbers =
 pub numbers_none : (numbers : List ℕ) → ((c : ℕ) → c < length numbers → get_or numbers c 0 ≡ 0) → AreNumbers 0 numbers
 numbers_none numbers none = search (arith, none_anywhere, zeros_few)
 
-pub touched_none : (labels : List ℕ) (rest : List Link) (numbers : List ℕ) (before : List Link) → ((c : ℕ) → c < length numbers → get_or numbers c 0 ≡ 0) → AreTouched labels rest [] numbers before before
+pub touched_none : (labels : List ℕ) (rest : List Link) (numbers : List ℕ) (before : List Link)
+    → ((c : ℕ) → c < length numbers → get_or numbers c 0 ≡ 0) → AreTouched labels rest [] numbers before before
 touched_none labels rest numbers before none = search (arith, contains_none, none_anywhere)
 
 module _ {a b last last' : ℕ} {numbers numbers' : List ℕ} (share : ShareNumber a b last numbers last' numbers') where
   abbrev Choice : Type 0
-  Choice = ((share.number ≡ get_or numbers a 0) × (0 < share.number) × (last' ≡ last)) ⊎ ((share.number ≡ get_or numbers b 0) × (0 < share.number) × (last' ≡ last)) ⊎ ((share.number ≡ last + 1) × (last' ≡ last + 1) × (get_or numbers a 0 ≡ 0) × (get_or numbers b 0 ≡ 0))
+  Choice = ((share.number ≡ get_or numbers a 0) × (0 < share.number) × (last' ≡ last)) ⊎ ((share.number ≡ get_or numbers b 0) × (0 < share.number) × (last' ≡ last)) ⊎
+      ((share.number ≡ last + 1) × (last' ≡ last + 1) × (get_or numbers a 0 ≡ 0) × (get_or numbers b 0 ≡ 0))
 
   -- a number that was given stays
   pub number_stays : (c : ℕ) → 0 < get_or numbers c 0 → get_or numbers' c 0 ≡ get_or numbers c 0
@@ -99,7 +102,8 @@ next_of labels rest i x order high_in in_range is = record {
 pub seen_with : (rest : List Link) (i : ℕ) (x : Link) → i < length rest → x ≡ get_or rest i x → take (i + 1) rest ≡ take i rest ++ x ∷ []
 seen_with rest i x in_range is = take_more rest i x in_range ∙ ap (λ l. take i rest ++ l ∷ []) (sym is)
 
-module _ {labels : List ℕ} {rest seen : List Link} {numbers : List ℕ} {before after : List Link} {x : Link} (next : Next labels rest seen x) (so_far : AreTouched labels rest seen numbers before after) where
+module _ {labels : List ℕ} {rest seen : List Link} {numbers : List ℕ} {before after : List Link} {x : Link}
+    (next : Next labels rest seen x) (so_far : AreTouched labels rest seen numbers before after) where
   -- Both components were touched: it is passed over.
   pub touched_passed : 0 < number_at labels numbers x.low → 0 < number_at labels numbers x.high → AreTouched labels rest (seen ++ x ∷ []) numbers before after
   touched_passed low_had high_had = record {
@@ -113,11 +117,13 @@ module _ {labels : List ℕ} {rest seen : List Link} {numbers : List ℕ} {befor
   }
 
   -- One of them wasn't: it is taken.
-  pub touched_taken : {last last' : ℕ} {numbers' : List ℕ} → AreNumbers last numbers → ShareNumber (get_or labels x.low 0) (get_or labels x.high 0) last numbers last' numbers' → AreTouched labels rest (seen ++ x ∷ []) numbers' before (after ++ x ∷ [])
+  pub touched_taken : {last last' : ℕ} {numbers' : List ℕ} → AreNumbers last numbers
+      → ShareNumber (get_or labels x.low 0) (get_or labels x.high 0) last numbers last' numbers' → AreTouched labels rest (seen ++ x ∷ []) numbers' before (after ++ x ∷ [])
   touched_taken {last} {last'} {numbers'} are share = record {
     touched = λ l l_in. elim (Contains-push_cases seen x l l_in) [
       | inl old ↦ let had = so_far.touched l old in (some_stays share (get_or labels l.low 0) had.0, some_stays share (get_or labels l.high 0) had.1)
-      | inr is ↦ subst (λ (k : Link). (0 < number_at labels numbers' k.low) × (0 < number_at labels numbers' k.high)) is (subst (λ k. 0 < k) (sym share.first) some, subst (λ k. 0 < k) (sym share.second) some)
+      | inr is ↦ subst (λ (k : Link). (0 < number_at labels numbers' k.low) × (0 < number_at labels numbers' k.high)) is
+          (subst (λ k. 0 < k) (sym share.first) some, subst (λ k. 0 < k) (sym share.second) some)
     ];
     kept = λ l l_in. Contains-append_left after (x ∷ []) l (so_far.kept l l_in);
     least = least;
@@ -157,7 +163,8 @@ module _ {labels : List ℕ} {rest seen : List Link} {numbers : List ℕ} {befor
         | inr is ↦ inr (subst (λ k. Contains rest k × (¬ (HasOneLabel labels k) → (c : ℕ) × IsLeastOut labels rest c k)) is (next.member, itself))
       ]
 
-      joined : AreJoinedWhereOne labels before → (u v : ℕ) → u < length labels → v < length labels → 0 < number_at labels numbers' u → number_at labels numbers' u ≡ number_at labels numbers' v → Joins S u v
+      joined : AreJoinedWhereOne labels before → (u v : ℕ) → u < length labels → v < length labels
+          → 0 < number_at labels numbers' u → number_at labels numbers' u ≡ number_at labels numbers' v → Joins S u v
       joined one u v u_in v_in had same = elim (cases_eq (number_at labels numbers' u) share.number) [
         | inl shared ↦ joins_trans S u x.low v (near u u_in shared) (joins_symm S v x.low (near v v_in (sym same ∙ shared)))
         | inr other ↦
@@ -202,7 +209,8 @@ module _ {labels : List ℕ} {rest seen : List Link} {numbers : List ℕ} {befor
           ]
 
 -- links that are taken in another order, or more than once, leave the same
-pub touched_same : {labels : List ℕ} {rest seen : List Link} {numbers : List ℕ} {before after after' : List Link} → ((l : Link) → Contains after l ↔ Contains after' l) → AreTouched labels rest seen numbers before after → AreTouched labels rest seen numbers before after'
+pub touched_same : {labels : List ℕ} {rest seen : List Link} {numbers : List ℕ} {before after after' : List Link}
+    → ((l : Link) → Contains after l ↔ Contains after' l) → AreTouched labels rest seen numbers before after → AreTouched labels rest seen numbers before after'
 touched_same {labels} {rest} {seen} {numbers} {before} {after} {after'} same are = record {
   touched = are.touched;
   kept = λ l l_in. (same l).0 (are.kept l l_in);

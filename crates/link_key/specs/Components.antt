@@ -31,3 +31,8 @@ pub record IsFirstWith (numbers : List ℕ) (number first : ℕ) : Type 0 where
   pub in_range : first < length numbers
   pub has : slice_index numbers first ≡ number
   pub none_before : (u : ℕ) → 1 ≤ u → u < first → slice_index numbers u ≢ number
+
+-- each vertex from 1 on is labelled by the first one that has its number
+abbrev pub AreFirsts : List ℕ → List ℕ → Type 0
+AreFirsts numbers labels =
+    (v : ℕ) → 1 ≤ v → v < length numbers → IsFirstWith numbers (slice_index numbers v) (label_of labels v)

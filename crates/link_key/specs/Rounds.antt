@@ -5,6 +5,7 @@ use Rattle.links.specs.declared.links.Link.{Link}
 use Rattle.links.specs.Link.{IsBelow}
 use Rattle.links.specs.Walk.{Joins}
 use Rattle.links.specs.Forest.{IsForestLink}
+use Rattle.link_key.specs.declared.sequential.solver.Part.{Part}
 
 -- both ends of the link have one label
 abbrev pub HasOneLabel : List ℕ → Link → Type 0
@@ -65,3 +66,7 @@ TakeRest rest labels taken labels' =
 -- of the rest of a stage the first links of a list are taken, and by the new labels the others of the list are left
 abbrev pub TakePart : List Link → List ℕ → ℕ → List Link → List ℕ → Type 0
 TakePart rest labels first list labels' = (all before : List Link) → IsStage all rest [] labels before → IsStageOf all first list labels' before
+
+-- the same of a part of a list
+abbrev pub TakesPart : List Link → List ℕ → Part → List Link → List ℕ → Type 0
+TakesPart rest labels part list labels' = TakePart rest labels part.taken (take part.left list) labels'

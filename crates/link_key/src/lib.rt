@@ -7,7 +7,8 @@
 //!
 //! What it promises:
 //! - [`forest_of`], and [`plain_forest`] on a copy, gives exactly the forest, the links whose ends aren't joined by
-//!   smaller ones; no spanning forest weighs less. [`forest_of_par`] gives the same by so many threads.
+//!   smaller ones; no spanning forest weighs less. [`keep_forest`] leaves its links in the list, and [`keep_forest_par`]
+//!   finds the same by several threads.
 //! - [`components_of`] labels each vertex by the least one of its component under links that close no cycle, and gives no
 //!   labels where they close one.
 //!
@@ -20,6 +21,4 @@ pub mod sequential;
 pub use links::{
     Answer, Cut, CutFault, Forest, Labels, Link, Offers, Shard, check_even, check_places, laws,
 };
-pub use sequential::{
-    components_of, forest_of, forest_of_par, keep_forest, keep_forest_par, plain_forest,
-};
+pub use sequential::{components_of, forest_of, keep_forest, keep_forest_par, plain_forest};

@@ -9,4 +9,4 @@ mod solver;
 mod steps;
 
 pub use components::components_of;
-pub use solver::{forest_of, forest_of_par, keep_forest, keep_forest_par, plain_forest};
+pub use solver::{forest_of, keep_forest, keep_forest_par, plain_forest};

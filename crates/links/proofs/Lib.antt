@@ -23,3 +23,4 @@ pub mod Sharing
 pub mod Covers
 pub mod Components
 pub mod Reweighted
+pub mod KeptOnce

@@ -19,7 +19,8 @@
 //! Where to start a change: what is meant stands in `specs/` (`Link`, `Walk`, `Forest`, `Least`, `Thresholds`, `Covers`,
 //! `Components`, `Reweighted`, `Labels`, `Offers`, `Cut`). `labellings` and `offered` say which lists are labels and
 //! offers, `cuts` where a list is cut; `sorting` puts links in the order of their keys, `by_threads` does so by several
-//! threads, for shares of the list that `shares` says, and `of_distinct` orders links that are a forest's already.
+//! threads, for shares of the list that `shares` says, and `of_distinct` orders links that are a forest's already. `repeats` drops
+//! links that stand twice side by side.
 #![tactic(auto)]
 
 mod answers;
@@ -31,6 +32,7 @@ pub mod laws;
 pub mod links;
 mod of_distinct;
 pub mod offered;
+pub mod repeats;
 pub mod shards;
 pub mod shares;
 pub mod sorting;

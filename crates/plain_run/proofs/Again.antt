@@ -52,7 +52,8 @@ writes_again report before after ran graph forest has =
     let said = ran.said.report_is in
     let number = same_length (forest_text graph.vertices forest) ran.graph (record { vertices = graph.vertices; links = forest }) means own in
     record {
-      text = subst (λ (m : ℕ). Took 0 (forest_text m forest) before.sink after.sink) same.0 (subst (λ (ls : List Link). Took 0 (forest_text ran.graph.vertices ls) before.sink after.sink) same.1 ran.written);
+      text = subst (λ (m : ℕ). Took 0 (forest_text m forest) before.sink after.sink) same.0
+          (subst (λ (ls : List Link). Took 0 (forest_text ran.graph.vertices ls) before.sink after.sink) same.1 ran.written);
       links = ap (λ (r : Report). r.links) said ∙ number;
       total = ap (λ (r : Report). r.total) said ∙ ap (λ (ls : List Link). sum_of_weights ls) same.1;
     }

@@ -5,5 +5,4 @@ pub mod Lengths
 pub mod Again
 pub mod KeptLinks
 pub mod Sieving
-pub mod KeptOnce
 pub mod JoinedParts

@@ -40,7 +40,8 @@ pub plainly : (graph : GraphValue) (forest : List Link) (report : Report) → Is
 plainly graph forest report least is = record { report_is = is; lightest = subst (λ (r : Report). IsLightest graph.links r.total) (sym is) least }
 
 -- a file has at most 2^30 arc lines, so what a failed write counts is the number of bytes itself
-pub broken_off : {X : Type 0} (found : GraphValue → List Link → Type 0) (says : GraphValue → List Link → X → Type 0) (answer : X) (written : ℕ) (graph : GraphValue) (forest : List Link) (n : ℕ) (s t : SourceState) (a b : SinkState)
+pub broken_off : {X : Type 0} (found : GraphValue → List Link → Type 0) (says : GraphValue → List Link → X → Type 0)
+    (answer : X) (written : ℕ) (graph : GraphValue) (forest : List Link) (n : ℕ) (s t : SourceState) (a b : SinkState)
     → IsReadOf MAX_BYTES (Ok graph) s t → found graph forest → length forest ≤ 2 ^ 55 → n ≡ graph.vertices
     → PrefixWentOut written (forest_text n forest) a b → says graph forest answer → IsBrokenOff found says written (streams s a) (streams t b)
 broken_off found says answer written graph forest n s t a b read found_is few same part said = search (arith, whole_file, few_are_exact)

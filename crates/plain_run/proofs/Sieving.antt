@@ -1,5 +1,6 @@
 -- What a sieve lets through covers the list that was sifted.
-use Rattle.std.proofs.Common.{◌≡◌, ℕ, ◌+◌, ◌-◌, ◌<◌, ◌≤◌, ◌⊎◌, ◌==◌, ◌&&◌, not, Bool, true, false, cond, List, [], ◌∷◌, ◌++◌, Contains, take, drop, set, length, get_or, inl, inr, refl, sym, ap, ap₂, ◌∙◌, subst, arith}
+use Rattle.std.proofs.Common.{◌≡◌, ℕ, ◌+◌, ◌-◌, ◌<◌, ◌≤◌, ◌⊎◌, ◌==◌, ◌&&◌, not, Bool, true, false, cond, List, []}
+use Rattle.std.proofs.Common.{◌∷◌, ◌++◌, Contains, take, drop, set, length, get_or, inl, inr, refl, sym, ap, ap₂, ◌∙◌, subst, arith}
 use mir.Val.{bool_byte}
 use Rattle.std.specs.List.{filter}
 use Rattle.std.specs.Int.Signed.{lt_z}
@@ -34,7 +35,8 @@ pub written_behind : {X : Type 0} (p : X → Bool) (before start now : List X) {
     → take kept now ≡ before ++ filter p (take i start) → ((kept' ≡ kept) × (p x ≡ false)) ⊎ ((kept' ≡ kept + 1) × (p x ≡ true))
     → take kept' (set now kept x) ≡ before ++ filter p (take (i + 1) start)
 written_behind {X} p before start now {i} {kept} {kept'} x i_in is kept_in so_far counted = elim counted [
-  | inl (same, fails) ↦ ap (λ n. take n (set now kept x)) same ∙ take-set now kept x ∙ so_far ∙ ap (λ (xs : List X). before ++ xs) (sym (one_more ∙ ap seen fails ∙ append-nil (filter p (take i start))))
+  | inl (same, fails) ↦ ap (λ n. take n (set now kept x)) same ∙ take-set now kept x ∙ so_far ∙ ap
+      (λ (xs : List X). before ++ xs) (sym (one_more ∙ ap seen fails ∙ append-nil (filter p (take i start))))
   | inr (more, passes) ↦
       ap (λ n. take n (set now kept x)) more ∙ take_more_set now kept x kept_in ∙ ap (λ xs. xs ++ x ∷ []) so_far ∙ append_assoc before (filter p (take i start)) (x ∷ [])
       ∙ ap (λ (xs : List X). before ++ xs) (sym (one_more ∙ ap seen passes))
@@ -122,7 +124,8 @@ sifts {A} sieve old new count ends begins new_is counted =
     let first = begins.first in
     let more = begins.more in (
       subst (λ (xs : List Link). IsCoveredBy xs new) (sym begins.are)
-          (subst (λ (xs : List Link). IsCoveredBy (first ++ more) xs) (sym is) (sifted_covers labels h first more joined (subst (EndsUpTo (length labels)) behind (All-drop (λ (m : Link). m.high ≤ length labels) sieve.passed old ends)))),
+          (subst (λ (xs : List Link). IsCoveredBy (first ++ more) xs) (sym is)
+          (sifted_covers labels h first more joined (subst (EndsUpTo (length labels)) behind (All-drop (λ (m : Link). m.high ≤ length labels) sieve.passed old ends)))),
       record { count = counted; joined = subst (IsSieveOf labels h) (sym is) (sieve_more labels h first (first ++ filter p more) (Contains-append_left first (filter p more)) joined) },
     )
   where

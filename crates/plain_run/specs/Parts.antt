@@ -11,7 +11,7 @@ use Rattle.gr_text.specs.Graph.{GraphValue}
 use Rattle.gr_text.specs.ForestText.{forest_text}
 use Rattle.gr_text.specs.Sourced.{IsReadOf}
 use Rattle.gr_text.specs.declared.faults.ReadFault.TheVariants as read
-use Rattle.plain_run.specs.Files.{IsFileOf, IsFirstOf}
+use Rattle.plain_run.specs.Files.{IsFileOf, HasFile, IsFirstOf, MeansGraph, MeansNothing}
 use Rattle.plain_run.specs.PlainRun.{IsPlainReport}
 use Rattle.plain_run.specs.declared.fault.PartFault.{PartFault}
 use Rattle.plain_run.specs.declared.fault.PartFault.TheVariants as part
@@ -89,6 +89,14 @@ IsFirstFaultOfPart bytes other = ⊥
 abbrev pub IsNoRefusalOfPart : {X : Type 0} → Result X PartFault → Type 0
 IsNoRefusalOfPart (Err (part.Read why)) = why ≡ read.Memory
 IsNoRefusalOfPart other = ⊤
+
+-- where the source has a file that means nothing and no read of it fails, the answer is the file's first fault
+abbrev pub RefusesFile : {X : Type 0} → Result X PartFault → SourceState → SourceState → Type 0
+RefusesFile result before after = (bytes : List ℕ) → HasFile bytes before after → MeansNothing bytes → IsFirstFaultOfPart bytes result
+
+-- where it has one that means a graph, the answer is no fault of the file's
+abbrev pub AcceptsFile : {X : Type 0} → Result X PartFault → SourceState → SourceState → Type 0
+AcceptsFile result before after = (bytes : List ℕ) → HasFile bytes before after → MeansGraph bytes → IsNoRefusalOfPart result
 
 -- ---- the forest of all
 

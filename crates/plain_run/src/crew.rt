@@ -1,7 +1,8 @@
 //! Who reads, solves and writes: one thread, or several.
-ghost use Rattle.std.specs.Prelude.{◌≡◌, ◌≤◌, [], length, IfOk};
+ghost use Rattle.std.specs.Prelude.{◌≤◌, length, IfOk};
 ghost use Rattle.std.specs.Thread.{IsSync};
 ghost use Rattle.gr_text.specs.ForestText.{forest_text};
+ghost use Rattle.gr_text.specs.Following.{IsNewKeeper};
 ghost use Rattle.gr_text.specs.Kept.{IsKeptReadOf};
 ghost use Rattle.gr_text.specs.Written.{WritesText};
 ghost use Rattle.links.specs.Forest.{IsForestOf};
@@ -30,10 +31,8 @@ pub trait Crew {
         source: &mut S,
     ) -> Result<Graph<A>, ReadFault>
         requires ready { ready }
-        requires keeps { K.ready }
+        requires keeper { IsNewKeeper K.Keep keeper.old }
         requires can { S.can_read source.old }
-        requires none { K.dropped keeper.old ≡ 0 }
-        requires nothing { K.knows keeper.old [] }
         ensures outcome { IsKeptReadOf K.drops MAX_BYTES (K.dropped keeper.new) result (S.state source.old) (S.state source.new) };
 
     /// The list, of which the links of its forest alone are kept.

@@ -7,11 +7,11 @@ ghost use Rattle.gr_text.specs.Kept.{BeginsSo};
 ghost use Rattle.plain_run.specs.Sieve.{KnowsOf};
 
 use crate::crew::Crew;
-use crate::repeats::drop_repeats;
 use crate::sieve::Sieve;
 use gr_text::Keep;
 use limits::{MAX_ARCS, MAX_VERTICES};
 use link_key::Link;
+use links::repeats::drop_usual_repeats;
 use std::alloc::{AllocError, Allocator};
 use std::mem;
 
@@ -59,6 +59,7 @@ impl<'a, C: Crew, A: Allocator + Copy> Keeper<'a, C, A> {
         }
     }
 
+    #[tactic(auto, using(links::proofs::Covers::same_links_cover))]
     // Drops links that have come since it was asked last: those that repeat the one before them; after a sieve was made, which
     // counts the links in front, those that it drops, once some have come.
     fn drop_some(&mut self, vertices: u32, links: &mut Vec<Link, A>)
@@ -72,7 +73,7 @@ impl<'a, C: Crew, A: Allocator + Copy> Keeper<'a, C, A> {
     {
         let count = links.len();
         let Some(mut sieve) = self.sieve.take() else {
-            drop_repeats(links, self.seen.min(count));
+            drop_usual_repeats(links, self.seen.min(count));
             self.dropped += (count - links.len()) as u64;
             return;
         };

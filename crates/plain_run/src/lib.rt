@@ -8,7 +8,7 @@
 //!     Sources --Parts::add, one after the other--> Parts --Parts::write----------> Sink
 //! ```
 //!
-//! While a file is read, links that repeat the one before them are dropped (`repeats`). Of many arcs a long list of links
+//! While a file is read, links that repeat the one before them are dropped (`links::repeats`). Of many arcs a long list of links
 //! becomes its forest, which covers it (`keeper`). If many more come, those that its light links make needless aren't kept
 //! (`sieve`). So memory has a bound by the vertices, and all links are counted.
 //!
@@ -30,7 +30,6 @@ mod in_memory;
 mod keeper;
 mod parts;
 mod plain;
-mod repeats;
 mod report;
 mod sieve;
 mod spelling;

@@ -2,8 +2,7 @@
 ghost use Rattle.std.specs.Prelude.{◌≡◌, ◌+◌, ◌<◌, ◌≤◌, ◌++◌, ℕ, List, [], length, IfOk};
 ghost use Rattle.links.specs.Covers.{IsCoveredBy};
 ghost use Rattle.links.specs.Link.{EndsUpTo};
-ghost use Rattle.plain_run.specs.Files.{HasFile, MeansGraph, MeansNothing};
-ghost use Rattle.plain_run.specs.Parts.{Adds, ArePartsOf, IsFirstFaultOfPart, IsNoRefusalOfPart, WritesParts};
+ghost use Rattle.plain_run.specs.Parts.{AcceptsFile, Adds, ArePartsOf, RefusesFile, WritesParts};
 
 use crate::crew::{Crew, ManyThreads, OneThread, forest_by};
 use crate::fault::{PartFault, RunFault};
@@ -105,10 +104,8 @@ impl<A: Allocator + Copy> Parts<A> {
 
         // So a file that means nothing is refused by its first fault, where no read fails; one that means a graph is
         // refused for its number of vertices alone.
-        ensures malformed { (bytes : List ℕ) → HasFile bytes (S.state source.old) (S.state source.new)
-            → MeansNothing bytes → IsFirstFaultOfPart bytes result }
-        ensures lawful { (bytes : List ℕ) → HasFile bytes (S.state source.old) (S.state source.new)
-            → MeansGraph bytes → IsNoRefusalOfPart result }
+        ensures malformed { RefusesFile result (S.state source.old) (S.state source.new) }
+        ensures lawful { AcceptsFile result (S.state source.old) (S.state source.new) }
     {
         let Parts {
             vertices,

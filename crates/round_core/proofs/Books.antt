@@ -1,5 +1,6 @@
 -- A round's book: how it begins, and what the answers that it keeps name.
-use Rattle.std.proofs.Common.{◌≡◌, ◌≢◌, ℕ, zero, suc, ◌+◌, ◌<◌, ◌≤◌, ◌↔◌, Bool, true, false, not, cond, ◌&&◌, List, [], ◌∷◌, ◌++◌, length, map, replicate, get_or, take, Contains, Some, None, refl, sym, ap, ◌∙◌, subst, inl, inr, eq-eqb, ne_eqb, arith}
+use Rattle.std.proofs.Common.{◌≡◌, ◌≢◌, ℕ, zero, suc, ◌+◌, ◌<◌, ◌≤◌, ◌↔◌, Bool, true, false, not, cond, ◌&&◌, List, [], ◌∷◌}
+use Rattle.std.proofs.Common.{◌++◌, length, map, replicate, get_or, take, Contains, Some, None, refl, sym, ap, ◌∙◌, subst, inl, inr, eq-eqb, ne_eqb, arith}
 use Rattle.std.specs.Prelude.{Option, All, count_by, slice_get}
 use Rattle.std.specs.List.{list_all}
 use Rattle.std.specs.Option.{option_to_list}
@@ -31,7 +32,8 @@ all_missing zero = refl
 all_missing (suc k) = let n = sum_by-cons (λ (x : Bool). cond (not x) 1 0) false (replicate k false) in let m = all_missing k in omega (arith, n, m)
 
 pub book_opened : (round room : ℕ) (cut : List (List Link)) (labels looked_up : List ℕ) (taken : List Bool) (answers : List AnswerValue) (best : List (Option Link))
-    → AreLabels labels → All (EndsUpTo (length labels)) cut → length cut ≤ MAX_SHARDS → taken ≡ replicate (length cut) false → answers ≡ [] → length cut ≤ room → length best ≡ length labels → AreNoPicks best
+    → AreLabels labels → All (EndsUpTo (length labels)) cut → length cut ≤ MAX_SHARDS → taken ≡ replicate
+    (length cut) false → answers ≡ [] → length cut ≤ room → length best ≡ length labels → AreNoPicks best
     → looked_up ≡ labels → IsBook (record { round = round; cut = cut; labels = labels; taken = taken; answers = answers }) looked_up room best
 book_opened round room cut labels looked_up taken answers best are ends few taken_is answers_is room_is best_len best_is same = search (arith, length-replicate, all_missing, get_or-replicate)
 
@@ -124,16 +126,19 @@ same_named cut answers l = (to, back)
         ((named_by (hearing_of cut a) l).1 (subst (λ (h : Hearing). Names h l) (sym is) names)))
 
 -- what the offers of an answer name are links that leave a component
-pub offer_at : (links : List Link) (labels : List ℕ) (offers : List Offer) (i : ℕ) → i < length offers → list_all (is_offer links labels) offers ≡ true → IsOffered links labels (get_or offers i (0, 0)).1
+pub offer_at : (links : List Link) (labels : List ℕ) (offers : List Offer) (i : ℕ) → i < length offers
+    → list_all (is_offer links labels) offers ≡ true → IsOffered links labels (get_or offers i (0, 0)).1
 offer_at links labels offers i lt all = offered links labels (get_or offers i (0, 0)) (all_at (is_offer links labels) offers i (0, 0) lt all)
 
 -- the answers of a book can be counted under the labels that it looks up, into the numbers of its picks
-pub can_close : (p : BookValue) (looked_up : List ℕ) (room : ℕ) (best : List (Option Link)) (answers : List AnswerValue) (items numbers : List ℕ) → IsBook p looked_up room best → answers ≡ p.answers → numbers ≡ items
+pub can_close : (p : BookValue) (looked_up : List ℕ) (room : ℕ) (best : List (Option Link)) (answers : List AnswerValue) (items numbers : List ℕ)
+    → IsBook p looked_up room best → answers ≡ p.answers → numbers ≡ items
     → length items ≡ length best → All (λ k. k ≡ no_pick) items → CanCountInto p.cut looked_up answers numbers
 can_close p looked_up room best answers items numbers is answers_are numbers_are long none = search arith
 
 -- the least numbers of the links that its answers name make the picks of what it heard
-pub picks_of_numbers : (p : BookValue) (looked_up : List ℕ) (answers : List AnswerValue) (numbers items : List ℕ) (picks : List (Option Link)) → looked_up ≡ p.labels → answers ≡ p.answers → items ≡ numbers → picks ≡ map pick_in items
+pub picks_of_numbers : (p : BookValue) (looked_up : List ℕ) (answers : List AnswerValue) (numbers items : List ℕ) (picks : List (Option Link))
+    → looked_up ≡ p.labels → answers ≡ p.answers → items ≡ numbers → picks ≡ map pick_in items
     → AreLeastNumbers looked_up (all_named p.cut answers) numbers → ArePicks p.labels (IsNamed (hearings p)) picks
 picks_of_numbers p looked_up answers numbers items picks same_labels same_answers same_items picks_is least =
     picks_alike p.labels (Contains (all_named p.cut p.answers)) (IsNamed (hearings p)) picks (same_named p.cut p.answers)

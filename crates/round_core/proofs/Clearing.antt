@@ -8,7 +8,8 @@ use Rattle.round_core.specs.Picks.{AreNoPicks, HaveAllPicks}
 use Rattle.round_core.specs.PickNumbers.{no_pick, IsPickNumber, AreCleared, pick_in}
 use Rattle.round_core.proofs.PickNumbers.{no_pick_is_none}
 
-pub cleared_more : (labels old new : List ℕ) (k : ℕ) → 1 ≤ get_or labels k 0 → get_or labels k 0 - 1 < length new → AreCleared labels k old new → AreCleared labels (k + 1) old (set new (get_or labels k 0 - 1) no_pick)
+pub cleared_more : (labels old new : List ℕ) (k : ℕ) → 1 ≤ get_or labels k 0 → get_or labels k 0 - 1 < length new
+    → AreCleared labels k old new → AreCleared labels (k + 1) old (set new (get_or labels k 0 - 1) no_pick)
 cleared_more labels old new k one within are i = search (arith, cases_eq, get_or-set_same, get_or-set_other, below_more, set)
 
 -- what is left are numbers of picks

@@ -158,7 +158,8 @@ are_picks labels links numbers are = record {
       ]);
 }
 
-pub picks_are : (labels labels' : List ℕ) (links links' : List Link) (numbers items : List ℕ) (picks : List (Option Link)) → labels ≡ labels' → links ≡ links' → items ≡ numbers → picks ≡ map pick_in items
+pub picks_are : (labels labels' : List ℕ) (links links' : List Link) (numbers items : List ℕ) (picks : List (Option Link))
+    → labels ≡ labels' → links ≡ links' → items ≡ numbers → picks ≡ map pick_in items
     → AreLeastNumbers labels links numbers → ArePicks labels' (Contains links') picks
 picks_are labels labels' links links' numbers items picks same_labels same_links same_items picks_is are = rw (picks_is, same_items, ← same_labels, ← same_links) (are_picks labels links numbers are)
 

@@ -1,5 +1,6 @@
 -- A book's answers: each shard that was taken has one, so those of a book that misses no shard are of all its links.
-use Rattle.std.proofs.Common.{◌≡◌, ◌≢◌, ℕ, zero, suc, ◌+◌, ◌<◌, ◌==◌, ◌↔◌, Bool, true, false, not, cond, List, [], ◌∷◌, ◌++◌, length, get_or, set, Contains, Some, None, refl, sym, ap, ◌∙◌, subst, inl, inr, arith, length-append}
+use Rattle.std.proofs.Common.{◌≡◌, ◌≢◌, ℕ, zero, suc, ◌+◌, ◌<◌, ◌==◌, ◌↔◌, Bool, true, false, not, cond, List, []}
+use Rattle.std.proofs.Common.{◌∷◌, ◌++◌, length, get_or, set, Contains, Some, None, refl, sym, ap, ◌∙◌, subst, inl, inr, arith, length-append}
 use Rattle.std.specs.Prelude.{Option, Any, count_by}
 use Rattle.std.specs.List.{list_all}
 use Rattle.std.proofs.lemmas.Bool.{cases_eq, eqb-true}
@@ -14,7 +15,8 @@ use Rattle.round_theory.specs.Offers.{Hearing, IsNamed}
 use Rattle.round_theory.proofs.Cutting.{any_from, flat_map_contains, light_offers_suffice}
 use Rattle.round_theory.proofs.Leaving.{least_leaving_exists}
 use Rattle.round_core.specs.Picks.{pick_of, IsPickOf}
-use Rattle.round_core.specs.BookValue.{BookValue, is_taken, missing, is_offer, refusal, with_answer, hearing_of, hearings, IsAnswered, IsRight, IsBookValue, IsBook, FullBookHasAllLinks, FullBookIsLeast}
+use Rattle.round_core.specs.BookValue.{BookValue, is_taken, missing, is_offer, refusal, with_answer, hearing_of}
+use Rattle.round_core.specs.BookValue.{hearings, IsAnswered, IsRight, IsBookValue, IsBook, FullBookHasAllLinks, FullBookIsLeast}
 use Rattle.round_core.specs.declared.refusals.Refusal.TheVariants.{Stale, Stranger, Double, NotALink}
 use Rattle.round_core.proofs.Books.{map_contains, map_from}
 

@@ -1,5 +1,6 @@
 -- The links that roots pick, each given by the least root that picks it.
-use Rattle.std.proofs.Common.{◌≡◌, ℕ, ◌+◌, ◌-◌, ◌<◌, ◌≤◌, ◌↔◌, Bool, true, false, List, [], ◌∷◌, ◌++◌, length, get_or, take, take_all, set, length-append, Contains, refl, Some, None, sym, ap, ◌∙◌, subst, inl, inr, arith}
+use Rattle.std.proofs.Common.{◌≡◌, ℕ, ◌+◌, ◌-◌, ◌<◌, ◌≤◌, ◌↔◌, Bool, true, false, List, [], ◌∷◌, ◌++◌, length}
+use Rattle.std.proofs.Common.{get_or, take, take_all, set, length-append, Contains, refl, Some, None, sym, ap, ◌∙◌, subst, inl, inr, arith}
 use mir.Val.{bool_byte}
 use Rattle.std.specs.Prelude.{Option, All}
 use Rattle.std.proofs.lemmas.Bool.{cases_eq, cases_lt}
@@ -21,7 +22,8 @@ use Rattle.round_core.proofs.Picking.{place_of, picked_there, first_place}
 abbrev pub place_at : List ℕ → ℕ → ℕ
 place_at roots j = get_or roots j 0 - 1
 
-pub given_skip : (picks : List (Option Link)) (roots : List ℕ) (k : ℕ) (links : List Link) → ((l : Link) → ¬ (IsFirstPickedAt picks l (place_at roots k))) → AreGiven picks roots k links → AreGiven picks roots (k + 1) links
+pub given_skip : (picks : List (Option Link)) (roots : List ℕ) (k : ℕ) (links : List Link)
+    → ((l : Link) → ¬ (IsFirstPickedAt picks l (place_at roots k))) → AreGiven picks roots k links → AreGiven picks roots (k + 1) links
 given_skip picks roots k links none are = record {
   exact = λ l. (λ l_in. let (j, lt, within, first) = (are.exact l).0 l_in in (j, omega (arith, lt), within, first), back l);
   in_order = are.in_order;
@@ -33,7 +35,8 @@ given_skip picks roots k links none are = record {
       | inr other ↦ (are.exact l).1 (j, omega (arith, lt, other), within, first)
     ]
 
-pub given_more : (picks : List (Option Link)) (labels roots : List ℕ) (k : ℕ) (links : List Link) (l : Link) → AreRoots labels roots → k < length roots → IsFirstPickedAt picks l (place_at roots k) → AreGiven picks roots k links
+pub given_more : (picks : List (Option Link)) (labels roots : List ℕ) (k : ℕ) (links : List Link) (l : Link)
+    → AreRoots labels roots → k < length roots → IsFirstPickedAt picks l (place_at roots k) → AreGiven picks roots k links
     → AreGiven picks roots (k + 1) (links ++ l ∷ [])
 given_more picks labels roots k links l are_roots k_in here are = record {
   exact = λ m. (to m, back m);
@@ -81,7 +84,8 @@ given_all picks S labels roots k links are_labels are_picks are_roots past are =
 }
 
 -- where no root has a pick, no vertex has one
-pub none_of_roots : (picks : List (Option Link)) (S : LinkSet) (labels roots : List ℕ) → AreLabels labels → ArePicks labels S picks → AreRoots labels roots → All (λ c. pick_of picks c ≡ None) roots ↔ AreNoPicks picks
+pub none_of_roots : (picks : List (Option Link)) (S : LinkSet) (labels roots : List ℕ) → AreLabels labels
+    → ArePicks labels S picks → AreRoots labels roots → All (λ c. pick_of picks c ≡ None) roots ↔ AreNoPicks picks
 none_of_roots picks S labels roots are_labels are_picks are_roots = (to, back)
   where
     back : AreNoPicks picks → All (λ c. pick_of picks c ≡ None) roots
@@ -138,7 +142,8 @@ next_written picks labels roots i before items count count' l true are_roots lt 
       within = omega (arith, lt);
       room = length-set items count l ∙ have.room;
       added = have.added ++ l ∷ [];
-      behind = ap (λ n. take n (set items count l)) count_is ∙ take_more_set items count l (omega (arith, number, few, room, lt)) ∙ ap (λ xs. xs ++ l ∷ []) have.behind ∙ append_assoc before have.added (l ∷ []);
+      behind = ap (λ n. take n (set items count l)) count_is ∙ take_more_set items count l
+          (omega (arith, number, few, room, lt)) ∙ ap (λ xs. xs ++ l ∷ []) have.behind ∙ append_assoc before have.added (l ∷ []);
       number = omega (arith, number, more, count_is);
       few = omega (arith, few, more);
       given = given_more picks labels roots i have.added l are_roots lt (gives.first refl) have.given;

@@ -44,7 +44,8 @@ module _ (roots old : List ℕ) (c : ℕ) (c_in : Contains roots c) (pointers : 
   jump_joins : (labels : List ℕ) (picks : List (Option Link)) → AreParents labels roots picks old → AreParents labels roots picks new
   jump_joins labels picks are = record {
     joined = λ x x_in. elim (cases_eq x c) [
-      | inl is ↦ subst (λ y. JoinsOver labels (Picked picks) y (up' y)) (sym is) (subst (JoinsOver labels (Picked picks) c) (sym at) (over_then labels (Picked picks) (Picked picks) (λ l l_in. l_in) c (up c) (up (up c)) (are.joined c c_in) (are.joined (up c) parent_in)))
+      | inl is ↦ subst (λ y. JoinsOver labels (Picked picks) y (up' y)) (sym is)
+          (subst (JoinsOver labels (Picked picks) c) (sym at) (over_then labels (Picked picks) (Picked picks) (λ l l_in. l_in) c (up c) (up (up c)) (are.joined c c_in) (are.joined (up c) parent_in)))
       | inr other ↦ subst (JoinsOver labels (Picked picks) x) (sym (off x other)) (are.joined x x_in)
     ];
     together = λ f along. are.together f (λ x x_in. elim (cases_eq x c) [

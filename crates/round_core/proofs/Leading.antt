@@ -1,5 +1,6 @@
 -- Where picks lead the roots: each to a root that it is joined to, whose pick is less, or to one that stays.
-use Rattle.std.proofs.Common.{◌≡◌, ◌≢◌, ℕ, ◌+◌, ◌-◌, ◌*◌, ◌<◌, ◌≤◌, ◌^◌, ◌⊎◌, min, List, [], ◌∷◌, length, get_or, Contains, Some, None, refl, sym, ap, ◌∙◌, subst, inl, inr, ◌↔◌, Bool, true, false, not, ltb, ◌&&◌, ◌||◌, arith}
+use Rattle.std.proofs.Common.{◌≡◌, ◌≢◌, ℕ, ◌+◌, ◌-◌, ◌*◌, ◌<◌, ◌≤◌, ◌^◌, ◌⊎◌, min, List, [], ◌∷◌, length, get_or, Contains}
+use Rattle.std.proofs.Common.{Some, None, refl, sym, ap, ◌∙◌, subst, inl, inr, ◌↔◌, Bool, true, false, not, ltb, ◌&&◌, ◌||◌, arith}
 use Rattle.std.specs.Prelude.{Option}
 use Rattle.std.proofs.lemmas.Bool.{cases_lt, ltb-true, ltb-false}
 use Rattle.links.specs.declared.links.Link.{Link}
@@ -65,7 +66,8 @@ same_other labels l c d e (inr (low, high)) (inl (low', high')) = sym low ∙ lo
 same_other labels l c d e (inr (low, high)) (inr (low', high')) = sym low ∙ low'
 
 -- where its pick leads a label
-led_to : (labels : List ℕ) (picks : List (Option Link)) (c d p : ℕ) (l : Link) → pick_of picks c ≡ Some l → HasEndLabels labels l c d → (pick_of picks d ≡ Some l → p ≡ min c d) → (pick_of picks d ≢ Some l → p ≡ d) → IsLed labels picks c p
+led_to : (labels : List ℕ) (picks : List (Option Link)) (c d p : ℕ) (l : Link) → pick_of picks c ≡ Some l
+    → HasEndLabels labels l c d → (pick_of picks d ≡ Some l → p ≡ min c d) → (pick_of picks d ≢ Some l → p ≡ d) → IsLed labels picks c p
 led_to labels picks c d p l here ends lesser apart = search (arith, min, same_other)
 
 -- what is known of a root that has a pick
@@ -147,7 +149,8 @@ module _ (labels : List ℕ) (S : LinkSet) (picks : List (Option Link)) (are_lab
     is_taker false one same = takes_where true one (λ _. inl (λ there. let wrong : false ≡ true = same.1 (here ∙ sym there) in absurd (cc))) (λ wrong. absurd (cc))
 
     -- and where they go
-    pub is_led : (paired : Bool) (p : ℕ) → (paired ≡ true) ↔ (pick_of picks c ≡ pick_of picks d) → (((paired && ltb c d) ≡ true) × (p ≡ c)) ⊎ (((paired && ltb c d) ≡ false) × (p ≡ d)) → IsLed labels picks c p
+    pub is_led : (paired : Bool) (p : ℕ) → (paired ≡ true) ↔ (pick_of picks c ≡ pick_of picks d)
+        → (((paired && ltb c d) ≡ true) × (p ≡ c)) ⊎ (((paired && ltb c d) ≡ false) × (p ≡ d)) → IsLed labels picks c p
     is_led true p same cases = led_to labels picks c d p l here ends (λ _. lesser cases) (λ not. absurd (not (sym (same.0 refl) ∙ here)))
       where
         lesser : (((true && ltb c d) ≡ true) × (p ≡ c)) ⊎ (((true && ltb c d) ≡ false) × (p ≡ d)) → p ≡ min c d

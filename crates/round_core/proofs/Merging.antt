@@ -1,5 +1,6 @@
 -- A solver that takes the picks of a round.
-use Rattle.std.proofs.Common.{◌≡◌, ◌≢◌, ℕ, ◌+◌, ◌<◌, ◌≤◌, ◌^◌, max, ◌↔◌, Bool, true, false, List, [], ◌∷◌, ◌++◌, length, get_or, Contains, Some, None, refl, sym, ap, ◌∙◌, subst, length-append, inl, inr, arith}
+use Rattle.std.proofs.Common.{◌≡◌, ◌≢◌, ℕ, ◌+◌, ◌<◌, ◌≤◌, ◌^◌, max, ◌↔◌, Bool, true, false, List, [], ◌∷◌}
+use Rattle.std.proofs.Common.{◌++◌, length, get_or, Contains, Some, None, refl, sym, ap, ◌∙◌, subst, length-append, inl, inr, arith}
 use Rattle.std.specs.Prelude.{Option, All, AllPairs, filter, ◌==◌}
 use Rattle.std.proofs.lemmas.Bool.{cases_lt}
 use Rattle.std.proofs.lemmas.Nat.{pow_below}
@@ -82,7 +83,8 @@ module _ (p q : Progress) (picks : List (Option Link)) (count : ℕ) (is : IsPro
     few_vertices = omega (arith, long, is.few_vertices);
     ends = rw (long, to.taken) (All-append (λ (l : Link). l.high ≤ vertices p) p.taken to.added is.ends links_ends);
     labelling = subst (λ m. IsLabelling m (Contains q.taken) q.labels) (sym long) to.labelling;
-    each_once = subst (λ (xs : List Link). AllPairs (λ l m. l ≢ m) xs) (sym to.taken) (all_pairs_append (λ l m. l ≢ m) p.taken to.added is.each_once (each_once picks to.added to.picked) (λ l m l_in m_in same.
+    each_once = subst (λ (xs : List Link). AllPairs (λ l m. l ≢ m) xs) (sym to.taken)
+        (all_pairs_append (λ l m. l ≢ m) p.taken to.added is.each_once (each_once picks to.added to.picked) (λ l m l_in m_in same.
         (pick_is_new S (vertices p) p.taken p.labels is.ends is.labelling m (part m m_in)).1 (subst (Contains p.taken) same l_in)));
     no_cycle = subst (λ (xs : List Link). HasNoCycle (Contains xs)) (sym to.taken) (added_close_no_cycle S (vertices p) p.taken to.added p.labels is.ends is.labelling is.no_cycle part);
     in_time = subst (λ m. 2 ^ q.rounds ≤ max 1 m) (sym long) to.in_time;
@@ -128,7 +130,8 @@ pub in_bound : (n m round : ℕ) (r : Bool) → (r ≡ true) ↔ IsPastBound m r
 in_bound n m round r decides fails same = search (arith, cases_lt, max)
 
 pub is_merged : (p : Progress) (picks : List (Option Link)) (labels : List ℕ) (links taken : List Link) (count : ℕ) (r : Bool) → IsProgress p → ArePicksOfHearings p.labels picks
-    → (r ≡ true) ↔ AreNoPicks picks → r ≡ false → ArePickedOnce picks links → IsRelabelling (vertices p) p.labels (Picked picks) labels → 2 ^ (p.rounds + 1) ≤ max 1 (vertices p) → count ≡ length links → taken ≡ p.taken ++ links
+    → (r ≡ true) ↔ AreNoPicks picks → r ≡ false → ArePickedOnce picks links → IsRelabelling (vertices p) p.labels
+    (Picked picks) labels → 2 ^ (p.rounds + 1) ≤ max 1 (vertices p) → count ≡ length links → taken ≡ p.taken ++ links
     → IsMerged picks count p (record { labels = labels; taken = taken; rounds = p.rounds + 1 })
 is_merged p picks labels links taken count r is are decides fails once joined in_time number taken_is = record {
   some =

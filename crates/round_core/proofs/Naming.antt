@@ -78,7 +78,8 @@ found_more roots parents least k c p ascending pointers k_in c_is p_is are = rec
           least = λ i from' within' _. not_above i from' within';
         })
     | inr other ↦
-        let kept : get_or (set least p c) (get_or parents (get_or roots j 0) 0) 0 ≡ get_or least (get_or parents (get_or roots j 0) 0) 0 = get_or-set_other least p (get_or parents (get_or roots j 0) 0) c 0 other in
+        let kept : get_or (set least p c) (get_or parents (get_or roots j 0) 0) 0 ≡ get_or least (get_or parents (get_or roots j 0) 0) 0 =
+        get_or-set_other least p (get_or parents (get_or roots j 0) 0) c 0 other in
         let later : k + 1 ≤ j = elim (cases_lt k j) [
           | inl lt ↦ omega (arith, lt)
           | inr ge ↦ let itself : j ≡ k = omega (arith, ge, from) in absurd (other (ap (λ i. get_or parents (get_or roots i 0) 0) itself ∙ ap (λ b. get_or parents b 0) c_is ∙ p_is))
@@ -125,7 +126,8 @@ pub record AreNamed (roots least old new : List ℕ) (k : ℕ) : Type 0 where
   pub named : (j : ℕ) → j < k → j < length roots → get_or new (get_or roots j 0) 0 ≡ get_or least (get_or old (get_or roots j 0) 0) 0
   pub rest : (j : ℕ) → k ≤ j → j < length roots → get_or new (get_or roots j 0) 0 ≡ get_or old (get_or roots j 0) 0
 
-module _ (roots least old new : List ℕ) (k : ℕ) (ascending : AllPairs (λ b c. b < c) roots) (k_in : k < length roots) (c_in : get_or roots k 0 < length old) (are : AreNamed roots least old new k) where
+module _ (roots least old new : List ℕ) (k : ℕ) (ascending : AllPairs (λ b c. b < c) roots)
+    (k_in : k < length roots) (c_in : get_or roots k 0 < length old) (are : AreNamed roots least old new k) where
   abbrev c : ℕ
   c = get_or roots k 0
 
@@ -210,7 +212,8 @@ kept_roots labels roots new picks are are_new are_roots is = record {
         kept_if (λ c. label_of new c == c) roots c ((are_roots.exact c).1 (here, same)) (eq-eqb (label_of new c) c own)
 
 -- A vertex is written behind those kept, and counted where it passes.
-pub kept_by_test : (p : ℕ → Bool) (xs ys : List ℕ) (k k' i x : ℕ) → FiltersInPlace p xs ys k i → i < length ys → x ≡ get_or ys i x → k' ≡ k + bool_byte (p x) → FiltersInPlace p xs (set ys k x) k' (i + 1)
+pub kept_by_test : (p : ℕ → Bool) (xs ys : List ℕ) (k k' i x : ℕ) → FiltersInPlace p xs ys k i
+    → i < length ys → x ≡ get_or ys i x → k' ≡ k + bool_byte (p x) → FiltersInPlace p xs (set ys k x) k' (i + 1)
 kept_by_test p xs ys k k' i x so_far within at count = by_test (p x) refl
   where
     by_test : (b : Bool) → p x ≡ b → FiltersInPlace p xs (set ys k x) k' (i + 1)
@@ -264,7 +267,8 @@ pub roots_below : (labels roots : List ℕ) (n m : ℕ) → n ≡ length labels 
 roots_below labels roots n m is above are k d lt = let vertex = roots_within labels roots n is are k d lt in omega (arith, vertex.1, above)
 
 -- the names of all roots relabel
-pub relabels : (labels roots names : List ℕ) (picks : List (Option Link)) → AreLabels labels → AreRoots labels roots → All (λ c. c < length names) roots → AreNames labels picks names → Relabels labels picks names
+pub relabels : (labels roots names : List ℕ) (picks : List (Option Link)) → AreLabels labels → AreRoots labels roots
+    → All (λ c. c < length names) roots → AreNames labels picks names → Relabels labels picks names
 relabels labels roots names picks are are_roots within named = record {
   within = labels_within labels roots (length names) are are_roots within;
   relabelling = is;

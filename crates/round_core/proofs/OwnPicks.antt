@@ -50,7 +50,8 @@ taken_more offered start own x k old part l within x_is is key before = λ i lt.
     ]
 
 -- what is taken after something else is taken from the beginning
-pub taken_then : (offered : ℕ → Link → Type 0) (start : ℕ) (old mid new : List ℕ) → length mid ≡ length old → AreTakenFrom offered start old mid → AreTakenFrom offered start mid new → AreTakenFrom offered start old new
+pub taken_then : (offered : ℕ → Link → Type 0) (start : ℕ) (old mid new : List ℕ) → length mid ≡ length old
+    → AreTakenFrom offered start old mid → AreTakenFrom offered start mid new → AreTakenFrom offered start old new
 taken_then offered start old mid new long first second = λ i lt. elim (second i (omega (arith, lt, long))) [
   | inl stayed ↦ subst (λ (w : ℕ). (w ≡ get_or old i 0) ⊎ ((m : Link) × offered (start + i + 1) m × IsKeyNumber m w)) (sym stayed) (first i lt)
   | inr is ↦ inr is
@@ -78,14 +79,19 @@ offered_leaves links labels offers c l all (place, (i, lt, at), some) =
     )
 
 -- the same of the answers
-pub offered_leaves_in : (cut : List (List Link)) (labels : List ℕ) (answers : List AnswerValue) (c : ℕ) (l : Link) → CanCount cut labels answers → IsOfferedIn cut answers c l → Contains (all_named cut answers) l × Leaves labels l c
+pub offered_leaves_in : (cut : List (List Link)) (labels : List ℕ) (answers : List AnswerValue) (c : ℕ) (l : Link)
+    → CanCount cut labels answers → IsOfferedIn cut answers c l → Contains (all_named cut answers) l × Leaves labels l c
 offered_leaves_in cut labels answers c l can (i, a, lt, at, offered) =
     let right : IsRight a.round cut labels a = subst (λ (b : AnswerValue). IsRight b.round cut labels b) at (can.right i a lt) in
-    let here = offered_leaves (links_at cut a.shard) labels a.offers c l right.offers offered in
-    ((flat_map_contains (λ (b : AnswerValue). named_links (links_at cut b.shard) b.offers) answers l).1 (any_from (λ (b : AnswerValue). Contains (named_links (links_at cut b.shard) b.offers) l) answers a (i, lt, at) here.0), here.1)
+    let here = offered_leaves (links_at cut a.shard) labels a.offers c l right.offers offered in (
+      (flat_map_contains (λ (b : AnswerValue). named_links (links_at cut b.shard) b.offers) answers l).1
+          (any_from (λ (b : AnswerValue). Contains (named_links (links_at cut b.shard) b.offers) l) answers a (i, lt, at) here.0),
+      here.1,
+    )
 
 -- the numbers taken are the least, where no link that is offered is less than one of its own
-pub taken_are_least : (cut : List (List Link)) (labels : List ℕ) (answers : List AnswerValue) (old new : List ℕ) → CanCount cut labels answers → length old ≡ length labels → length new ≡ length old → All (λ k. k ≡ no_pick) old
+pub taken_are_least : (cut : List (List Link)) (labels : List ℕ) (answers : List AnswerValue) (old new : List ℕ)
+    → CanCount cut labels answers → length old ≡ length labels → length new ≡ length old → All (λ k. k ≡ no_pick) old
     → AreTakenFrom (IsOfferedIn cut answers) 0 old new → AreCountedIn labels new (all_named cut answers) → AreLeastNumbers labels (all_named cut answers) new
 taken_are_least cut labels answers old new can each long none taken counted = record {
   each_vertex = long ∙ each;
@@ -104,19 +110,23 @@ taken_are_least cut labels answers old new can each long none taken counted = re
 -- ---- looked at one after the other
 
 -- a link that leaves labels is counted where it isn't less than the numbers of both
-pub counted_by : (labels numbers : List ℕ) (l : Link) (m a b : ℕ) → l.high ≤ length labels → label_of labels l.low ≢ label_of labels l.high → a ≡ label_of labels l.low → b ≡ label_of labels l.high → IsKeyNumber l m
+pub counted_by : (labels numbers : List ℕ) (l : Link) (m a b : ℕ) → l.high ≤ length labels
+    → label_of labels l.low ≢ label_of labels l.high → a ≡ label_of labels l.low → b ≡ label_of labels l.high → IsKeyNumber l m
     → (get_or numbers (a - 1) 0 ≤ m) × (get_or numbers (b - 1) 0 ≤ m) ↔ IsCountedIn labels numbers l
 counted_by labels numbers l m a b end apart a_is b_is key = search (arith, leaves_end, leaves_low, leaves_high, ints)
 
 -- the links of offers are counted where a look at each offer finds that the link it names is
-pub all_counted : (labels numbers : List ℕ) (links : List Link) (offers : List Offer) (b : Bool) {X : Type 0} (now : X → Offer) (xs : List X) → map now xs ≡ offers → list_all (is_offer links labels) offers ≡ true
-    → MatchBool b (All (λ x. (l : Link) → slice_get links (now x).1 ≡ Some l → IsTrue true ↔ IsCountedIn labels numbers l) xs) (Any (λ x. (l : Link) → slice_get links (now x).1 ≡ Some l → IsTrue false ↔ IsCountedIn labels numbers l) xs)
+pub all_counted : (labels numbers : List ℕ) (links : List Link) (offers : List Offer) (b : Bool) {X : Type 0} (now : X → Offer) (xs : List X)
+    → map now xs ≡ offers → list_all (is_offer links labels) offers ≡ true
+    → MatchBool b (All (λ x. (l : Link) → slice_get links (now x).1 ≡ Some l → IsTrue true ↔ IsCountedIn labels numbers l) xs)
+    (Any (λ x. (l : Link) → slice_get links (now x).1 ≡ Some l → IsTrue false ↔ IsCountedIn labels numbers l) xs)
     → IsTrue b ↔ AreCountedIn labels numbers (named_links links offers)
 all_counted labels numbers links offers true now xs are leaving all = (
   λ _ l l_in.
       let (k, o, lt, at, named) = (flat_map_contains (λ (o : Offer). option_to_list (slice_get links o.1)) offers l).0 l_in in
       let (x, x_in, is) = map_from now xs k o (rw are lt) (rw are at) in
-      (All-contains (λ y. (m : Link) → slice_get links (now y).1 ≡ Some m → IsTrue true ↔ IsCountedIn labels numbers m) xs x all x_in l (ap (λ (p : Offer). slice_get links p.1) is ∙ in_option (slice_get links o.1) l named)).0 refl,
+      (All-contains (λ y. (m : Link) → slice_get links (now y).1 ≡ Some m → IsTrue true ↔ IsCountedIn labels numbers m) xs x all x_in l
+      (ap (λ (p : Offer). slice_get links p.1) is ∙ in_option (slice_get links o.1) l named)).0 refl,
   λ _. refl,
 )
 all_counted labels numbers links offers false now xs are leaving (k, x, lt, at, not) = (
@@ -128,7 +138,8 @@ all_counted labels numbers links offers false now xs are leaving (k, x, lt, at, 
       elim ((slice_get_cases links (now x).1).1) [
         | inl (l, within, some, here) ↦
             (not l some).1 (counted l ((flat_map_contains (λ (o : Offer). option_to_list (slice_get links o.1)) offers l).1
-            (any_from (λ (o : Offer). Contains (option_to_list (slice_get links o.1)) l) offers (now x) (i, i_lt, i_at) (subst (λ (o : Option Link). Contains (option_to_list o) l) (sym some) (contains_head l [])))))
+            (any_from (λ (o : Offer). Contains (option_to_list (slice_get links o.1)) l) offers (now x) (i, i_lt, i_at)
+            (subst (λ (o : Option Link). Contains (option_to_list o) l) (sym some) (contains_head l [])))))
         | inr (past, none) ↦ absurd (omega (arith, past, offer.within))
       ],
 )

@@ -98,7 +98,8 @@ none_where_no_picks numbers are = (to, back)
     back none i d lt = at (get_or numbers i d) (are i d lt) (sym (get_or-map pick_in numbers i d None lt) ∙ none i None (omega (arith, lt, length-map numbers pick_in)))
 
 -- the pick of a label, whose number stands among those of all
-pub number_at : (numbers : List ℕ) (picks : List (Option Link)) (c x : ℕ) → map pick_in numbers ≡ picks → All IsPickNumber numbers → IsVertex (length picks) c → x ≡ get_or numbers (c - 1) x → IsPickNumber x × (pick_of picks c ≡ pick_in x)
+pub number_at : (numbers : List ℕ) (picks : List (Option Link)) (c x : ℕ) → map pick_in numbers ≡ picks → All IsPickNumber numbers
+    → IsVertex (length picks) c → x ≡ get_or numbers (c - 1) x → IsPickNumber x × (pick_of picks c ≡ pick_in x)
 number_at numbers picks c x picks_are all vertex at =
     let within : c - 1 < length numbers = omega (arith, vertex.0, vertex.1, ap length picks_are, length-map numbers pick_in) in (
       subst IsPickNumber (sym at) (all (c - 1) x within),

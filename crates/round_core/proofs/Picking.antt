@@ -45,7 +45,8 @@ picked_is_pick labels S picks l are picked =
     (i + 1, (least_at labels S picks i l are here).least)
 
 -- so the label of the place is that of one end
-end_at : (labels : List ℕ) (S : LinkSet) (picks : List (Option Link)) (i : ℕ) (l : Link) → ArePicks labels S picks → get_or picks i None ≡ Some l → (i + 1 ≡ label_of labels l.low) ⊎ (i + 1 ≡ label_of labels l.high)
+end_at : (labels : List ℕ) (S : LinkSet) (picks : List (Option Link)) (i : ℕ) (l : Link) → ArePicks labels S picks
+    → get_or picks i None ≡ Some l → (i + 1 ≡ label_of labels l.low) ⊎ (i + 1 ≡ label_of labels l.high)
 end_at labels S picks i l are here = leaves_end labels l (i + 1) (least_at labels S picks i l are here).least.leaves
 
 -- the lesser label of a link's ends, as a place
@@ -60,7 +61,8 @@ first_at labels S picks i l are here test = record { here = here; first = first 
     first : (k : ℕ) → k < i → get_or picks k None ≢ Some l
     first k lt there = elim test [
       | inl is ↦ absurd (before (label_of labels l.low) (label_of labels l.high) (end_at labels S picks k l are there) is)
-      | inr other ↦ other (subst (λ j. get_or picks j None ≡ Some l) (lesser (label_of labels l.low) (label_of labels l.high) (end_at labels S picks k l are there) (end_at labels S picks i l are here)) there)
+      | inr other ↦ other
+          (subst (λ j. get_or picks j None ≡ Some l) (lesser (label_of labels l.low) (label_of labels l.high) (end_at labels S picks k l are there) (end_at labels S picks i l are here)) there)
     ]
       where
         before : (a b : ℕ) → (k + 1 ≡ a) ⊎ (k + 1 ≡ b) → min a b - 1 ≡ i → ⊥

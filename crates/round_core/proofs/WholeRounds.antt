@@ -1,5 +1,6 @@
 -- Rounds by the least links of a whole list, until one picks nothing.
-use Rattle.std.proofs.Common.{◌≡◌, ◌≢◌, ℕ, suc, ◌+◌, ◌-◌, ◌<◌, ◌≤◌, ◌^◌, ◌↔◌, Bool, true, false, not, cond, List, [], ◌∷◌, ◌++◌, length, get_or, Contains, Some, None, refl, sym, ap, ◌∙◌, subst, inl, inr, arith, eq-eqb}
+use Rattle.std.proofs.Common.{◌≡◌, ◌≢◌, ℕ, suc, ◌+◌, ◌-◌, ◌<◌, ◌≤◌, ◌^◌, ◌↔◌, Bool, true, false, not, cond, List}
+use Rattle.std.proofs.Common.{[], ◌∷◌, ◌++◌, length, get_or, Contains, Some, None, refl, sym, ap, ◌∙◌, subst, inl, inr, arith, eq-eqb}
 use Rattle.std.specs.Prelude.{Option}
 use Rattle.std.proofs.lemmas.Bool.{cases_lt}
 use Rattle.std.proofs.lemmas.List.{get_or_default}
@@ -45,7 +46,8 @@ same_at : (links taken taken' : List Link) (n n' i i' : ℕ) → n' ≡ n → i'
 same_at links taken taken' n n' i i' same_n same_i same_taken same = search arith
 
 -- what so many rounds took, and what the next one picks
-module _ (links : List Link) (p : Progress) (picks : List (Option Link)) (is : IsProgress p) (ends : EndsUpTo (vertices p) links) (so_far : HasRoundsOf links p) (are : ArePicks p.labels (Contains links) picks) where
+module _ (links : List Link) (p : Progress) (picks : List (Option Link)) (is : IsProgress p)
+    (ends : EndsUpTo (vertices p) links) (so_far : HasRoundsOf links p) (are : ArePicks p.labels (Contains links) picks) where
   are_labels : AreLabels p.labels
   are_labels = labelling_is_labels (vertices p) (Contains p.taken) p.labels is.few_vertices is.labelling
 
@@ -107,7 +109,8 @@ module _ (links : List Link) (p : Progress) (picks : List (Option Link)) (is : I
       adds same = some (λ i d lt. none_at i d lt)
         where
           stays : (l : Link) (c : ℕ) → Contains links l → ¬ (Leaves p.labels l c)
-          stays = (adds_nothing (vertices p) links ends p.rounds p.labels (labelling_alike (vertices p) (Contains p.taken) (TakenAfter (vertices p) links p.rounds) p.labels so_far.same is.labelling)).0 same
+          stays = (adds_nothing (vertices p) links ends p.rounds p.labels
+              (labelling_alike (vertices p) (Contains p.taken) (TakenAfter (vertices p) links p.rounds) p.labels so_far.same is.labelling)).0 same
 
           none : (pick : Option Link) → Contains picks pick → pick ≡ None
           none None pick_in = refl

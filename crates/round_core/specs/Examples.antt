@@ -1,12 +1,32 @@
 -- A worked example for each law of a solver: three vertices, each two of them linked by the same weight.
-use Rattle.std.specs.Prelude.{◌≡◌, List, [], ◌∷◌, Option, Some, None}
+use Rattle.std.specs.Prelude.{◌≡◌, ℕ, pos, List, [], ◌∷◌, Option, Some, None}
+use Rattle.std.proofs.Common.{lit≤, lit<}
 use Rattle.links.specs.declared.links.Link.{Link}
 use Rattle.links.specs.Forest.{IsForestOf}
-use Rattle.round_theory.specs.Examples.{link_1_2, link_1_3, triangle, two_sides, apart}
 use Rattle.round_core.specs.Solver.{Progress, IsStepFault, missed, HasRoundsOf, IsRoundOf}
 use Rattle.round_core.specs.declared.solver.Turn.TheVariants.{Merged, Done}
 use Rattle.round_core.specs.declared.solver.SolveFault.{SolveFault}
 use Rattle.round_core.specs.declared.solver.SolveFault.TheVariants.{Memory}
+
+abbrev pub link_1_2 : Link
+link_1_2 = record { weight = pos 5; low = 1; high = 2; from_one = lit≤ tt; ascending = lit< tt; in_limit = lit≤ tt; weight_fits = record { sfits = lit< tt } }
+
+abbrev pub link_2_3 : Link
+link_2_3 = record { weight = pos 5; low = 2; high = 3; from_one = lit≤ tt; ascending = lit< tt; in_limit = lit≤ tt; weight_fits = record { sfits = lit< tt } }
+
+abbrev pub link_1_3 : Link
+link_1_3 = record { weight = pos 5; low = 1; high = 3; from_one = lit≤ tt; ascending = lit< tt; in_limit = lit≤ tt; weight_fits = record { sfits = lit< tt } }
+
+abbrev pub triangle : List Link
+triangle = link_1_2 ∷ (link_2_3 ∷ (link_1_3 ∷ []))
+
+-- its forest
+abbrev pub two_sides : List Link
+two_sides = link_1_2 ∷ (link_1_3 ∷ [])
+
+-- each vertex labels itself
+abbrev pub apart : List ℕ
+apart = 1 ∷ (2 ∷ (3 ∷ []))
 
 -- before the first round
 abbrev pub at_start : Progress

@@ -65,6 +65,10 @@ pub record AreParents (labels roots : List ℕ) (picks : List (Option Link)) (pa
   pub together : (f : ℕ → ℕ) → ((c : ℕ) → Contains roots c → f c ≡ f (slice_index parents c))
       → (l : Link) → Picked picks l → f (label_of labels l.low) ≡ f (label_of labels l.high)
 
+-- what were the roots' parents are so still
+abbrev pub StayParents : List ℕ → List ℕ → List ℕ → Type 0
+StayParents roots old new = (labels : List ℕ) (picks : List (Option Link)) → AreParents labels roots picks old → AreParents labels roots picks new
+
 -- the parents, once root c has its parent's parent
 abbrev pub jumped : List ℕ → ℕ → List ℕ
 jumped parents c = slice_set parents c (slice_index parents (slice_index parents c))

@@ -5,7 +5,7 @@ ghost use Rattle.links.specs.Labels.{label_of, AreLabels};
 ghost use Rattle.round_theory.specs.Labelling.{IsVertex, IsRelabelling};
 ghost use Rattle.round_theory.specs.Offers.{Leaves};
 ghost use Rattle.round_core.specs.Picks.{pick_of, Picked, AreNoPicks, HaveAllPicks, ArePicksOfHearings};
-ghost use Rattle.round_core.specs.Roots.{IsRoot, AreRoots, HasEndLabels, IsLed, IsLedBy, Gives, TakesPicked, ArePointers, AreParents, IsSettled, AreSettled, Descend, IsLeastUnder, CanStep, Relabels, jumped};
+ghost use Rattle.round_core.specs.Roots.{IsRoot, AreRoots, HasEndLabels, IsLed, IsLedBy, Gives, TakesPicked, ArePointers, AreParents, StayParents, IsSettled, AreSettled, Descend, IsLeastUnder, CanStep, Relabels, jumped};
 
 use crate::picks::Picks;
 use limits::MAX_VERTICES;
@@ -231,8 +231,7 @@ fn join_led<A: Allocator>(picking: Picking<A>, parents: &mut [u32])
 fn jump(roots: &[u32], parents: &mut [u32]) -> bool
     requires { ArePointers roots.now parents.old }
     ensures pointers { ArePointers roots.now parents.new }
-    ensures parents { (labels : List ℕ) (picks : List (Option TheLink))
-        → AreParents labels roots.now picks parents.old → AreParents labels roots.now picks parents.new }
+    ensures parents { StayParents roots.now parents.old parents.new }
     ensures descend { (rank : ℕ → ℕ) → Descend roots.now rank parents.old → Descend roots.now rank parents.new }
     ensures lower { (result ≡ true) → (rank : ℕ → ℕ) → Descend roots.now rank parents.old → sum_by rank parents.new < sum_by rank parents.old }
     ensures settled { (result ≡ false) → AreSettled roots.now parents.new }

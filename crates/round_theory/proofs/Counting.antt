@@ -35,7 +35,8 @@ size_grows : (e y : ℕ) (ys : List ℕ) → size_of e ys ≤ size_of e (y ∷ y
 size_grows e y ys = search (arith, cases_eq, size-hit, size-miss)
 
 -- Where every place that had one of two labels has the label e in a new list, e counts at least what they counted together.
-pub sizes_add : (c d e : ℕ) (old new : List ℕ) → length old ≡ length new → c ≢ d → ((k : ℕ) → k < length old → get_or old k 0 ≡ c → get_or new k 0 ≡ e) → ((k : ℕ) → k < length old → get_or old k 0 ≡ d → get_or new k 0 ≡ e) → size_of c old + size_of d old ≤ size_of e new
+pub sizes_add : (c d e : ℕ) (old new : List ℕ) → length old ≡ length new → c ≢ d → ((k : ℕ) → k < length old → get_or old k 0 ≡ c → get_or new k 0 ≡ e)
+    → ((k : ℕ) → k < length old → get_or old k 0 ≡ d → get_or new k 0 ≡ e) → size_of c old + size_of d old ≤ size_of e new
 sizes_add c d e [] new long other from_c from_d = omega (arith, size-nil c, size-nil d)
 sizes_add c d e (x ∷ old) [] long other from_c from_d = absurd (omega arith)
 sizes_add c d e (x ∷ old) (y ∷ new) long other from_c from_d =

@@ -77,7 +77,8 @@ not_between k l m k_not m_not below = search (arith, trichotomy, below_trans)
 -- The least link of the list that leaves c is the least of its shard, so it is named; and of the named links, which
 -- stand in the list, none is less. Another way round, each link of a shard that leaves c is no less than the
 -- one that the shard's offers name for c.
-pub light_offers_suffice : (links : List Link) (labels : List ℕ) (heard : List Hearing) → HaveLinksOf heard links → AreAllLight labels heard → (c : ℕ) (l : Link) → IsLeastLeaving labels (IsNamed heard) c l ↔ IsLeastLeaving labels (Contains links) c l
+pub light_offers_suffice : (links : List Link) (labels : List ℕ) (heard : List Hearing) → HaveLinksOf heard links
+    → AreAllLight labels heard → (c : ℕ) (l : Link) → IsLeastLeaving labels (IsNamed heard) c l ↔ IsLeastLeaving labels (Contains links) c l
 light_offers_suffice links labels heard covers light c l = (to, back)
   where
     light_at : (h : Hearing) → Contains heard h → AreLightOffers h.shard labels h.offers
@@ -109,7 +110,8 @@ light_offers_suffice links labels heard covers light c l = (to, back)
     back : IsLeastLeaving labels (Contains links) c l → IsLeastLeaving labels (IsNamed heard) c l
     back is = least_of_fewer labels (IsNamed heard) (Contains links) c l in_links (named ((covers l).0 is.member) is) is
 
-pub any_cut_any_order : (labels : List ℕ) (cut heard : List Hearing) → IsPermutation cut heard → AreAllLight labels cut → (c : ℕ) (l : Link) → IsLeastLeaving labels (IsNamed heard) c l ↔ IsLeastLeaving labels (Contains (flat_map (λ h. h.shard) cut)) c l
+pub any_cut_any_order : (labels : List ℕ) (cut heard : List Hearing) → IsPermutation cut heard → AreAllLight labels cut
+    → (c : ℕ) (l : Link) → IsLeastLeaving labels (IsNamed heard) c l ↔ IsLeastLeaving labels (Contains (flat_map (λ h. h.shard) cut)) c l
 any_cut_any_order labels cut heard moved light =
     light_offers_suffice (flat_map (λ h. h.shard) cut) labels heard covers (All-permutation (λ h. AreLightOffers h.shard labels h.offers) cut heard moved light)
   where

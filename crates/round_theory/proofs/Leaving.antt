@@ -109,7 +109,8 @@ least_leaving labels (l ∷ links) c = more (leaves_dec labels l c) (least_leavi
       ];
     }
 
-    more : Decided (Leaves labels l c) → ((k : Link) × IsLeastLeaving labels (Contains links) c k) ⊎ ((m : Link) → Contains links m → ¬ (Leaves labels m c)) → ((k : Link) × IsLeastLeaving labels (Contains (l ∷ links)) c k) ⊎ ((m : Link) → Contains (l ∷ links) m → ¬ (Leaves labels m c))
+    more : Decided (Leaves labels l c) → ((k : Link) × IsLeastLeaving labels (Contains links) c k) ⊎ ((m : Link) → Contains links m → ¬ (Leaves labels m c))
+        → ((k : Link) × IsLeastLeaving labels (Contains (l ∷ links)) c k) ⊎ ((m : Link) → Contains (l ∷ links) m → ¬ (Leaves labels m c))
     more (inr fails) (inl (k, is)) = inl (k, stays k is (λ leaves. absurd (fails leaves)))
     more (inr fails) (inr none) = inr (λ m m_in leaves. elim (contains_cases l m links m_in) [ inl same ↦ fails (subst (λ x. Leaves labels x c) same leaves) | inr in_links ↦ none m in_links leaves ])
     more (inl leaves) (inr none) = inl (l, first leaves (λ m m_in m_leaves below. none m m_in m_leaves))
@@ -132,7 +133,8 @@ leaves_both_ends labels l c = search (arith, leaves_apart, leaves_end, leaves_lo
 
 -- A set spans a list exactly where no link of the list leaves a label: a link whose ends are joined has one label at
 -- both, and where each link is so, a walk over the list becomes one over the set.
-pub spans_where_none_leaves : (n : ℕ) (links : List Link) (S : LinkSet) (labels : List ℕ) → EndsUpTo n links → IsLabelling n S labels → Spans S links ↔ ((l : Link) (c : ℕ) → Contains links l → ¬ (Leaves labels l c))
+pub spans_where_none_leaves : (n : ℕ) (links : List Link) (S : LinkSet) (labels : List ℕ) → EndsUpTo n links
+    → IsLabelling n S labels → Spans S links ↔ ((l : Link) (c : ℕ) → Contains links l → ¬ (Leaves labels l c))
 spans_where_none_leaves n links S labels ends is = (to, back)
   where
     to : Spans S links → (l : Link) (c : ℕ) → Contains links l → ¬ (Leaves labels l c)

@@ -10,4 +10,3 @@ pub mod OfferSteps
 pub mod Unions
 pub mod LightOffers
 pub mod RoundSteps
-pub mod Worked

@@ -56,14 +56,17 @@ ends_bound labels (x ∷ links) = more (ends_bound labels links)
     more had = record {
       bound = had.bound + label_of labels x.low + label_of labels x.high + 1;
       above = λ l l_in. elim (contains_cases x l links l_in) [
-        | inl is ↦ subst (λ (y : Link). (label_of labels y.low < had.bound + label_of labels x.low + label_of labels x.high + 1) × (label_of labels y.high < had.bound + label_of labels x.low + label_of labels x.high + 1)) (sym is) (omega arith, omega arith)
+        | inl is ↦ subst
+            (λ (y : Link). (label_of labels y.low < had.bound + label_of labels x.low + label_of labels x.high + 1)
+            × (label_of labels y.high < had.bound + label_of labels x.low + label_of labels x.high + 1)) (sym is) (omega arith, omega arith)
         | inr in_links ↦ let old = had.above l in_links in (omega (arith, old.0), omega (arith, old.1))
       ];
     }
 
 -- Label by label, up to a number above all labels of ends: a link leaves the labels of its ends alone.
 pub light_offers_exist : (links : List Link) (labels : List ℕ) → (offers : List Offer) × AreLightOffers links labels offers
-light_offers_exist links labels = (had.offers, record { ascending = had.are.ascending; exact = λ c i. (λ c_in. ((had.are.exact c i).0 c_in).1, λ offer. (had.are.exact c i).1 (below c i offer, offer)) })
+light_offers_exist links labels =
+    (had.offers, record { ascending = had.are.ascending; exact = λ c i. (λ c_in. ((had.are.exact c i).0 c_in).1, λ offer. (had.are.exact c i).1 (below c i offer, offer)) })
   where
     ends : EndsBound labels links
     ends = ends_bound labels links

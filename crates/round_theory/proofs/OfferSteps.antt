@@ -47,7 +47,8 @@ module _ (links : List Link) (labels : List ℕ) (ends : EndsUpTo (length labels
   }
 
 -- no link leaves the next label
-pub offers_skip : (links : List Link) (labels : List ℕ) (bound : ℕ) (offers : List Offer) → AreOffersBelow links labels bound offers → ((l : Link) → Contains links l → ¬ (Leaves labels l bound)) → AreOffersBelow links labels (bound + 1) offers
+pub offers_skip : (links : List Link) (labels : List ℕ) (bound : ℕ) (offers : List Offer) → AreOffersBelow links labels bound offers
+    → ((l : Link) → Contains links l → ¬ (Leaves labels l bound)) → AreOffersBelow links labels (bound + 1) offers
 offers_skip links labels bound offers are none = record {
   ascending = are.ascending;
   exact = λ c i. (
@@ -63,7 +64,8 @@ offers_skip links labels bound offers are none = record {
 }
 
 -- or a light offer for it is added
-pub offers_push : (links : List Link) (labels : List ℕ) (bound place : ℕ) (offers : List Offer) → AreOffersBelow links labels bound offers → IsLightOffer links labels bound place → AreOffersBelow links labels (bound + 1) (offers ++ (bound, place) ∷ [])
+pub offers_push : (links : List Link) (labels : List ℕ) (bound place : ℕ) (offers : List Offer) → AreOffersBelow links labels bound offers
+    → IsLightOffer links labels bound place → AreOffersBelow links labels (bound + 1) (offers ++ (bound, place) ∷ [])
 offers_push links labels bound place offers are light = record {
   ascending = all_pairs_push (λ a b. a.0 < b.0) offers (bound, place) are.ascending (λ k d lt. ((are.exact (get_or offers k d).0 (get_or offers k d).1).0 (Contains-get_or offers k d lt)).0);
   exact = λ c i. (to c i, back c i);

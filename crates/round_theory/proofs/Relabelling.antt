@@ -1,5 +1,6 @@
 -- A labelling made link by link: at first each vertex labels itself, and a link makes the labels of its ends one.
-use Rattle.std.proofs.Common.{◌≡◌, ◌≢◌, ℕ, ◌+◌, ◌-◌, ◌<◌, ◌≤◌, ◌⊎◌, ◌==◌, ◌↔◌, min, max, cond, List, [], ◌∷◌, ◌++◌, length, get_or, take, Contains, refl, sym, ap, ◌∙◌, subst, inl, inr, arith, eq-eqb, ne_eqb}
+use Rattle.std.proofs.Common.{◌≡◌, ◌≢◌, ℕ, ◌+◌, ◌-◌, ◌<◌, ◌≤◌, ◌⊎◌, ◌==◌, ◌↔◌, min, max, cond, List, []}
+use Rattle.std.proofs.Common.{◌∷◌, ◌++◌, length, get_or, take, Contains, refl, sym, ap, ◌∙◌, subst, inl, inr, arith, eq-eqb, ne_eqb}
 use Rattle.std.specs.Prelude.{if◌then◌else◌}
 use Rattle.std.proofs.lemmas.Bool.{cases_eq, cases_lt}
 use Rattle.std.proofs.lemmas.List.{take_more}
@@ -28,7 +29,8 @@ labelling_none n labels long own = record {
 -- labels of their own vertices are the labelling by no links
 pub apart_by_no_links : (n : ℕ) (labels : List ℕ) → AreApart n labels ↔ IsLabelling n (Contains []) labels
 apart_by_no_links n labels = (
-  λ apart. labelling_none n labels apart.vertices (λ k lt. let back : k + 1 - 1 ≡ k = omega arith in subst (λ j. get_or labels j 0 ≡ k + 1) back (apart.itself (k + 1) (omega arith) (omega (arith, apart.vertices)))),
+  λ apart. labelling_none n labels apart.vertices
+      (λ k lt. let back : k + 1 - 1 ≡ k = omega arith in subst (λ j. get_or labels j 0 ≡ k + 1) back (apart.itself (k + 1) (omega arith) (omega (arith, apart.vertices)))),
   λ is. record {
     vertices = is.each_vertex;
     itself = λ v low high. sym (joins_equal (Contains []) (λ x. x) (λ l l_in. absurd (contains_none l l_in)) v (label_of labels v) (is.least v (low, high)).joined);
@@ -41,12 +43,14 @@ pub record IsMoved (n from to : ℕ) (old new : List ℕ) : Type 0 where
   pub moved : (v : ℕ) → IsVertex n v → label_of old v ≡ from → label_of new v ≡ to
   pub kept : (v : ℕ) → IsVertex n v → label_of old v ≢ from → label_of new v ≡ label_of old v
 
-pub moved_by_test : (n from to : ℕ) (old new : List ℕ) → length old ≡ n → length new ≡ n → ((k : ℕ) → k < length old → get_or new k 0 ≡ (if get_or old k 0 == from then to else get_or old k 0)) → IsMoved n from to old new
+pub moved_by_test : (n from to : ℕ) (old new : List ℕ) → length old ≡ n → length new ≡ n
+    → ((k : ℕ) → k < length old → get_or new k 0 ≡ (if get_or old k 0 == from then to else get_or old k 0)) → IsMoved n from to old new
 moved_by_test n from to old new old_long new_long each = search (arith, cond, eq-eqb, ne_eqb)
 
 -- One more link: the greater of its ends' labels gives way to the lesser. Each vertex stays joined to its label; and
 -- where the link joins it to further vertices, those have one of the two labels at least.
-module _ (n : ℕ) (S : LinkSet) (old new : List ℕ) (l : Link) (is : IsLabelling n S old) (l_ends : l.high ≤ n) (moved : IsMoved n (max (label_of old l.low) (label_of old l.high)) (min (label_of old l.low) (label_of old l.high)) old new) where
+module _ (n : ℕ) (S : LinkSet) (old new : List ℕ) (l : Link) (is : IsLabelling n S old) (l_ends : l.high ≤ n)
+    (moved : IsMoved n (max (label_of old l.low) (label_of old l.high)) (min (label_of old l.low) (label_of old l.high)) old new) where
   abbrev a : ℕ
   a = label_of old l.low
 
@@ -114,7 +118,8 @@ prefix_with_link links i x within read l = (to, back)
     back l_in = elim (Contains-push_cases (take i links) x l (subst (λ xs. Contains xs l) (sym prefix) l_in)) [ inl in_prefix ↦ inl in_prefix | inr same ↦ inr (sym same) ]
 
 -- the labels after one more link of a list
-pub labelling_more : (n : ℕ) (links : List Link) (i : ℕ) (x : Link) (old new : List ℕ) → i < length links → x ≡ get_or links i x → x.high ≤ n → IsLabelling n (Contains (take i links)) old → IsMoved n (max (label_of old x.low) (label_of old x.high)) (min (label_of old x.low) (label_of old x.high)) old new → IsLabelling n (Contains (take (i + 1) links)) new
+pub labelling_more : (n : ℕ) (links : List Link) (i : ℕ) (x : Link) (old new : List ℕ) → i < length links → x ≡ get_or links i x → x.high ≤ n → IsLabelling n (Contains (take i links)) old
+    → IsMoved n (max (label_of old x.low) (label_of old x.high)) (min (label_of old x.low) (label_of old x.high)) old new → IsLabelling n (Contains (take (i + 1) links)) new
 labelling_more n links i x old new within read ends is moved =
     labelling_alike n (WithLink (Contains (take i links)) x) (Contains (take (i + 1) links)) new (prefix_with_link links i x within read)
     (labelling_one_more n (Contains (take i links)) old new x is ends moved)

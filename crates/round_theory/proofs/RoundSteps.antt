@@ -19,7 +19,8 @@ pub nothing_taken : (n : ℕ) (links : List Link) → SameLinks (Contains []) (T
 nothing_taken n links l = (contains_none l, λ none. absurd none)
 
 -- one round more
-pub taken_more : (n : ℕ) (links taken added : List Link) (i : ℕ) → SameLinks (Contains taken) (TakenAfter n links i) → AreRoundPicks n links taken added → SameLinks (Contains (taken ++ added)) (TakenAfter n links (i + 1))
+pub taken_more : (n : ℕ) (links taken added : List Link) (i : ℕ) → SameLinks (Contains taken) (TakenAfter n links i)
+    → AreRoundPicks n links taken added → SameLinks (Contains (taken ++ added)) (TakenAfter n links (i + 1))
 taken_more n links taken added i before picks = rw (add-one) (round_by_round n links taken added i before picks)
 
 -- what is taken after so many rounds, each of which added something, and what the next adds
@@ -29,7 +30,8 @@ pub record AreRoundsSoFar (n : ℕ) (links taken added : List Link) (rounds : �
   pub earlier : (k : ℕ) → k < rounds → ¬ (SameLinks (TakenAfter n links (suc k)) (TakenAfter n links k))
 
 -- where there is something to add, the round adds it
-pub round_adds : (n : ℕ) (links taken added : List Link) (rounds : ℕ) → EndsUpTo n links → AreRoundsSoFar n links taken added rounds → 0 < length added → ¬ (SameLinks (TakenAfter n links (suc rounds)) (TakenAfter n links rounds))
+pub round_adds : (n : ℕ) (links taken added : List Link) (rounds : ℕ) → EndsUpTo n links → AreRoundsSoFar n links taken added rounds
+    → 0 < length added → ¬ (SameLinks (TakenAfter n links (suc rounds)) (TakenAfter n links rounds))
 round_adds n links taken [] rounds ends are some same = omega arith
 round_adds n links taken (x ∷ added) rounds ends are some same =
     let (labels, is, picks) = are.next in
@@ -59,7 +61,8 @@ all_pairs_append R xs ys xs_pairs ys_pairs across i j d lt within = elim (cases_
       let j_in : j - length xs < length ys = omega (arith, within, length-append xs ys) in
       let at_j = get_or-append_right xs ys (length xs) j d refl j_right in
       elim (cases_lt i (length xs)) [
-        | inl i_left ↦ subst₂ R (sym (get_or_append_left xs ys d i i_left)) (sym at_j) (across (get_or xs i d) (get_or ys (j - length xs) d) (Contains-get_or xs i d i_left) (Contains-get_or ys (j - length xs) d j_in))
+        | inl i_left ↦ subst₂ R (sym (get_or_append_left xs ys d i i_left)) (sym at_j)
+            (across (get_or xs i d) (get_or ys (j - length xs) d) (Contains-get_or xs i d i_left) (Contains-get_or ys (j - length xs) d j_in))
         | inr i_right ↦
             let order : i - length xs < j - length xs = omega arith in
             subst₂ R (sym (get_or-append_right xs ys (length xs) i d refl i_right)) (sym at_j) (ys_pairs (i - length xs) (j - length xs) d order j_in)

@@ -71,7 +71,8 @@ picks_at labels links (x ∷ some) = more (picks_for labels links (label_of labe
         | inr in_some ↦ Contains-append_right a.picks (b.picks ++ rest.picks) l (Contains-append_right b.picks rest.picks l (rest.low k l in_some is))
       ];
       high = λ k l k_in is. elim (contains_cases x k some k_in) [
-        | inl same ↦ Contains-append_right a.picks (b.picks ++ rest.picks) l (Contains-append_left b.picks rest.picks l (b.all l (subst (λ (y : Link). IsLeastLeaving labels (Contains links) (label_of labels y.high) l) same is)))
+        | inl same ↦ Contains-append_right a.picks (b.picks ++ rest.picks) l
+            (Contains-append_left b.picks rest.picks l (b.all l (subst (λ (y : Link). IsLeastLeaving labels (Contains links) (label_of labels y.high) l) same is)))
         | inr in_some ↦ Contains-append_right a.picks (b.picks ++ rest.picks) l (Contains-append_right b.picks rest.picks l (rest.high k l in_some is))
       ];
     }
@@ -138,7 +139,8 @@ module _ (n : ℕ) (links : List Link) where
   rounds_keep i (suc j) l is_in = let same : suc (j + i) ≡ suc j + i = omega arith in subst (λ k. TakenAfter n links k l) same (inl (rounds_keep i j l is_in))
 
   -- either some link of the list has ends of different labels, or no link of it leaves a label
-  pub leaving_or_none : (labels : List ℕ) (some : List Link) → ((l : Link) × Contains some l × (label_of labels l.low ≢ label_of labels l.high)) ⊎ ((l : Link) → Contains some l → label_of labels l.low ≡ label_of labels l.high)
+  pub leaving_or_none : (labels : List ℕ) (some : List Link)
+      → ((l : Link) × Contains some l × (label_of labels l.low ≢ label_of labels l.high)) ⊎ ((l : Link) → Contains some l → label_of labels l.low ≡ label_of labels l.high)
   leaving_or_none labels [] = inr (λ l l_in. absurd (contains_none l l_in))
   leaving_or_none labels (x ∷ some) = elim (cases_eq (label_of labels x.low) (label_of labels x.high)) [
     | inr apart ↦ inl (x, contains_head x some, apart)
@@ -154,7 +156,8 @@ module _ (n : ℕ) (links : List Link) where
     taken_ends i labels is l taken = (ends_label n (TakenAfter n links i) labels is l (set_ends n links ends l (rounds_in_forest i l taken).0)).1 (joins_link (TakenAfter n links i) l taken)
 
     -- A round adds nothing exactly where no link leaves a label: where one does, the least that does is added, and it wasn't taken.
-    pub adds_nothing : (i : ℕ) (labels : List ℕ) → IsLabelling n (TakenAfter n links i) labels → SameLinks (TakenAfter n links (suc i)) (TakenAfter n links i) ↔ ((l : Link) (c : ℕ) → Contains links l → ¬ (Leaves labels l c))
+    pub adds_nothing : (i : ℕ) (labels : List ℕ) → IsLabelling n (TakenAfter n links i) labels
+        → SameLinks (TakenAfter n links (suc i)) (TakenAfter n links i) ↔ ((l : Link) (c : ℕ) → Contains links l → ¬ (Leaves labels l c))
     adds_nothing i labels is = (to, λ none l. (back none l, λ old. inl old))
       where
         to : SameLinks (TakenAfter n links (suc i)) (TakenAfter n links i) → (l : Link) (c : ℕ) → Contains links l → ¬ (Leaves labels l c)
@@ -207,9 +210,11 @@ module _ (n : ℕ) (links : List Link) where
         apart same = leaves_apart new l c leaves (still l.low l.high (low_vertex n l l_ends) (high_vertex n l l_ends) same)
 
         -- u and x are in one old component, y in another, and the round joins x and y
-        two_joined : (u x y : ℕ) → IsVertex n u → IsVertex n x → IsVertex n y → label_of new u ≡ c → label_of old x ≡ label_of old u → label_of old y ≢ label_of old u → label_of new x ≡ label_of new y → 2 ^ i ≤ size_of (label_of old u) old → 2 ^ i ≤ size_of (label_of old y) old → 2 ^ suc i ≤ size_of c new
+        two_joined : (u x y : ℕ) → IsVertex n u → IsVertex n x → IsVertex n y → label_of new u ≡ c → label_of old x ≡ label_of old u → label_of old y ≢ label_of old u
+            → label_of new x ≡ label_of new y → 2 ^ i ≤ size_of (label_of old u) old → 2 ^ i ≤ size_of (label_of old y) old → 2 ^ suc i ≤ size_of c new
         two_joined u x y u_vertex x_vertex y_vertex has inside outside joined u_size y_size =
-            let sum : size_of (label_of old u) old + size_of (label_of old y) old ≤ size_of c new = sizes_add (label_of old u) (label_of old y) c old new (is_old.each_vertex ∙ sym is_new.each_vertex) (λ same. outside (sym same)) from_u from_y in
+            let sum : size_of (label_of old u) old + size_of (label_of old y) old ≤ size_of c new =
+            sizes_add (label_of old u) (label_of old y) c old new (is_old.each_vertex ∙ sym is_new.each_vertex) (λ same. outside (sym same)) from_u from_y in
             omega (arith, sum, u_size, y_size, pow-suc 2 i)
           where
             place : (labels : List ℕ) (k : ℕ) → label_of labels (k + 1) ≡ get_or labels k 0
@@ -232,12 +237,14 @@ module _ (n : ℕ) (links : List Link) where
             by_pick : (k : Link) → IsLeastLeaving old (Contains links) (label_of old u) k → Leaves old k (label_of old u) → 2 ^ suc i ≤ size_of c new
             by_pick k is (inl (inside, outside)) =
                 two_joined u k.low k.high u_vertex (low_vertex n k (set_ends n links ends k is.member)) (high_vertex n k (set_ends n links ends k is.member)) has inside outside
-                (one_new k.low k.high (low_vertex n k (set_ends n links ends k is.member)) (high_vertex n k (set_ends n links ends k is.member)) (joins_link (TakenAfter n links (suc i)) k (inr (old, is_old, (label_of old u, is)))))
+                (one_new k.low k.high (low_vertex n k (set_ends n links ends k is.member)) (high_vertex n k (set_ends n links ends k is.member))
+                (joins_link (TakenAfter n links (suc i)) k (inr (old, is_old, (label_of old u, is)))))
                 (before old is_old l (label_of old u) l_in left)
                 (before old is_old k (label_of old k.high) is.member (leaves_high old k (leaves_apart old k (label_of old u) is.leaves)))
             by_pick k is (inr (outside, inside)) =
                 two_joined u k.high k.low u_vertex (high_vertex n k (set_ends n links ends k is.member)) (low_vertex n k (set_ends n links ends k is.member)) has inside outside
-                (sym (one_new k.low k.high (low_vertex n k (set_ends n links ends k is.member)) (high_vertex n k (set_ends n links ends k is.member)) (joins_link (TakenAfter n links (suc i)) k (inr (old, is_old, (label_of old u, is))))))
+                (sym (one_new k.low k.high (low_vertex n k (set_ends n links ends k is.member)) (high_vertex n k (set_ends n links ends k is.member))
+                (joins_link (TakenAfter n links (suc i)) k (inr (old, is_old, (label_of old u, is))))))
                 (before old is_old l (label_of old u) l_in left)
                 (before old is_old k (label_of old k.low) is.member (leaves_low old k (leaves_apart old k (label_of old u) is.leaves)))
 
@@ -287,7 +294,8 @@ module _ (n : ℕ) (links : List Link) where
       | inr none ↦ absurd (elim (still_or_large n) [ inl still ↦ none n (omega arith) still | inr large ↦ omega (arith, large, lt_pow n, pow-suc 2 n) ])
     ]
       where
-        of_least : (r : ℕ) → SameLinks (TakenAfter n links (suc r)) (TakenAfter n links r) → ((k : ℕ) → SameLinks (TakenAfter n links (suc k)) (TakenAfter n links k) → r ≤ k) → (r : ℕ) × IsMergingRounds n links r × ((q : ℕ) → IsMergingRounds n links q → q ≡ r)
+        of_least : (r : ℕ) → SameLinks (TakenAfter n links (suc r)) (TakenAfter n links r) → ((k : ℕ) → SameLinks (TakenAfter n links (suc k)) (TakenAfter n links k) → r ≤ k)
+            → (r : ℕ) × IsMergingRounds n links r × ((q : ℕ) → IsMergingRounds n links q → q ≡ r)
         of_least r still least =
             let is : IsMergingRounds n links r = record { still = still; first = λ k lt same. let le : r ≤ k = least k same in absurd (omega arith) } in
             (r, is, λ q is_q. rounds_unique r q is is_q)
@@ -317,7 +325,8 @@ module _ (n : ℕ) (links : List Link) where
     round_in_time i adds = elim (still_or_large i) [ inl still ↦ absurd (adds still) | inr large ↦ large ]
 
 -- A step of a solver is a round: its labelling is the round's, and so are its picks.
-pub round_by_round : (n : ℕ) (links taken added : List Link) (i : ℕ) → SameLinks (Contains taken) (TakenAfter n links i) → AreRoundPicks n links taken added → SameLinks (Contains (taken ++ added)) (TakenAfter n links (suc i))
+pub round_by_round : (n : ℕ) (links taken added : List Link) (i : ℕ) → SameLinks (Contains taken) (TakenAfter n links i)
+    → AreRoundPicks n links taken added → SameLinks (Contains (taken ++ added)) (TakenAfter n links (suc i))
 round_by_round n links taken added i before (labels, is, picks) l = (to, back)
   where
     is_round : IsLabelling n (TakenAfter n links i) labels
@@ -340,7 +349,8 @@ pub least_leaving_alike : (labels : List ℕ) (S R : LinkSet) (c : ℕ) (l : Lin
 least_leaving_alike labels S R c l same is = record { member = (same l).0 is.member; leaves = is.leaves; least = λ m m_in. is.least m ((same m).1 m_in) }
 
 -- Lists with the same links have the same rounds: by the same labels they have the same picks.
-rounds_alike_to : (n : ℕ) (links other : List Link) → SameLinks (Contains links) (Contains other) → (i : ℕ) → SameLinks (TakenAfter n links i) (TakenAfter n other i) → IsPartOf (TakenAfter n links (suc i)) (TakenAfter n other (suc i))
+rounds_alike_to : (n : ℕ) (links other : List Link) → SameLinks (Contains links) (Contains other) → (i : ℕ)
+    → SameLinks (TakenAfter n links i) (TakenAfter n other i) → IsPartOf (TakenAfter n links (suc i)) (TakenAfter n other (suc i))
 rounds_alike_to n links other same i before l (inl old) = inl ((before l).0 old)
 rounds_alike_to n links other same i before l (inr (labels, is, (c, least))) =
     inr (labels, labelling_alike n (TakenAfter n links i) (TakenAfter n other i) labels before is, (c, least_leaving_alike labels (Contains links) (Contains other) c l same least))

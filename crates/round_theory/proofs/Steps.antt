@@ -97,7 +97,8 @@ module _ (n : ℕ) (S P : LinkSet) (labels : List ℕ) (S_ends : HasEndsUpTo n S
         };
   }
 
-pub joined_by_steps : (n : ℕ) (taken added : List Link) (labels : List ℕ) → EndsUpTo n taken → EndsUpTo n added → IsLabelling n (Contains taken) labels → (u v : ℕ) → IsVertex n u → IsVertex n v → Joins (Contains (taken ++ added)) u v ↔ JoinsOver labels (Contains added) u v
+pub joined_by_steps : (n : ℕ) (taken added : List Link) (labels : List ℕ) → EndsUpTo n taken → EndsUpTo n added → IsLabelling n (Contains taken) labels
+    → (u v : ℕ) → IsVertex n u → IsVertex n v → Joins (Contains (taken ++ added)) u v ↔ JoinsOver labels (Contains added) u v
 joined_by_steps n taken added labels taken_ends added_ends is u v u_vertex v_vertex = (
   λ joined. over_from_joined n (Contains taken) (Contains added) labels (set_ends n taken taken_ends) (set_ends n added added_ends) is u v (same.0 joined),
   λ over. same.1 (joined_from_over n (Contains taken) (Contains added) labels (set_ends n taken taken_ends) (set_ends n added added_ends) is u v u_vertex v_vertex over),
@@ -106,7 +107,8 @@ joined_by_steps n taken added labels taken_ends added_ends is u v u_vertex v_ver
     same : Joins (Contains (taken ++ added)) u v ↔ Joins (Either (Contains taken) (Contains added)) u v
     same = joins_alike (Contains (taken ++ added)) (Either (Contains taken) (Contains added)) (append_either taken added) u v
 
-pub relabelled_by_steps : (n : ℕ) (taken added : List Link) (labels : List ℕ) → EndsUpTo n taken → EndsUpTo n added → IsLabelling n (Contains taken) labels → (new : List ℕ) → IsLabelling n (Contains (taken ++ added)) new ↔ IsRelabelling n labels (Contains added) new
+pub relabelled_by_steps : (n : ℕ) (taken added : List Link) (labels : List ℕ) → EndsUpTo n taken → EndsUpTo n added
+    → IsLabelling n (Contains taken) labels → (new : List ℕ) → IsLabelling n (Contains (taken ++ added)) new ↔ IsRelabelling n labels (Contains added) new
 relabelled_by_steps n taken added labels taken_ends added_ends is new = (
   λ by_both. relabelling_from_labelling n (Contains taken) (Contains added) labels (set_ends n taken taken_ends) (set_ends n added added_ends) is new
       (labelling_alike n (Contains (taken ++ added)) (Either (Contains taken) (Contains added)) new (append_either taken added) by_both),
@@ -145,7 +147,8 @@ relabelling_is_labels n P old new few re = record {
         let at = re.least v vertex in
         let again = re.least (label_of new v) at.vertex in
         let le : label_of new (label_of new v) ≤ label_of new v = again.least (label_of new v) at.vertex (over_refl old P (label_of new v)) in
-        let ge : label_of new v ≤ label_of new (label_of new v) = at.least (label_of new (label_of new v)) again.vertex (over_trans old P v (label_of new v) (label_of new (label_of new v)) at.joined again.joined) in
+        let ge : label_of new v ≤ label_of new (label_of new v) =
+        at.least (label_of new (label_of new v)) again.vertex (over_trans old P v (label_of new v) (label_of new (label_of new v)) at.joined again.joined) in
         record { from_one = at.vertex.0; at_most_itself = at.least v vertex (over_refl old P v); own = omega arith }
 
 -- A pick leaves a component of the taken links, so they don't join its ends.
@@ -166,7 +169,8 @@ picks_close_no_cycle n S O labels ends is none = no_cycle_either S (IsPick label
           | inr in_Q ↦ least.least out.link (each out.link in_Q).0.1.member out.leaves (each out.link in_Q).1
         ]
 
-pub added_close_no_cycle : (O : LinkSet) (n : ℕ) (taken added : List Link) (labels : List ℕ) → EndsUpTo n taken → IsLabelling n (Contains taken) labels → HasNoCycle (Contains taken) → IsPartOf (Contains added) (IsPick labels O) → HasNoCycle (Contains (taken ++ added))
+pub added_close_no_cycle : (O : LinkSet) (n : ℕ) (taken added : List Link) (labels : List ℕ) → EndsUpTo n taken → IsLabelling n (Contains taken) labels
+    → HasNoCycle (Contains taken) → IsPartOf (Contains added) (IsPick labels O) → HasNoCycle (Contains (taken ++ added))
 added_close_no_cycle O n taken added labels ends is none part =
     no_cycle_part (Contains (taken ++ added)) (Either (Contains taken) (IsPick labels O)) to
     (picks_close_no_cycle n (Contains taken) O labels (set_ends n taken ends) is none)
@@ -178,5 +182,6 @@ added_close_no_cycle O n taken added labels ends is none part =
 pub pick_is_new : (O : LinkSet) (n : ℕ) (taken : List Link) (labels : List ℕ) → EndsUpTo n taken → IsLabelling n (Contains taken) labels → (l : Link) → IsPick labels O l → O l × ¬ (Contains taken l)
 pick_is_new O n taken labels ends is l pick = (pick.1.member, pick_apart n (Contains taken) O labels (set_ends n taken ends) is l pick)
 
-pub picked_from_both_sides : (O : LinkSet) (labels : List ℕ) (c d : ℕ) (l : Link) → IsLeastLeaving labels O c l → IsLeastLeaving labels O d l → c ≢ d → ((c ≡ label_of labels l.low) × (d ≡ label_of labels l.high)) ⊎ ((c ≡ label_of labels l.high) × (d ≡ label_of labels l.low))
+pub picked_from_both_sides : (O : LinkSet) (labels : List ℕ) (c d : ℕ) (l : Link) → IsLeastLeaving labels O c l → IsLeastLeaving labels O d l
+    → c ≢ d → ((c ≡ label_of labels l.low) × (d ≡ label_of labels l.high)) ⊎ ((c ≡ label_of labels l.high) × (d ≡ label_of labels l.low))
 picked_from_both_sides O labels c d l for_c for_d other = search (arith, leaves_end)

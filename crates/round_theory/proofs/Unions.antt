@@ -23,7 +23,8 @@ named_either first second l = (to, back)
     back (inr (k, h, lt, at, names)) = any_from (λ (h : Hearing). Names h l) (first ++ second) h (Contains-append_right first second h (k, lt, at)) names
 
 -- a least link of the one set is one of both where none of the other that leaves the label is below it
-pub least_stays : (S T U : LinkSet) → SameLinks U (Either S T) → (labels : List ℕ) (c : ℕ) (l : Link) → IsLeastLeaving labels S c l → ((m : Link) → T m → Leaves labels m c → ¬ (IsBelow m l)) → IsLeastLeaving labels U c l
+pub least_stays : (S T U : LinkSet) → SameLinks U (Either S T) → (labels : List ℕ) (c : ℕ) (l : Link)
+    → IsLeastLeaving labels S c l → ((m : Link) → T m → Leaves labels m c → ¬ (IsBelow m l)) → IsLeastLeaving labels U c l
 least_stays S T U both labels c l is others = search arith
 
 -- and a least link of both is one of the set that has it
@@ -35,7 +36,8 @@ either_turned S T U both l = search arith
 
 -- The least of both sets is the least of the one that has it, and isn't above the other's. The other way round, what
 -- isn't above the other set's least isn't above any of its links.
-pub least_of_both : (S T U : LinkSet) → SameLinks U (Either S T) → (labels : List ℕ) (c : ℕ) (l m : Link) → IsLeastLeaving labels S c l → IsLeastLeaving labels T c m → (k : Link) → IsLeastLeaving labels U c k ↔ IsLesser l m k
+pub least_of_both : (S T U : LinkSet) → SameLinks U (Either S T) → (labels : List ℕ) (c : ℕ) (l m : Link)
+    → IsLeastLeaving labels S c l → IsLeastLeaving labels T c m → (k : Link) → IsLeastLeaving labels U c k ↔ IsLesser l m k
 least_of_both S T U both labels c l m is_l is_m k = (to, back)
   where
     to : IsLeastLeaving labels U c k → IsLesser l m k

@@ -3,6 +3,5 @@ pub mod Labelling
 pub mod Offers
 pub mod Rounds
 pub mod Laws
-pub mod Examples
 pub mod Ports
 pub mod Exchanges

@@ -16,14 +16,14 @@
 //! - A [`Port`] is whom rounds ask: what is known of it says what each ask did, and when its answers are honest.
 //!
 //! Where to start a change: the definitions stand in `specs/` (`Labelling`, `Offers`, `Rounds`) and the laws in
-//! `specs/Laws`; [`laws`] promises them, and [`examples`] applies each to a triangle. A layer above cites a law, and
-//! shows of its own step alone that it labels, offers, picks or adds what the definition says. A clause can't speak of
+//! `specs/Laws`; [`laws`] promises them. That their premises can be met is shown on a triangle: by `round_core::examples`, and by
+//! calls in `worked_runs`. A layer above cites a law, and shows of its own step alone that it labels, offers, picks or adds
+//! what the definition says. A clause can't speak of
 //! every set of links, so the laws of picks stand for the members of a list, and for what the offers that were heard
 //! name. What rounds need of whatever answers them stands in `port`, with `specs/Ports` (what an ask does to a port)
 //! and `specs/Exchanges` (what a port was asked and answered); `wires` has ports over lines of bytes.
 #![tactic(auto)]
 
-pub mod examples;
 mod fault;
 pub mod laws;
 mod port;

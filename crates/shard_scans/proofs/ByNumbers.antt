@@ -80,13 +80,15 @@ module _ (links : List Link) (labels marks names : List ℕ) (ends : EndsUpTo (l
   module _ (few : length links ≤ 2 ^ 24) (within : (c : ℕ) → IsMarked marks c → number_of marks c ≤ length names) (table : List Best)
       (best : AreBestUpTo (length names) links (numbered_labels marks labels) 0 (length links) table) where
     -- where a place is kept for a number, it is the best one for the label of the number
-    kept_label : (p place : ℕ) → p < length table + 1 → IsKept table p place → (c : ℕ) × IsMarked marks c × HasItsName marks names c × (number_of marks c ≡ p) × IsBestPlace links labels 0 (length links) c place
+    kept_label : (p place : ℕ) → p < length table + 1 → IsKept table p place
+        → (c : ℕ) × IsMarked marks c × HasItsName marks names c × (number_of marks c ≡ p) × IsBestPlace links labels 0 (length links) c place
     kept_label p place lt kept =
         let own = numbered_labels marks labels in
         let vertex : IsVertex (length names) p = (kept.from_one, omega (arith, lt, best.each_vertex)) in
         let b = kept_place links own 0 (length links) p (best_of table p) (best.best p vertex) (λ none. kept.some (sym kept.here ∙ none)) in
         let at = subst (IsBestPlace links own 0 (length links) p) kept.here b in
-        let (c, c_is, named, number, leaves) = leaves_back marks labels names at.link (end_at (length labels) links place at.link ends at.in_list at.here) (has place at.link at.in_list at.here) p at.leaves in
+        let (c, c_is, named, number, leaves) =
+        leaves_back marks labels names at.link (end_at (length labels) links place at.link ends at.in_list at.here) (has place at.link at.in_list at.here) p at.leaves in
         (c, c_is, named, number, best_from_own c place c_is (subst (λ k. IsBestPlace links own 0 (length links) k place) (sym number) at))
 
     -- the labels that a link leaves have numbers
@@ -150,9 +152,11 @@ module _ (links : List Link) (labels marks names : List ℕ) (ends : EndsUpTo (l
               let (kept, named) = light_kept c place light in
               let (k, lt, here) = (places.exact (number_of marks c) place).1 kept in
               let x : Offer = (number_of marks c, place) in
-              let there : Contains (map (offered names) pairs) (offered names x) = (k, omega (arith, lt, length-map pairs (offered names)), get_or-map (offered names) pairs k x (offered names x) lt ∙ ap (offered names) here) in
+              let there : Contains (map (offered names) pairs) (offered names x) =
+              (k, omega (arith, lt, length-map pairs (offered names)), get_or-map (offered names) pairs k x (offered names x) lt ∙ ap (offered names) here) in
               subst (λ (o : Offer). Contains (map (offered names) pairs) o) (λ j. (named j, place)) there
 
       -- and so they are once they are written back over the pairs
-      pub written_light : (n : ℕ) (read written : List Offer) → length written ≡ n → read ≡ pairs → written ≡ map (offered names) read → AreLightOffers links labels (take n (written ++ drop (length written) pairs))
+      pub written_light : (n : ℕ) (read written : List Offer) → length written ≡ n → read ≡ pairs
+          → written ≡ map (offered names) read → AreLightOffers links labels (take n (written ++ drop (length written) pairs))
       written_light n read written size read_is written_is = search (arith, written_back, light_by_numbers)

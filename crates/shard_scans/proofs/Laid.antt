@@ -34,7 +34,8 @@ aside_coarser links labels finer from to coarsens aside q l from_start before_en
 
 pub live_coarser : (links : List Link) (labels finer : List ℕ) (from to : ℕ) (places : List ℕ) → Coarsens labels finer → AreLive links finer from to places → AreLive links labels from to places
 live_coarser links labels finer from to [] coarsens (le, aside) = (le, aside_coarser links labels finer from to coarsens aside)
-live_coarser links labels finer from to (p ∷ places) coarsens (le, aside, rest) = (le, aside_coarser links labels finer from p coarsens aside, live_coarser links labels finer (p + 1) to places coarsens rest)
+live_coarser links labels finer from to (p ∷ places) coarsens (le, aside, rest) =
+    (le, aside_coarser links labels finer from p coarsens aside, live_coarser links labels finer (p + 1) to places coarsens rest)
 
 -- a link that is parallel to a quiet one is quiet
 quiet_parallel : (labels : List ℕ) (l m : Link) → IsInside labels l → AreParallel labels l m → IsInside labels m
@@ -108,7 +109,8 @@ module _ (links : List Link) (labels : List ℕ) where
   aside_over from p to aside quiet behind q l from_start before_end read = search (arith, cases_lt, quiet_parallel)
 
   -- so a live place whose link falls quiet may be left out
-  pub live_without : (from p to : ℕ) (places : List ℕ) → from ≤ p → AreAside links labels from p → ((l : Link) → l ≡ get_or links p l → IsInside labels l) → AreLive links labels (p + 1) to places → AreLive links labels from to places
+  pub live_without : (from p to : ℕ) (places : List ℕ) → from ≤ p → AreAside links labels from p
+      → ((l : Link) → l ≡ get_or links p l → IsInside labels l) → AreLive links labels (p + 1) to places → AreLive links labels from to places
   live_without from p to [] le aside quiet (le', behind) = (omega (arith, le, le'), aside_over from p to aside quiet behind)
   live_without from p to (x ∷ places) le aside quiet (le', behind, rest) = (omega (arith, le, le'), aside_over from p x aside quiet behind, rest)
 
@@ -139,5 +141,6 @@ module _ (links : List Link) (labels : List ℕ) where
   ]
 
   -- a link both of whose ends have one label is quiet
-  pub quiet_alone : (i : ℕ) (l : Link) → i < length links → l ≡ get_or links i l → l.high ≤ length labels → label_of labels l.low ≡ label_of labels l.high → (m : Link) → m ≡ get_or links i m → IsInside labels m
+  pub quiet_alone : (i : ℕ) (l : Link) → i < length links → l ≡ get_or links i l → l.high ≤ length labels
+      → label_of labels l.low ≡ label_of labels l.high → (m : Link) → m ≡ get_or links i m → IsInside labels m
   quiet_alone i l within read ends same m m_read = subst (IsInside labels) (one_read links i l m within read m_read) (record { labelled = ends; one_label = same })

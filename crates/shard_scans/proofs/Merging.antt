@@ -37,7 +37,8 @@ module _ (links : List Link) (labels : List ℕ) (from at to : ℕ) where
   pub merged_all : (table : List Best) (done : ℕ) → length labels ≤ done → AreMerged links labels from at to done table → AreBest links labels from to table
   merged_all table done all are = record { each_vertex = are.each_vertex; best = λ c vertex. are.merged c vertex (omega (arith, vertex.1, all)) }
 
-  module _ (le : at ≤ to) (few : length links ≤ 2 ^ 24) (later : List Best) (later_are : AreBest links labels at to later) (i : ℕ) (within : i < length later) (d : Best) (table : List Best) (are : AreMerged links labels from at to i table) where
+  module _ (le : at ≤ to) (few : length links ≤ 2 ^ 24) (later : List Best) (later_are : AreBest links labels at to later)
+      (i : ℕ) (within : i < length later) (d : Best) (table : List Best) (are : AreMerged links labels from at to i table) where
     abbrev next : Best
     next = get_or later i d
 
@@ -61,7 +62,8 @@ module _ (links : List Link) (labels : List ℕ) (from at to : ℕ) where
       merged = λ c c_vertex c_le. elim (cases_eq c (i + 1)) [
         | inl is ↦ subst (λ k. Keeps links labels from to k (best_of (set table i after) k)) (sym is)
             (subst (Keeps links labels from to (i + 1)) (sym at_after)
-            (lesser labels (i + 1) from at to from_le (subst (Keeps links labels from at (i + 1)) at_next (are.rest (i + 1) vertex (omega arith))) (kept_place links labels at to (i + 1) next next_keeps some)))
+            (lesser labels (i + 1) from at to from_le (subst (Keeps links labels from at (i + 1)) at_next (are.rest (i + 1) vertex (omega arith)))
+            (kept_place links labels at to (i + 1) next next_keeps some)))
         | inr other ↦ subst (Keeps links labels from to c) (sym (elsewhere c c_vertex other)) (are.merged c c_vertex (omega (arith, c_le, other)))
       ];
       rest = λ c c_vertex lt. subst (Keeps links labels from at c) (sym (elsewhere c c_vertex (λ same. omega (arith, same, lt)))) (are.rest c c_vertex (omega (arith, lt)));

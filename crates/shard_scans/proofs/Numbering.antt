@@ -160,10 +160,12 @@ number_is inside words c w same counted within inside_read =
     (omega (arith, before, ones, all), omega (arith, marked_rise (marks_of words) (c - 1) (length words * 64) (omega (arith, within)), counted.few))
 
 -- the number of a marked label has a place among the names
-pub number_within_names : (words : List MarkWord) (names : List ℕ) → length names ≡ marked_in (marks_of words) (length words) → (c : ℕ) → IsMarked (marks_of words) c → number_of (marks_of words) c ≤ length names
+pub number_within_names : (words : List MarkWord) (names : List ℕ) → length names ≡ marked_in (marks_of words) (length words)
+    → (c : ℕ) → IsMarked (marks_of words) c → number_of (marks_of words) c ≤ length names
 number_within_names words names size c is = search (arith, length-map, number_within)
 
-pub number_has_place : (words : List MarkWord) (names : List ℕ) (c : ℕ) → length names ≡ marked_in (marks_of words) (length words) → IsMarked (marks_of words) c → number_of (marks_of words) c - 1 < length names
+pub number_has_place : (words : List MarkWord) (names : List ℕ) (c : ℕ) → length names ≡ marked_in (marks_of words) (length words)
+    → IsMarked (marks_of words) c → number_of (marks_of words) c - 1 < length names
 number_has_place words names c size is = omega (arith, number_within_names words names size c is)
 
 -- a name is written, and others stand

@@ -43,7 +43,8 @@ module _ (labels marks names names' changed : List ℕ) (marked : HaveMarks labe
     (name_is : (i : ℕ) → i < length names → HasItsName marks names' (new_name labels (get_or names i 0))) where
   -- of the label of a number's name
   at_end : (x : ℕ) → IsVertex (length names) x → IsVertex (length labels) (get_or names (x - 1) x)
-      → (label_of changed x ≡ number_of marks (label_of labels (get_or names (x - 1) x))) × IsMarked marks (label_of labels (get_or names (x - 1) x)) × HasItsName marks names' (label_of labels (get_or names (x - 1) x))
+      → (label_of changed x ≡ number_of marks (label_of labels (get_or names (x - 1) x))) × IsMarked marks
+      (label_of labels (get_or names (x - 1) x)) × HasItsName marks names' (label_of labels (get_or names (x - 1) x))
   at_end x vertex name_vertex = search (arith, get_or_default)
 
   abbrev Ends : LiveLink → Type 0
@@ -67,7 +68,8 @@ module _ (labels marks names names' changed : List ℕ) (marked : HaveMarks labe
             ∙ later
             ∙ ap (λ t. map (numbered marks) t) (sym (packed_same labels e (shown names live) same))
         | inr (test, apart) ↦
-            let changed_apart : label_of changed l.low ≢ label_of changed l.high = λ same. apart (numbers_apart marks (label_of labels e.low) (label_of labels e.high) low.1 high.1 (sym low.0 ∙ same ∙ high.0)) in
+            let changed_apart : label_of changed l.low ≢ label_of changed l.high =
+            λ same. apart (numbers_apart marks (label_of labels e.low) (label_of labels e.high) low.1 high.1 (sym low.0 ∙ same ∙ high.0)) in
             let first : relabelled changed l ≡ numbered marks (relabelled labels e) = λ k. record { low = low.0 k; high = high.0 k; place = l.place } in
             packed_apart changed l live changed_apart
             ∙ ap (λ (m : LiveLink). m ∷ packed changed live) first

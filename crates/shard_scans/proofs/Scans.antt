@@ -1,5 +1,6 @@
 -- A pass over a shard's links, with a table of the best place for each label.
-use Rattle.std.proofs.Common.{◌≡◌, ◌≢◌, ℕ, ◌+◌, ◌-◌, ◌<◌, ◌≤◌, ◌^◌, ℤ, w32, w64, FitsSigned, to_z, of_z, List, length, get_or, set, replicate, true, Option, Some, None, Ordering, Less, nat_cmp, refl, sym, ap, ◌∙◌, subst, inl, inr, arith}
+use Rattle.std.proofs.Common.{◌≡◌, ◌≢◌, ℕ, ◌+◌, ◌-◌, ◌<◌, ◌≤◌, ◌^◌, ℤ, w32, w64, FitsSigned, to_z, of_z, List, length, get_or}
+use Rattle.std.proofs.Common.{set, replicate, true, Option, Some, None, Ordering, Less, nat_cmp, refl, sym, ap, ◌∙◌, subst, inl, inr, arith}
 use Rattle.std.specs.Int.Signed.{◌<ℤ◌, lt_z}
 use Rattle.std.specs.Ordering.{ordering_then}
 use Rattle.std.specs.Cmp.{int_cmp_is}
@@ -53,7 +54,8 @@ module _ (links : List Link) (labels : List ℕ) (from to c : ℕ) (kept : Best)
   pub kept_none : Keeps links labels from to c kept → length links ≤ 2 ^ 24 → kept.place ≡ no_best.place → NoneLeavesIn links labels from to c
   kept_none keeps few none = search arith
 
-module _ (links : List Link) (labels : List ℕ) (c from at to : ℕ) (le : from ≤ at) (next : Best) (next_says : SaysBest links next (Some next.place)) (next_is : IsBestPlace links labels at to c next.place) (kept : Best)
+module _ (links : List Link) (labels : List ℕ) (c from at to : ℕ) (le : from ≤ at) (next : Best)
+    (next_says : SaysBest links next (Some next.place)) (next_is : IsBestPlace links labels at to c next.place) (kept : Best)
     (keeps : Keeps links labels from at c kept) where
   -- what is known of the link that is kept
   abbrev OfKept : (Link → Type 0) → Type 0
@@ -82,7 +84,8 @@ module _ (links : List Link) (labels : List ℕ) (c from at to : ℕ) (le : from
           best_new links labels c from at to next.place le next_is p is (below is.link within read (says.2 is.link is.here))
 
 -- links that leave no label change nothing
-pub keeps_out : (links : List Link) (labels : List ℕ) (from at to c : ℕ) (kept : Best) → at ≤ to → NoneLeavesIn links labels at to c → Keeps links labels from at c kept → Keeps links labels from to c kept
+pub keeps_out : (links : List Link) (labels : List ℕ) (from at to c : ℕ) (kept : Best) → at ≤ to
+    → NoneLeavesIn links labels at to c → Keeps links labels from at c kept → Keeps links labels from to c kept
 keeps_out links labels from at to c kept le none keeps = record { best = keeps.best; says = keeps.says; is = best_goes_on links labels c from at to keeps.best le none keeps.is }
 
 -- links whose ends have one label leave none
@@ -114,7 +117,8 @@ module _ (count : ℕ) (links : List Link) (labels : List ℕ) (from i : ℕ) (w
       best : (c : ℕ) → IsVertex count c → Keeps links labels from (i + 1) c (best_of (set first (high - 1) at_high) c)
       best c vertex = elim (cases_eq c high) [
         | inl is ↦ subst (Keeps links labels from (i + 1) c)
-            (sym (ap (λ k. get_or (set first (high - 1) at_high) (k - 1) no_best) is ∙ get_or-set_same first (high - 1) at_high no_best (omega (arith, length-set table (low - 1) at_low, are.each_vertex, high_vertex))))
+            (sym (ap (λ k. get_or (set first (high - 1) at_high) (k - 1) no_best) is ∙ get_or-set_same first
+            (high - 1) at_high no_best (omega (arith, length-set table (low - 1) at_low, are.each_vertex, high_vertex))))
             (subst (λ k. Keeps links labels from (i + 1) k at_high) (sym is) high_best)
         | inr not_high ↦ elim (cases_eq c low) [
           | inl is ↦ subst (Keeps links labels from (i + 1) c)
@@ -133,5 +137,6 @@ pub end_at : (n : ℕ) (links : List Link) (i : ℕ) (l : Link) → EndsUpTo n l
 end_at n links i l ends within read = subst (λ (k : Link). k.high ≤ n) (sym read) (ends i l within)
 
 -- what a table keeps for a label, read by any default
-pub kept_at : (count : ℕ) (links : List Link) (labels : List ℕ) (from to : ℕ) (table : List Best) (c k : ℕ) (d : Best) → AreBestUpTo count links labels from to table → IsVertex count c → k ≡ c - 1 → Keeps links labels from to c (get_or table k d)
+pub kept_at : (count : ℕ) (links : List Link) (labels : List ℕ) (from to : ℕ) (table : List Best) (c k : ℕ) (d : Best)
+    → AreBestUpTo count links labels from to table → IsVertex count c → k ≡ c - 1 → Keeps links labels from to c (get_or table k d)
 kept_at count links labels from to table c k d are vertex at = search (arith, get_or_default)

@@ -69,7 +69,8 @@ pub same_place : (links : List Link) (labels : List ℕ) (label p place : ℕ) �
 same_place links labels label p place best (l, least, at) = search (arith, cases_lt)
 
 -- the best places are the light offers
-module _ (links : List Link) (labels : List ℕ) (bests : List Best) (few : length links ≤ 2 ^ 24) (ends : EndsUpTo (length labels) links) (all : AreLabels labels) (are : AreBest links labels 0 (length links) bests) where
+module _ (links : List Link) (labels : List ℕ) (bests : List Best) (few : length links ≤ 2 ^ 24)
+    (ends : EndsUpTo (length labels) links) (all : AreLabels labels) (are : AreBest links labels 0 (length links) bests) where
   kept_is_light : (label place : ℕ) → label < length bests + 1 → IsKept bests label place → IsLightOffer links labels label place
   kept_is_light label place lt kept =
       let vertex : IsVertex (length labels) label = (kept.from_one, omega (arith, lt, are.each_vertex)) in
@@ -80,7 +81,8 @@ module _ (links : List Link) (labels : List ℕ) (bests : List Best) (few : leng
   light_is_kept label place (l, least, at) =
       let vertex = left_label_is_vertex labels l label all (set_ends (length labels) links ends l least.member) least.leaves in
       let keeps = are.best label vertex in
-      let some : (best_of bests label).place ≢ no_best.place = λ none. none_leaves links labels label (kept_none links labels 0 (length links) label (best_of bests label) keeps few none) l least.member least.leaves in
+      let some : (best_of bests label).place ≢ no_best.place =
+      λ none. none_leaves links labels label (kept_none links labels 0 (length links) label (best_of bests label) keeps few none) l least.member least.leaves in
       let same = same_place links labels label (best_of bests label).place place (kept_place links labels 0 (length links) label (best_of bests label) keeps some) (l, least, at) in
       (omega (arith, vertex, are.each_vertex), record { from_one = vertex.0; here = same; some = λ none. some (same ∙ none) })
 

@@ -66,7 +66,8 @@ module _ (links : List Link) (labels : List ℕ) where
     pub bests_none : (count : ℕ) (table : List Best) → AreBestUpTo count links labels 0 0 table → AreBestUpTo count links labels 0 (get_or (places_of old) 0 (length links)) table
     bests_none count table none = search (arith, live_first, bests_stay, front_is_quiet)
 
-    pub bests_all : (count i : ℕ) (table : List Best) → i ≡ length old → AreBestUpTo count links labels 0 (get_or (places_of old) i (length links)) table → AreBestUpTo count links labels 0 (length links) table
+    pub bests_all : (count i : ℕ) (table : List Best) → i ≡ length old
+        → AreBestUpTo count links labels 0 (get_or (places_of old) i (length links)) table → AreBestUpTo count links labels 0 (length links) table
     bests_all count i table at best = search (arith, places_count, live_end)
 
     module _ (i : ℕ) (within : i < length old) (d : LiveLink) where
@@ -100,7 +101,8 @@ module _ (links : List Link) (labels : List ℕ) where
             let (l, read, is) = written_here in
             let at : p ≡ here.place = p_is ∙ ap (λ (l : LiveLink). l.place) next_is in
             let end : get_or (places_of old) i (length links) ≡ p = get_or_default (places_of old) i (length links) 0 in_places ∙ place_is ∙ sym at in
-            let taken = takes count labels from l (subst (λ k. l ≡ get_or links k l) (sym at) read) (ap (λ (k : LiveLink). k.low) next_is ∙ is.low.2) (ap (λ (k : LiveLink). k.high) next_is ∙ is.high.2)
+            let taken = takes count labels from l (subst (λ k. l ≡ get_or links k l) (sym at) read)
+            (ap (λ (k : LiveLink). k.low) next_is ∙ is.low.2) (ap (λ (k : LiveLink). k.high) next_is ∙ is.high.2)
             (subst (λ k. from ≤ k) end le) (subst (λ k. AreBestUpTo count links labels from k table) end best) in
             let (le', aside) = live_next links labels 0 (length links) (places_of old) i 0 are.places in_places in
             let seen : from < get_or (places_of old) i 0 + 1 = omega (arith, le, get_or_default (places_of old) i (length links) 0 in_places) in
@@ -121,10 +123,15 @@ module _ (links : List Link) (labels : List ℕ) where
   module _ (place : ℕ) (l : Link) (within : place < length links) (read : l ≡ get_or links place l) (ends : l.high ≤ length labels) (live : List LiveLink) (before : AreWrittenBefore place live) where
     pub written_more : AreLabels labels → AreWrittenBefore (place + 1) (live ++ written_at labels l place ∷ [])
     written_more are = record {
-      places = subst (AreLive links labels 0 (place + 1)) (sym (map-append (λ (e : LiveLink). e.place) live (written_at labels l place ∷ []))) (live_push links labels 0 place (places_of live) before.places);
+      places = subst (AreLive links labels 0 (place + 1)) (sym (map-append (λ (e : LiveLink). e.place) live (written_at labels l place ∷ [])))
+          (live_push links labels 0 place (places_of live) before.places);
       written = All-append P live (written_at labels l place ∷ []) before.written
-          (All-cons P (written_at labels l place) [] (λ k k_read. subst (λ m. IsEntryOf labels m (written_at labels l place)) (one_read links place l k within read k_read) (own_written labels are l place ends)) (All-nil P));
-      own = All-append Own live (written_at labels l place ∷ []) before.own (All-cons Own (written_at labels l place) [] (relabelled_stands labels are (record { low = l.low; high = l.high; place = place }) (l.from_one, omega (arith, l.ascending, ends)) (omega (arith, l.from_one, l.ascending), ends)) (All-nil Own));
+          (All-cons P (written_at labels l place) []
+          (λ k k_read. subst (λ m. IsEntryOf labels m (written_at labels l place)) (one_read links place l k within read k_read) (own_written labels are l place ends)) (All-nil P));
+      own = All-append Own live (written_at labels l place ∷ []) before.own
+          (All-cons Own (written_at labels l place) []
+          (relabelled_stands labels are (record { low = l.low; high = l.high; place = place }) (l.from_one, omega (arith, l.ascending, ends)) (omega (arith, l.from_one, l.ascending), ends))
+          (All-nil Own));
     }
       where
         Own : LiveLink → Type 0

@@ -8,7 +8,7 @@ use Rattle.links.specs.Offers.{Offer}
 use Rattle.round_theory.specs.Labelling.{IsVertex}
 use Rattle.shard_scans.specs.declared.live.LiveLink.{LiveLink}
 use Rattle.shard_scans.specs.declared.numbers.MarkWord.{MarkWord}
-use Rattle.shard_scans.specs.Live.{AreLiveLinks, relabelled}
+use Rattle.shard_scans.specs.Live.{AreLiveLinks, packed, relabelled}
 
 -- no label of a word is marked
 abbrev pub no_marks : MarkWord
@@ -72,6 +72,10 @@ numbered_labels marks labels = map (number_of marks) labels
 abbrev pub HaveNames : List ℕ → List LiveLink → Type 0
 HaveNames names live = All (λ l. IsVertex (length names) l.low × IsVertex (length names) l.high) live
 
+-- both ends of what is written of each link are vertices with labels
+abbrev pub HaveLabels : List ℕ → List LiveLink → Type 0
+HaveLabels labels live = All (λ l. IsVertex (length labels) l.low × IsVertex (length labels) l.high) live
+
 -- a pair of a number and a place, with the name of the number in place of it
 abbrev pub offered : List ℕ → Offer → Offer
 offered names o = (slice_index names (o.0 - 1), o.1)
@@ -79,6 +83,10 @@ offered names o = (slice_index names (o.0 - 1), o.1)
 -- the label of a name, as of a vertex; label 1 where there is no such vertex
 abbrev pub new_name : List ℕ → ℕ → ℕ
 new_name labels name = slice_index_or labels (name - 1) 1
+
+-- the number of a name's label
+abbrev pub new_number : List ℕ → List ℕ → ℕ → ℕ
+new_number marks labels name = number_of marks (new_name labels name)
 
 -- what is listed of live links, by labels of vertices
 abbrev pub shown : List ℕ → List LiveLink → List LiveLink
@@ -110,6 +118,10 @@ pub record AreByNumbers (marks names : List ℕ) (by_labels live : List LiveLink
   pub numbered_are : live ≡ map (numbered marks) by_labels
   pub marked : All (AreBothMarked marks) by_labels
   pub named_are : All (AreBothNamed marks names) by_labels
+
+-- what was listed by numbers is so by those of the names' labels, without the links whose ends fall together
+abbrev pub Relists : List MarkWord → List ℕ → List ℕ → List LiveLink → List ℕ → List LiveLink → Type 0
+Relists words labels names live names' live' = AreByNumbers (marks_of words) names' (packed labels (shown names live)) live'
 
 -- live links by labels that stand for themselves are written with the numbers of these labels, which have names
 pub record AreLiveByNumbers (links : List Link) (labels marks names : List ℕ) (live : List LiveLink) : Type 0 where

@@ -14,6 +14,10 @@ pub record CanScan (scanned : Scanned) : Type 0 where
   pub ends : EndsUpTo (length scanned.labels.now) scanned.links.now
   pub labelled : AreLabels scanned.labels.now
 
+-- and a part of them
+abbrev pub CanScanPart : Scanned → Part → Type 0
+CanScanPart scanned part = CanScan scanned × (part.to ≤ length scanned.links.now)
+
 -- a table keeps the best place for each label, of the links of a part
 abbrev pub AreBestOf : Scanned → Part → List Best → Type 0
 AreBestOf scanned part table = AreBest scanned.links.now scanned.labels.now part.from part.to table

@@ -1,8 +1,6 @@
 //! The live links of a shard, listed by numbers of its own for the labels of their ends.
 ghost use Rattle.std.specs.Prelude.{◌≡◌, length, All, IfOk, OnOk, OnErr};
-ghost use Rattle.round_theory.specs.Labelling.{IsVertex};
-ghost use Rattle.shard_scans.specs.Live.{packed};
-ghost use Rattle.shard_scans.specs.Numbers.{marks_of, marked_in, AreCounted, AreBothMarked, AreByNumbers, HaveNames, HaveMarks, shown};
+ghost use Rattle.shard_scans.specs.Numbers.{marks_of, marked_in, AreCounted, AreBothMarked, AreByNumbers, HaveLabels, HaveNames, HaveMarks, Relists, shown};
 
 use crate::live::{LiveLink, pack};
 use crate::numbers::{Numbers, number_each, number_names};
@@ -41,13 +39,13 @@ impl<A: Allocator + Copy> Listed<A> {
         numbers: &Numbers<A>,
         count: usize,
     ) -> Result<(), AllocError>
-        requires ends { All (λ l. IsVertex (length labels.now) l.low × IsVertex (length labels.now) l.high) (shown self.old.names.items self.old.links.items) }
+        requires ends { HaveLabels labels.now (shown self.old.names.items self.old.links.items) }
         requires have_names { HaveNames self.old.names.items self.old.links.items }
         requires counted { AreCounted numbers.now }
         requires marked { HaveMarks labels.now (marks_of numbers.now) self.old.names.items }
         requires count { count ≡ marked_in (marks_of numbers.now) (length numbers.now) }
         ensures names { OnOk result (length self.new.names.items ≡ count) }
-        ensures numbered { OnOk result (AreByNumbers (marks_of numbers.now) self.new.names.items (packed labels.now (shown self.old.names.items self.old.links.items)) self.new.links.items) }
+        ensures numbered { OnOk result (Relists numbers.now labels.now self.old.names.items self.old.links.items self.new.names.items self.new.links.items) }
         ensures same_names { OnErr result (self.new.names.items ≡ self.old.names.items) }
         ensures same_links { OnErr result (self.new.links.items ≡ self.old.links.items) }
     {

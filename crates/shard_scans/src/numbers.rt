@@ -8,7 +8,7 @@ ghost use Rattle.std.specs.Prelude.{◌≡◌, ℕ, ◌+◌, ◌-◌, ◌*◌, �
 ghost use Rattle.links.specs.Labels.{AreLabels};
 ghost use Rattle.round_theory.specs.Labelling.{IsVertex};
 ghost use Rattle.shard_scans.specs.declared.live.LiveLink.{LiveLink};
-ghost use Rattle.shard_scans.specs.Numbers.{no_marks, marks_of, IsMarked, marked_in, AreCounted, number_of, numbered, HasItsName, AreBothMarked, AreBothNamed, HaveMarks, new_name};
+ghost use Rattle.shard_scans.specs.Numbers.{no_marks, marks_of, IsMarked, marked_in, AreCounted, number_of, numbered, HasItsName, AreBothMarked, AreBothNamed, HaveMarks, new_name, new_number};
 
 use crate::live::LiveLink;
 use std::alloc::{AllocError, Allocator};
@@ -206,7 +206,7 @@ pub(crate) fn number_names<A: Allocator + Copy>(
     requires marked { HaveMarks labels.now (marks_of numbers.now) old.now }
     requires names { length names.old ≡ marked_in (marks_of numbers.now) (length numbers.now) }
     requires room { length changed.old ≡ length old.now }
-    ensures numbered { (i : ℕ) → i < length old.now → slice_index changed.new i ≡ number_of (marks_of numbers.now) (new_name labels.now (slice_index old.now i)) }
+    ensures numbered { (i : ℕ) → i < length old.now → slice_index changed.new i ≡ new_number (marks_of numbers.now) labels.now (slice_index old.now i) }
     ensures named { (i : ℕ) → i < length old.now → HasItsName (marks_of numbers.now) names.new (new_name labels.now (slice_index old.now i)) }
 {
     for i in 0..old.len() {

@@ -2,7 +2,7 @@
 ghost use Rattle.std.specs.Prelude.{◌≡◌, ◌<◌, ◌≤◌, length, IfOk};
 ghost use denote.Param.Send.{IsSync, IsSend, Frees};
 ghost use Rattle.shard_scans.specs.Scanning.{AreBest};
-ghost use Rattle.shard_scans.specs.Parts.{CanScan, AreBestOf};
+ghost use Rattle.shard_scans.specs.Parts.{CanScan, CanScanPart, AreBestOf};
 
 use crate::live::{LiveLink, label_at};
 use crate::parts::{Part, Scanned};
@@ -54,11 +54,11 @@ pub(crate) fn best_between<R: Threads + Sync, A: Allocator + Copy + Send + Sync>
         to: part.to,
     };
     let front = move || -> Result<Table<A>, AllocError>
-        requires { IsSync R.row × IsSend A.row × Frees A.Allocator A.dealloc_token × (0 < halvings) × CanScan scanned × (first.to ≤ length scanned.links.now) }
+        requires { IsSync R.row × IsSend A.row × Frees A.Allocator A.dealloc_token × (0 < halvings) × CanScanPart scanned first }
         ensures { IfOk result (AreBestOf scanned.entry first) }
     { best_between(rt, alloc, scanned, first, halvings - 1) };
     let back = move || -> Result<Table<A>, AllocError>
-        requires { IsSync R.row × IsSend A.row × Frees A.Allocator A.dealloc_token × (0 < halvings) × CanScan scanned × (second.to ≤ length scanned.links.now) }
+        requires { IsSync R.row × IsSend A.row × Frees A.Allocator A.dealloc_token × (0 < halvings) × CanScanPart scanned second }
         ensures { IfOk result (AreBestOf scanned.entry second) }
     { best_between(rt, alloc, scanned, second, halvings - 1) };
     let (earlier, later) = join(rt, front, back);

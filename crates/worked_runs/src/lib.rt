@@ -7,6 +7,7 @@
 //!   rounds          the judge's answers, the order of answers, a book that several threads read
 //!   same            what is found beside what is expected
 //!   solving         a solver's steps, rounds past the bound, whole runs by one thread
+//!   triangle        what the laws of rounds say of the triangle, by calls whose contracts state their premises
 //!   wire_asks       asks of a worker over a line that stops, or over stored bytes in place of a worker; an engine's line
 //!                   once its session is over
 //! ```

@@ -4,4 +4,5 @@ mod relabelling;
 mod rounds;
 mod same;
 mod solving;
+mod triangle;
 mod wire_asks;

@@ -5,7 +5,7 @@ ghost use Rattle.links.specs.Labels.{label_of};
 ghost use Rattle.links.specs.Link.{EndsUpTo, IsAscending};
 ghost use Rattle.links.specs.LinkSet.{HasNoCycle};
 ghost use Rattle.link_key.specs.OpenLinks.{AreAllNumbers};
-ghost use Rattle.link_key.specs.Components.{IsAcyclic, AreLeastVertices, AreComponents, IsFirstWith};
+ghost use Rattle.link_key.specs.Components.{IsAcyclic, AreLeastVertices, AreComponents, AreFirsts, IsFirstWith};
 
 use super::rounds::{Renaming, join_components, open_vertices};
 use links::forests::is_ascending;
@@ -82,8 +82,7 @@ fn first_vertices<A: Allocator + Copy>(
     requires few { length numbers.now ≤ MAX_VERTICES + 1 }
     requires numbers { AreAllNumbers count numbers.now }
     ensures number { IfOk result (λ labels. length labels.items + 1 ≡ length numbers.now) }
-    ensures first { IfOk result (λ labels. (v : ℕ) → 1 ≤ v → v < length numbers.now
-        → IsFirstWith numbers.now (slice_index numbers.now v) (label_of labels.items v)) }
+    ensures first { IfOk result (λ labels. AreFirsts numbers.now labels.items) }
 {
     let mut table = vec![in alloc; 0; count as usize + 1]?;
     let firsts = table.as_mut_slice();

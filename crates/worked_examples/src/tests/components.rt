@@ -27,10 +27,12 @@ pub(crate) fn expect_components(
 
 #[test]
 fn components_of_forests(rt: HostRuntime) {
-    let rows: [(u32, &[Row], &[u32]); 8] = [
+    let rows: [(u32, &[Row], &[u32]); 10] = [
         (0, &[], &[]),
         (1, &[], &[1]),
         (3, &[], &[1, 2, 3]),
+        (3, &[(1, 2, 5)], &[1, 1, 3]),
+        (3, EQUAL_WEIGHTS.forest, &[1; 3]),
         (6, SMALL_NET.forest, &[1; 6]),
         (6, WIDE_WEIGHTS.forest, &[1; 6]),
         (8, A_PATH_OF_EIGHT.arcs, &[1; 8]),

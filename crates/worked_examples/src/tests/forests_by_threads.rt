@@ -2,7 +2,7 @@
 use super::drawn_lists::draw;
 use super::lists::links_between;
 use super::same::expect_same;
-use link_key::{Link, forest_of_par, keep_forest_par};
+use link_key::{Link, keep_forest_par};
 use std::alloc::{AllocError, Global};
 use std::process::Abort;
 use std::thread::Threads;
@@ -78,9 +78,6 @@ fn expect_by_threads(
     assert!(rt; n <= 1 << 26 && have_labels(links, n));
     for threads in THREADS {
         let list = links.to_vec(alloc).expect(rt, "memory");
-        let forest = forest_of_par(rt, threads, alloc, n, list).expect(rt, "memory");
-        expect_same(rt, (threads, forest.links()), (threads, wanted));
-        let list = links.to_vec(alloc).expect(rt, "memory");
         let kept = keep_forest_par(rt, threads, alloc, n, list).expect(rt, "memory");
         expect_same(rt, (threads, kept.as_slice()), (threads, wanted));
     }
@@ -123,8 +120,8 @@ fn solve_in(
     wanted: &[Link],
 ) -> Result<(), AllocError> {
     assert!(rt; n <= 1 << 26 && have_labels(links, n));
-    let forest = forest_of_par(rt, 3, memory, n, links.to_vec(memory)?)?;
-    expect_same(rt, forest.links(), wanted);
+    let kept = keep_forest_par(rt, 3, memory, n, links.to_vec(memory)?)?;
+    expect_same(rt, kept.as_slice(), wanted);
     Ok(())
 }
 

@@ -3,9 +3,10 @@ ghost use Rattle.std.specs.Prelude.{IsTrue};
 ghost use Rattle.links.specs.Least.{AreDistinct};
 ghost use Rattle.links.specs.Link.{EndsUpTo};
 
-use super::drawn_lists::expect_one_forest;
+use super::drawn_lists::{expect_forest, expect_one_forest};
 use super::same::expect_same;
 use link_key::{Forest, Labels, Link, Offers};
+use links::repeats::drop_usual_repeats;
 use std::alloc::Global;
 use std::process::Abort;
 use worked_graphs::{Row, WORKED, links_of};
@@ -33,6 +34,15 @@ fn forests_of_the_worked_graphs(rt: HostRuntime) {
         let forest = expect_one_forest(&rt, rt.alloc(), graph.n, graph.arcs);
         let wanted = links_between(&rt, rt.alloc(), graph.n, graph.forest);
         expect_same(&rt, forest.as_slice(), wanted.as_slice());
+    }
+}
+
+// A forest closes no cycle, so it is its own forest.
+#[test]
+fn forests_of_forests(rt: HostRuntime) {
+    for graph in WORKED {
+        let wanted = links_between(&rt, rt.alloc(), graph.n, graph.forest);
+        expect_forest(&rt, rt.alloc(), graph.n, graph.forest, wanted.as_slice());
     }
 }
 
@@ -92,4 +102,51 @@ fn offers_that_are_known(rt: HostRuntime) {
     let copy = Vec::from_slice(rt.alloc(), first.pairs()).expect(&rt, "memory");
     let again = Offers::of_known(copy);
     expect_same(&rt, again.pairs(), [(1, 0), (3, 2)].as_slice());
+}
+
+// Of these rows' links from an index on, those of other rows are left once repeats that stand side by side are dropped.
+fn expect_once(rt: &impl Abort, alloc: Global, arcs: &[Row], from: usize, wanted: &[Row]) {
+    let mut links = links_between(rt, alloc, 70, arcs);
+    assert!(rt; from <= links.len());
+    drop_usual_repeats(&mut links, from);
+    let wanted = links_between(rt, alloc, 70, wanted);
+    expect_same(rt, (from, links.as_slice()), (from, wanted.as_slice()));
+}
+
+// Two edges in both directions, and the first one again.
+const BOTH_WAYS: [Row; 6] = [
+    (1, 2, 7),
+    (2, 1, 7),
+    (2, 3, 5),
+    (3, 2, 5),
+    (2, 3, 5),
+    (1, 2, 7),
+];
+
+#[test]
+fn repeats_side_by_side(rt: HostRuntime) {
+    let once = [(1, 2, 7), (2, 3, 5), (1, 2, 7)];
+    let twice = [(1, 2, 7), (1, 2, 7), (2, 3, 5), (1, 2, 7)];
+    expect_once(&rt, rt.alloc(), &BOTH_WAYS, 0, &once);
+    expect_once(&rt, rt.alloc(), &BOTH_WAYS, 1, &once);
+    expect_once(&rt, rt.alloc(), &BOTH_WAYS, 2, &twice);
+    expect_once(&rt, rt.alloc(), &BOTH_WAYS, 5, &BOTH_WAYS);
+    expect_once(&rt, rt.alloc(), &BOTH_WAYS, 6, &BOTH_WAYS);
+    expect_once(&rt, rt.alloc(), &[], 0, &[]);
+}
+
+// The second of two equal links is the 64th, which is looked at, or the 65th, which isn't.
+#[test]
+fn repeats_past_the_sample(rt: HostRuntime) {
+    for first in [64, 65] {
+        let mut arcs = Vec::new(rt.alloc());
+        for head in 2..first {
+            arcs.push((1, head, 0)).expect(&rt, "memory");
+        }
+        arcs.push((69, 70, 0)).expect(&rt, "memory");
+        let once = arcs.clone().expect(&rt, "memory");
+        arcs.push((70, 69, 0)).expect(&rt, "memory");
+        let wanted = if first == 64 { &once } else { &arcs };
+        expect_once(&rt, rt.alloc(), arcs.as_slice(), 0, wanted.as_slice());
+    }
 }

@@ -8,7 +8,7 @@ use link_key::{Cut, Labels};
 use round_core::hook_relabel;
 use std::alloc::Global;
 use std::process::Abort;
-use worked_graphs::{Row, SMALL_NET};
+use worked_graphs::{EQUAL_WEIGHTS, Row, SMALL_NET};
 
 const MANY: u32 = 10_000;
 
@@ -39,13 +39,14 @@ fn labels_that_are_known(rt: HostRuntime) {
 
 // In the first round of the small net each vertex's least link is picked, and in the second the link between the two
 // components that are left. An answer that hides links makes fewer components one, whether or not what it names is
-// least; an empty one makes none. And there may be no vertex, or one.
+// least; an empty one makes none. And there may be no vertex, or one. The triangle's first link has joined 1 and 2, and its
+// last one joins 3 to them.
 #[test]
 fn rounds_of_small_graphs(rt: HostRuntime) {
     let net = SMALL_NET.arcs;
     let apart = [1, 2, 3, 4, 5, 6].as_slice();
     let merged = [1, 2, 1, 1, 2, 1].as_slice();
-    let rounds: [Round; 7] = [
+    let rounds: [Round; 8] = [
         (
             apart,
             net,
@@ -58,6 +59,12 @@ fn rounds_of_small_graphs(rt: HostRuntime) {
         (&[], &[], &[], &[]),
         (&[1], &[], &[], &[1]),
         (&[1, 2], &[(1, 2, 7)], &[(2, 0)], &[1, 1]),
+        (
+            &[1, 1, 3],
+            EQUAL_WEIGHTS.arcs,
+            &[(1, 2), (3, 2)],
+            &[1, 1, 1],
+        ),
     ];
     for round in rounds {
         expect_relabelled(&rt, rt.alloc(), round);

@@ -205,7 +205,7 @@ fn answers_in_any_order(rt: HostRuntime) {
 }
 
 // In the first round of the triangle 1 and 2 pick the link between them, and 3 that to 1.
-fn are_of_triangle(picks: &Picks) -> bool
+pub(crate) fn are_of_triangle(picks: &Picks) -> bool
     requires { length picks.now ≡ 3 }
 {
     let (least, next) = (Link::of_arc(1, 2, 5), Link::of_arc(1, 3, 5));

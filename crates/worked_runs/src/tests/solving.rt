@@ -185,6 +185,24 @@ fn steps_on_the_small_net(rt: HostRuntime) {
     expect_rounds(&rt, rt.alloc(), rounds)
 }
 
+// One round takes the triangle's forest, and the next finds no link to take. The second shard is heard first.
+#[test]
+fn steps_on_the_triangle(rt: HostRuntime) {
+    let ones = [1; 3].as_slice();
+    let steps: [Step; 2] = [
+        (&[1, 0], Turn::Merged(2), ones),
+        (&[0, 1], Turn::Done, ones),
+    ];
+    let rounds = Rounds {
+        n: 3,
+        arcs: EQUAL_WEIGHTS.arcs,
+        places: &[2],
+        steps: &steps,
+        forest: EQUAL_WEIGHTS.forest,
+    };
+    expect_rounds(&rt, rt.alloc(), rounds)
+}
+
 // No vertex, one, and two, in one shard and in as many as there may be: cut at no place, and at 4,095.
 #[test]
 fn steps_at_their_bounds(rt: HostRuntime) {

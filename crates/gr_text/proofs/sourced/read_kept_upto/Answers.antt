@@ -1,10 +1,10 @@
 use Rattle.std.proofs.Common.{[], subst, arith}
 use Rattle.gr_text.specs.Kept.{IsKeptReadOf}
-use Rattle.gr_text.proofs.Sourcing.{nothing_fed, nothing_kept}
+use Rattle.gr_text.proofs.Sourcing.{new_reader, nothing_fed}
 use Rattle.gr_text.proofs.sourced.read_kept_upto.Goals as goal
 
-pub read_rest-requires-clause-kept : goal.read_rest-requires-clause-kept
-read_rest-requires-clause-kept g c = ([], nothing_kept _ _ _ c.new.result c.requires.none c.requires.nothing c.new.ensures.nothing)
+pub read_rest-requires-clause-keeps : goal.read_rest-requires-clause-keeps
+read_rest-requires-clause-keeps g c = new_reader g.K.Keep c.args.keeper.now c.new.result c.requires.keeper c.new.ensures.no_fault c.new.ensures.nothing
 
 pub returns : goal.returns
 returns g c = search (arith, nothing_fed)

@@ -1,6 +1,6 @@
-use Rattle.std.proofs.Common.{◌≡◌, ℕ, List, ◌-◌, ◌≤◌, None}
+use Rattle.std.proofs.Common.{◌≡◌, ◌-◌, ◌≤◌}
 use Rattle.byte_streams.specs.Streams.{SourceState}
-use Rattle.gr_text.specs.Kept.{HasFollowed, HasKept}
+use Rattle.gr_text.specs.Following.{Follows, IsKeeping}
 use Rattle.gr_text.proofs.sourced.read_pieces.Given as goal
 
 -- the reader was fed what the source gave here
@@ -13,10 +13,9 @@ invariant-loop-read g l =
       limit : l.reader.limit ≡ l.fn.reader.limit;
       few : l.read ≤ l.reader.fed;
       within : l.read ≤ l.reader.limit;
-      clean : l.reader.fault ≡ None;
-      kept : (text : List ℕ) × HasKept keep.drops (keep.knows l.keeper) (keep.dropped l.keeper) l.reader text;
-      followed : (before : SourceState) → HasFollowed keep.drops (keep.knows l.fn.keeper) (keep.dropped l.fn.keeper) 0 l.fn.reader before (source.state l.fn.source)
-          → HasFollowed keep.drops (keep.knows l.keeper) (keep.dropped l.keeper) 0 l.reader before (source.state l.source);
+      keeps : IsKeeping keep l.keeper l.reader;
+      followed : (before : SourceState) → Follows keep l.fn.keeper 0 l.fn.reader before (source.state l.fn.source)
+          → Follows keep l.keeper 0 l.reader before (source.state l.source);
     }
 
 abbrev pub decreases-loop-read : goal.decreases-loop-read

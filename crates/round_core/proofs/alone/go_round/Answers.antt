@@ -28,6 +28,7 @@ returns g c =
     let progress = c.labels.ensures.progress in
     let ends = joined_ends (vertices p) c.args.cut.now c.requires.ends in
     record {
-      round = IfOk-weaker c.step.result (IsTurn picks p c.step.new.self) (IsRoundOf links p c.step.new.self) (λ turn. round_of links p picks progress ends c.requires.so_far are c.step.new.self turn) c.step.ensures.turn;
+      round = IfOk-weaker c.step.result (IsTurn picks p c.step.new.self) (IsRoundOf links p c.step.new.self)
+          (λ turn. round_of links p picks progress ends c.requires.so_far are c.step.new.self turn) c.step.ensures.turn;
       fault = IfErr-weaker c.step.result (IsStepFault p picks) (λ fault. fault ≡ Memory) (only_memory links p picks progress ends c.requires.so_far are) c.step.ensures.fault;
     }

@@ -18,4 +18,5 @@ pub returns : goal.returns
 returns g c =
     let new = c.count_leaving.new.numbers in
     let items = with_items_is c.into_numbers-numbers.result new (c.count_leaving.auto.numbers ∙ c.as_mut_slice.ensures.len) in
-    picks_are c.over.result c.args.labels.now c.args.links.now c.args.links.now new _ c.of_numbers.result (c.over.ensures ∙ c.as_slice.ensures.labels) refl items c.of_numbers.ensures c.count_leaving.ensures
+    picks_are c.over.result c.args.labels.now c.args.links.now c.args.links.now new _ c.of_numbers.result
+    (c.over.ensures ∙ c.as_slice.ensures.labels) refl items c.of_numbers.ensures c.count_leaving.ensures

@@ -1,7 +1,5 @@
-use Rattle.round_theory.specs.Examples.{triangle, two_sides}
-use Rattle.round_theory.proofs.Worked.{triangle_ends}
-use Rattle.round_core.specs.Examples.{after_first, TriangleMissesNone}
-use Rattle.round_core.proofs.Worked.{first_holds, is_finished}
+use Rattle.round_core.specs.Examples.{triangle, two_sides, after_first, TriangleMissesNone}
+use Rattle.round_core.proofs.Worked.{triangle_ends, first_holds, is_finished}
 use Rattle.round_core.proofs.examples.end_of_triangle.Goals as goal
 
 none : goal.After-rounds_end_with_forest → TriangleMissesNone

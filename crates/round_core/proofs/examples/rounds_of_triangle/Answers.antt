@@ -1,10 +1,8 @@
 use Rattle.std.proofs.Common.{refl}
-use Rattle.round_theory.specs.Examples.{triangle}
-use Rattle.round_theory.proofs.Worked.{triangle_ends}
 use Rattle.round_core.specs.Solver.{HasRoundsOf}
-use Rattle.round_core.specs.Examples.{at_start, first_picks, after_first, last_picks, FirstStepIsRound}
+use Rattle.round_core.specs.Examples.{triangle, at_start, first_picks, after_first, last_picks, FirstStepIsRound}
 use Rattle.round_core.specs.declared.solver.Turn.TheVariants.{Merged, Done}
-use Rattle.round_core.proofs.Worked.{starts, start_holds, first_are, last_are, last_none, first_merged, first_holds}
+use Rattle.round_core.proofs.Worked.{triangle_ends, starts, start_holds, first_are, last_are, last_none, first_merged, first_holds}
 use Rattle.round_core.proofs.examples.rounds_of_triangle.Goals as goal
 
 before : goal.After-step_by_least_is_round → HasRoundsOf triangle at_start

@@ -1,5 +1,4 @@
-use Rattle.round_theory.specs.Examples.{triangle}
-use Rattle.round_core.specs.Examples.{at_start}
+use Rattle.round_core.specs.Examples.{triangle, at_start}
 use Rattle.round_core.proofs.Worked.{starts}
 use Rattle.round_core.proofs.examples.start_of_triangle.Goals as goal
 

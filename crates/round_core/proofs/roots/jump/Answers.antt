@@ -20,7 +20,8 @@ step roots old new new' k lt have is = subst (HaveJumped roots old) (sym is) (ju
 lowers : (roots old new new' : List ℕ) (k : ℕ) → k < length roots → HaveJumped roots old new → new' ≡ jumped new (get_or roots k 0) → LowersRanks roots old new → LowersRanks roots old new'
 lowers roots old new new' k lt have is lower = subst (LowersRanks roots old) (sym is) (lower_still roots old new (get_or roots k 0) (Contains-get_or roots k 0 lt) have lower)
 
-still : (roots old new new' : List ℕ) (k : ℕ) → k < length roots → HaveJumped roots old new → new' ≡ jumped new (get_or roots k 0) → ((j : ℕ) → j < k → IsSettled new (get_or roots j 0)) → (j : ℕ) → j < k → IsSettled new' (get_or roots j 0)
+still : (roots old new new' : List ℕ) (k : ℕ) → k < length roots → HaveJumped roots old new → new' ≡ jumped new (get_or roots k 0)
+    → ((j : ℕ) → j < k → IsSettled new (get_or roots j 0)) → (j : ℕ) → j < k → IsSettled new' (get_or roots j 0)
 still roots old new new' k lt have is before j j_in =
     subst (λ ps. IsSettled ps (get_or roots j 0)) (sym is) (settled_on roots new (get_or roots k 0) (Contains-get_or roots k 0 lt) have.pointers (get_or roots j 0) (before j j_in))
 
@@ -32,10 +33,15 @@ pub jump_once-moved-requires : goal.jump_once-moved-requires
 jump_once-moved-requires c = within c.args.roots.now c.args.parents.now c.loop-root.parents c.loop-root.root-index c.loop-root-test.true c.loop-root.invariant.jumped
 
 pub jump_once-moved-requires-in-loop-root : goal.jump_once-moved-requires-in-loop-root
-jump_once-moved-requires-in-loop-root c = within c.args.roots.now c.args.parents.now c.jump_once-moved.new.parents c.loop-root.root-index c.loop-root-test.true (step c.args.roots.now c.args.parents.now c.loop-root.parents c.jump_once-moved.new.parents c.loop-root.root-index c.loop-root-test.true c.loop-root.invariant.jumped c.jump_once-moved.ensures.jumped)
+jump_once-moved-requires-in-loop-root c = within c.args.roots.now c.args.parents.now c.jump_once-moved.new.parents c.loop-root.root-index c.loop-root-test.true
+    (step c.args.roots.now c.args.parents.now c.loop-root.parents c.jump_once-moved.new.parents
+    c.loop-root.root-index c.loop-root-test.true c.loop-root.invariant.jumped c.jump_once-moved.ensures.jumped)
 
 pub jump_once-moved-requires-in-loop-root-2 : goal.jump_once-moved-requires-in-loop-root-2
-jump_once-moved-requires-in-loop-root-2 c = within c.args.roots.now c.args.parents.now c.jump_once-moved-in-loop-root.new.parents c.loop-root.root-index c.loop-root-test.true (step c.args.roots.now c.args.parents.now c.jump_once-moved.new.parents c.jump_once-moved-in-loop-root.new.parents c.loop-root.root-index c.loop-root-test.true (step c.args.roots.now c.args.parents.now c.loop-root.parents c.jump_once-moved.new.parents c.loop-root.root-index c.loop-root-test.true c.loop-root.invariant.jumped c.jump_once-moved.ensures.jumped) c.jump_once-moved-in-loop-root.ensures.jumped)
+jump_once-moved-requires-in-loop-root-2 c = within c.args.roots.now c.args.parents.now c.jump_once-moved-in-loop-root.new.parents c.loop-root.root-index c.loop-root-test.true
+    (step c.args.roots.now c.args.parents.now c.jump_once-moved.new.parents c.jump_once-moved-in-loop-root.new.parents c.loop-root.root-index c.loop-root-test.true
+    (step c.args.roots.now c.args.parents.now c.loop-root.parents c.jump_once-moved.new.parents c.loop-root.root-index
+    c.loop-root-test.true c.loop-root.invariant.jumped c.jump_once-moved.ensures.jumped) c.jump_once-moved-in-loop-root.ensures.jumped)
 
 pub loop-root-preserved : goal.loop-root-preserved
 loop-root-preserved c =
@@ -56,7 +62,8 @@ loop-root-preserved c =
         | inl before ↦
             let lower_once = lowers roots old c.loop-root.parents first i lt have c.jump_once-moved.ensures.jumped (c.loop-root.invariant.lower before) in
             lowers roots old second third i lt twice last.jumped (lowers roots old first second i lt once c.jump_once-moved-in-loop-root.ensures.jumped lower_once)
-        | inr here ↦ subst (LowersRanks roots old) (sym last.jumped) (lower_by_last roots old second (get_or roots i 0) (Contains-get_or roots i 0 lt) twice (λ settled. let wrong = last.settled.1 settled in absurd (cc)))
+        | inr here ↦ subst (LowersRanks roots old) (sym last.jumped)
+            (lower_by_last roots old second (get_or roots i 0) (Contains-get_or roots i 0 lt) twice (λ settled. let wrong = last.settled.1 settled in absurd (cc)))
       ];
       settled = λ rests.
           let (before, here) = neither c.loop-root.moved c.jump_once-moved-in-loop-root-2.result rests in

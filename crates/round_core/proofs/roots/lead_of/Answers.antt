@@ -12,7 +12,8 @@ other_label-other-requires-clause-ends g c =
 pub returns-clause-led : goal.returns-clause-led
 returns-clause-led g c =
     let (heard, are) = c.requires.picks in
-    let led = is_led c.args.labels.now (IsNamed heard) c.args.picks.now c.requires.labels are c.args.root c.other_label-other.result c.in-Some.link c.requires.root.0 (sym c.in-Some.ensures) c.other_label-other.ensures.other c.are_same-paired.result c.if-paired-lesser.parent c.are_same-paired.ensures in
+    let led = is_led c.args.labels.now (IsNamed heard) c.args.picks.now c.requires.labels are c.args.root c.other_label-other.result c.in-Some.link c.requires.root.0
+    (sym c.in-Some.ensures) c.other_label-other.ensures.other c.are_same-paired.result c.if-paired-lesser.parent c.are_same-paired.ensures in
     elim c.if-paired-lesser.branch [
       | then-paired-lesser w ↦ led (inl (w.if-paired-lesser.true, w.parent-is))
       | else-paired-lesser w ↦ led (inr (w.if-paired-lesser.false, w.parent-is))
@@ -21,4 +22,5 @@ returns-clause-led g c =
 pub returns-clause-gives : goal.returns-clause-gives
 returns-clause-gives g c =
     let (heard, are) = c.requires.picks in
-    is_taker c.args.labels.now (IsNamed heard) c.args.picks.now c.requires.labels are c.args.root c.other_label-other.result c.in-Some.link c.requires.root.0 (sym c.in-Some.ensures) c.other_label-other.ensures.other c.are_same-paired.result c.other_label-other.ensures.root.0.0 c.are_same-paired.ensures
+    is_taker c.args.labels.now (IsNamed heard) c.args.picks.now c.requires.labels are c.args.root c.other_label-other.result c.in-Some.link c.requires.root.0
+    (sym c.in-Some.ensures) c.other_label-other.ensures.other c.are_same-paired.result c.other_label-other.ensures.root.0.0 c.are_same-paired.ensures

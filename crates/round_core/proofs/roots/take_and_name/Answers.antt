@@ -28,4 +28,5 @@ returns-clause-names g c =
     let below = roots_below labels roots (length labels) (length names) refl (omega (arith, room, long, ap length c.as_mut_slice-names.ensures.value)) can.are_roots in
     subst (Relabels labels picks) (sym (with_items_is c.make_room.new.numbers names (long ∙ c.as_mut_slice-names.ensures.len)))
     (relabels labels roots names picks can.labelled can.are_roots below (λ r root.
-    least_joined labels roots c.join_led.new.parents picks can.labelled can.are_roots c.join_led.ensures.parents c.join_led.ensures.settled r (get_or names r 0) root (c.name_roots.ensures r ((can.are_roots.exact r).1 root))))
+    least_joined labels roots c.join_led.new.parents picks can.labelled can.are_roots c.join_led.ensures.parents c.join_led.ensures.settled r
+    (get_or names r 0) root (c.name_roots.ensures r ((can.are_roots.exact r).1 root))))

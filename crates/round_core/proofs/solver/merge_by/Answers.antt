@@ -24,9 +24,11 @@ is_past_bound-requires g c = let few = rounds_few _ _ c.requires.progress.few_ve
 pub returns-in_err-merge-clause-fault : goal.returns-in_err-merge-clause-fault
 returns-in_err-merge-clause-fault g c =
     let p : Progress = so_far c.args.labels.now c.args.taken.now.items c.args.rounds.now in
-    let in_time : 2 ^ (p.rounds + 1) ≤ max 1 (vertices p) = in_bound (vertices p) c.n.result (p.rounds + 1) c.is_past_bound.result c.is_past_bound.ensures c.if-is_past_bound.false c.n.ensures.vertices in
+    let in_time : 2 ^ (p.rounds + 1) ≤ max 1 (vertices p) =
+    in_bound (vertices p) c.n.result (p.rounds + 1) c.is_past_bound.result c.is_past_bound.ensures c.if-is_past_bound.false c.n.ensures.vertices in
     let some : ¬ (AreNoPicks c.args.picks.now) = λ none.
-    let wrong : false ≡ true = sym c.if-have_no_picks.false ∙ (none_in_progress p c.args.roots.now c.args.picks.now c.have_no_picks.result c.requires.progress c.requires.roots c.requires.picks c.have_no_picks.ensures).1 none in
+    let wrong : false ≡ true =
+    sym c.if-have_no_picks.false ∙ (none_in_progress p c.args.roots.now c.args.picks.now c.have_no_picks.result c.requires.progress c.requires.roots c.requires.picks c.have_no_picks.ensures).1 none in
     absurd (cc) in
     let answered = err_from_is_err_and c.from_residual.result c.from_residual.ensures.1 in
     rw (answered.1, answered.2) (in_time, some)
@@ -38,8 +40,11 @@ pub returns-clause-turn : goal.returns-clause-turn
 returns-clause-turn g c =
     let p : Progress = so_far c.args.labels.now c.args.taken.now.items c.args.rounds.now in
     let took = c.in_ok-merge.ensures.once in
-    let in_time : 2 ^ (p.rounds + 1) ≤ max 1 (vertices p) = in_bound (vertices p) c.n.result (p.rounds + 1) c.is_past_bound.result c.is_past_bound.ensures c.if-is_past_bound.false c.n.ensures.vertices in
-    let count : c.len.result - c.len-before.result ≡ length took.added = omega (arith, so_many_more p.taken took.added c.merge.new.taken.items took.behind, c.len-before.ensures, c.len.ensures, c.args.taken.now.ok.0, c.merge.new.taken.ok.0) in
-    let decides : (c.have_no_picks.result ≡ true) ↔ AreNoPicks c.args.picks.now = none_in_progress p c.args.roots.now c.args.picks.now c.have_no_picks.result c.requires.progress c.requires.roots c.requires.picks c.have_no_picks.ensures in
+    let in_time : 2 ^ (p.rounds + 1) ≤ max 1 (vertices p) =
+    in_bound (vertices p) c.n.result (p.rounds + 1) c.is_past_bound.result c.is_past_bound.ensures c.if-is_past_bound.false c.n.ensures.vertices in
+    let count : c.len.result - c.len-before.result ≡ length took.added =
+    omega (arith, so_many_more p.taken took.added c.merge.new.taken.items took.behind, c.len-before.ensures, c.len.ensures, c.args.taken.now.ok.0, c.merge.new.taken.ok.0) in
+    let decides : (c.have_no_picks.result ≡ true) ↔ AreNoPicks c.args.picks.now =
+    none_in_progress p c.args.roots.now c.args.picks.now c.have_no_picks.result c.requires.progress c.requires.roots c.requires.picks c.have_no_picks.ensures in
     is_merged p c.args.picks.now c.merge.new.labels took.added c.merge.new.taken.items (c.len.result - c.len-before.result) c.have_no_picks.result c.requires.progress c.requires.picks
     decides c.if-have_no_picks.false took.once c.in_ok-merge.ensures.relabelled in_time count took.behind

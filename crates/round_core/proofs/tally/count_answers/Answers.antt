@@ -18,8 +18,10 @@ loop-answer-preserved g c =
     let answers = c.args.answers.now in
     let a : AnswerValue = record { round = c.answer.inside.round; shard = c.answer.inside.shard; offers = c.answer.inside.offers } in
     let is : a ≡ get_or answers i a = subst (λ (x : AnswerValue). x ≡ get_or answers i x) (sym c.answer.view_is) c.answer-item.is in
-    let counts : Counts c.args.labels.now (named_links (links_at cut a.shard) a.offers) c.loop-answer.numbers c.count_all.new.numbers = rw (← c.shard.ensures.links, ← c.pairs.ensures.pairs) c.count_all.ensures in
-    subst (λ (xs : List Link). AreLeastNumbers c.args.labels.now xs c.count_all.new.numbers) (sym (one_more_answer cut answers i a c.loop-answer-test.true is)) (counts (all_named cut (take i answers)) c.loop-answer.invariant)
+    let counts : Counts c.args.labels.now (named_links (links_at cut a.shard) a.offers) c.loop-answer.numbers c.count_all.new.numbers =
+    rw (← c.shard.ensures.links, ← c.pairs.ensures.pairs) c.count_all.ensures in
+    subst (λ (xs : List Link). AreLeastNumbers c.args.labels.now xs c.count_all.new.numbers)
+    (sym (one_more_answer cut answers i a c.loop-answer-test.true is)) (counts (all_named cut (take i answers)) c.loop-answer.invariant)
 
 pub returns : goal.returns
 returns g c = search (arith, take_all)

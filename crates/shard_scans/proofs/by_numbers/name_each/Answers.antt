@@ -12,7 +12,8 @@ loop-i-preserved c =
     let i = c.loop-i.i in
     let default : Offer = (0, 0) in
     let x : Offer = get_or pairs i default in
-    map_over_more (offered c.args.names.now) c.args.pairs.now pairs i x (omega (arith, c.loop-i-test.true, c.loop-i.auto.pairs)) c.loop-i.invariant (get_or_default pairs i default x (omega (arith, c.loop-i-test.true, c.loop-i.auto.pairs)))
+    map_over_more (offered c.args.names.now) c.args.pairs.now pairs i x (omega (arith, c.loop-i-test.true, c.loop-i.auto.pairs)) c.loop-i.invariant
+    (get_or_default pairs i default x (omega (arith, c.loop-i-test.true, c.loop-i.auto.pairs)))
 
 pub bounds-names-number : goal.bounds-names-number
 bounds-names-number c =

@@ -11,14 +11,17 @@ pub keep_all-requires-clause-next : goal.keep_all-requires-clause-next
 keep_all-requires-clause-next g c =
     let size : c.len.result ≡ length c.args.listed.now.names.items = omega (arith, c.len.ensures, c.args.listed.now.names.ok) in
     let none = c.in_ok-clear.ensures.none_yet ∙ ap (λ n. replicate n no_best) size in
-    rw c.as_slice.ensures.value (next_can_be_taken_in c.args.links.now c.args.labels.now c.args.numbers.now c.args.listed.now.names.items c.args.listed.now.links.items c.requires.names c.requires.live c.clear.new.self none)
+    rw c.as_slice.ensures.value
+    (next_can_be_taken_in c.args.links.now c.args.labels.now c.args.numbers.now c.args.listed.now.names.items c.args.listed.now.links.items c.requires.names c.requires.live c.clear.new.self none)
 
 pub gather-requires : goal.gather-requires
 gather-requires g c =
     let size : c.len.result ≡ length c.args.listed.now.names.items = omega (arith, c.len.ensures, c.args.listed.now.names.ok) in
     let none = c.in_ok-clear.ensures.none_yet ∙ ap (λ n. replicate n no_best) size in
     let taken = rw c.as_slice.ensures.value at c.keep_all.ensures.taken in
-    let best = next_best c.args.links.now c.args.labels.now c.args.numbers.now c.args.listed.now.names.items c.args.listed.now.links.items c.requires.names c.requires.live c.clear.new.self none c.keep_all.new.table taken in
+    let best =
+    next_best c.args.links.now c.args.labels.now c.args.numbers.now c.args.listed.now.names.items
+    c.args.listed.now.links.items c.requires.names c.requires.live c.clear.new.self none c.keep_all.new.table taken in
     record { few = omega (arith, best.each_vertex, c.requires.names, c.requires.counted.few) }
 
 pub name_each-requires : goal.name_each-requires
@@ -52,10 +55,12 @@ of_known-requires g c =
     record { ascending = light.ascending }
 
 pub returns-in_err-clear-clause-listed : goal.returns-in_err-clear-clause-listed
-returns-in_err-clear-clause-listed g c = numbers_are_listed c.args.links.now c.args.labels.now c.args.numbers.now c.args.listed.now.names.items c.args.listed.now.links.items c.requires.names c.requires.live
+returns-in_err-clear-clause-listed g c =
+    numbers_are_listed c.args.links.now c.args.labels.now c.args.numbers.now c.args.listed.now.names.items c.args.listed.now.links.items c.requires.names c.requires.live
 
 pub returns-in_err-pairs-clause-listed : goal.returns-in_err-pairs-clause-listed
-returns-in_err-pairs-clause-listed g c = numbers_are_listed c.args.links.now c.args.labels.now c.args.numbers.now c.args.listed.now.names.items c.args.listed.now.links.items c.requires.names c.requires.live
+returns-in_err-pairs-clause-listed g c =
+    numbers_are_listed c.args.links.now c.args.labels.now c.args.numbers.now c.args.listed.now.names.items c.args.listed.now.links.items c.requires.names c.requires.live
 
 pub returns : goal.returns
 returns g c =

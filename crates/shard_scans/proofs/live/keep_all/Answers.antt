@@ -22,12 +22,14 @@ loop-i-preserved g c =
       best = λ count labels live are is none.
           let within : i < length live = omega (arith, c.loop-i-test.true, ap (λ (t : List LiveLink). length t) is, length-map live (relabelled labels)) in
           let next_is : next ≡ relabelled labels (get_or live i default) = ap (λ (t : List LiveLink). get_or t i default) is ∙ get_or-map (relabelled labels) live i default default within in
-          bests_next c.args.links.now labels live are i within default next next_is count 0 next.place c.loop-i.table c.keep_next.new.table refl (omega arith) c.keep_next.ensures.best (seen.best count labels live are is none);
+          bests_next c.args.links.now labels live are i within default next next_is count 0 next.place c.loop-i.table c.keep_next.new.table refl
+          (omega arith) c.keep_next.ensures.best (seen.best count labels live are is none);
     }
 
 pub returns : goal.returns
 returns g c = record {
   taken = λ count labels live are is none.
       let long : length c.args.live.now ≡ length live = ap (λ (t : List LiveLink). length t) is ∙ length-map live (relabelled labels) in
-      bests_all c.args.links.now labels live are count c.loop-i.i c.loop-i.table (omega (arith, c.loop-i-test.false, c.loop-i.auto.i-end, long)) (c.loop-i.invariant.best count labels live are is none);
+      bests_all c.args.links.now labels live are count c.loop-i.i c.loop-i.table
+      (omega (arith, c.loop-i-test.false, c.loop-i.auto.i-end, long)) (c.loop-i.invariant.best count labels live are is none);
 }

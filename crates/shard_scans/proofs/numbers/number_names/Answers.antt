@@ -20,11 +20,13 @@ loop-i-preserved g c =
     let place = number_has_place c.args.numbers.now c.loop-i.names x (omega (arith, c.requires.names, c.loop-i.auto.names)) marked in
     let here : HasItsName marks c.name.new.names x = subst (λ n. HasItsName marks n x) (sym c.name.ensures.named) (named_here marks c.loop-i.names x marked place) in
     record {
-      numbered = subst (λ n. (k : ℕ) → k < i + 1 → get_or (set changed i n) k 0 ≡ number k) (sym (c.name.ensures.number ∙ ap (number_of marks) x_is)) (fill_by_more number changed i 0 within seen.numbered);
+      numbered = subst (λ n. (k : ℕ) → k < i + 1 → get_or (set changed i n) k 0 ≡ number k)
+          (sym (c.name.ensures.number ∙ ap (number_of marks) x_is)) (fill_by_more number changed i 0 within seen.numbered);
       named = λ k lt. elim (cases_lt k i) [
         | inl less ↦
             let d = new_name c.args.labels.now (get_or old k 0) in
-            subst (λ n. HasItsName marks n d) (sym c.name.ensures.named) (named_stays marks c.loop-i.names x marked d (c.requires.marked k (omega (arith, less, c.loop-i-test.true))) (seen.named k less))
+            subst (λ n. HasItsName marks n d) (sym c.name.ensures.named)
+            (named_stays marks c.loop-i.names x marked d (c.requires.marked k (omega (arith, less, c.loop-i-test.true))) (seen.named k less))
         | inr le ↦
             let at : k ≡ i = omega (arith, lt, le) in
             subst (λ n. HasItsName marks c.name.new.names (new_name c.args.labels.now (get_or old n 0))) (sym at) (subst (HasItsName marks c.name.new.names) x_is here)

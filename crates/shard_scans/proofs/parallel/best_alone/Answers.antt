@@ -22,7 +22,8 @@ loop-place-preserved g c =
     let l : Link = c.index-links-place.result in
     record {
       from_start = omega (arith, seen.from_start);
-      best = c.keep_next.ensures.best (length c.args.scanned.labels.now) c.args.scanned.labels.now c.args.part.from l c.index-links-place.is c.label_at.ensures c.label_at-in-loop-place.ensures seen.from_start seen.best;
+      best = c.keep_next.ensures.best
+          (length c.args.scanned.labels.now) c.args.scanned.labels.now c.args.part.from l c.index-links-place.is c.label_at.ensures c.label_at-in-loop-place.ensures seen.from_start seen.best;
     }
 
 pub returns : goal.returns

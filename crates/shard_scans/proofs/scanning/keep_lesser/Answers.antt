@@ -36,7 +36,8 @@ returns-in-Some c = record {
       let test : is_le (key_cmp earlier link) ≡ true = search rules in
       keeps_old c.args.links.now labels label from at to le c.args.next c.requires.next is c.args.best.now keeps
       (λ none. absurd (omega (arith, c.requires.few_links, ap (λ (b : Best). b.place) none, within)))
-      (λ l within read key. subst (λ m. ¬ (IsBelow is.link m)) (one_read links c.args.best.now.place earlier l within here.1 read) (subst (λ m. ¬ (IsBelow m earlier)) link_is (not_below_from_le earlier link test)));
+      (λ l within read key. subst (λ m. ¬ (IsBelow is.link m)) (one_read links c.args.best.now.place earlier l within here.1 read)
+      (subst (λ m. ¬ (IsBelow m earlier)) link_is (not_below_from_le earlier link test)));
 }
 
 pub returns-in_default : goal.returns-in_default

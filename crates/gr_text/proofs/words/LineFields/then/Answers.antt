@@ -1,7 +1,8 @@
 use Rattle.std.proofs.Common.{ℕ, List, [], ◌∷◌, ◌++◌, ap, subst, codes}
 use Rattle.gr_text.specs.Word.{LineMeans, IsProblem, IsArcLine}
 use Rattle.gr_text.specs.declared.words.LineFields.{LineFields}
-use Rattle.gr_text.proofs.LineFields.{NeverSay-more, problem_without_sp, problem_without_vertices, problem_without_arcs, problem_with_more, arc_without_tail, arc_without_head, arc_without_weight, arc_with_more}
+use Rattle.gr_text.proofs.LineFields.{NeverSay-more, problem_without_sp, problem_without_vertices, problem_without_arcs}
+use Rattle.gr_text.proofs.LineFields.{problem_with_more, arc_without_tail, arc_without_head, arc_without_weight, arc_with_more}
 use Rattle.gr_text.proofs.words.LineFields.then.Goals as goal
 
 pub returns-in-Unknown : goal.returns-in-Unknown

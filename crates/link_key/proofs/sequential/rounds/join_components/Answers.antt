@@ -38,7 +38,8 @@ loop-alloc-preserved g c =
       ends = done.ends;
       marks = c.round-in-loop-alloc.auto.marks ∙ l.invariant.marks;
       labelled = stay_open c.args.candidates.items l.candidates.items c.round-in-loop-alloc.new.candidates.items numbers.items done.numbers l.invariant.labelled done.labelled;
-      stage = lead_on c.args.candidates.items l.candidates.items c.round-in-loop-alloc.new.candidates.items numbers.items done.numbers c.args.marks.now l.marks c.round-in-loop-alloc.new.marks l.invariant.marks l.invariant.len l.invariant.numbers l.invariant.labelled l.invariant.stage done.stage;
+      stage = lead_on c.args.candidates.items l.candidates.items c.round-in-loop-alloc.new.candidates.items numbers.items done.numbers c.args.marks.now l.marks
+          c.round-in-loop-alloc.new.marks l.invariant.marks l.invariant.len l.invariant.numbers l.invariant.labelled l.invariant.stage done.stage;
     })
 
 pub returns-clause-stage : goal.returns-clause-stage

@@ -15,5 +15,7 @@ invariant-loop-i l = record {
   numbers : AreNumbers l.last l.numbers;
   fresh : l.i ≡ 0 → (c : ℕ) → get_or l.numbers c 0 ≡ 0;
   fewer : 0 < l.i → l.kept < l.i;
-  touched : (d : Link) (links before : List Link) (labels : List ℕ) → length links ≡ length l.initial.marks → AreOpenOf labels d links l.initial.candidates → AreTouched labels (links_of d links l.initial.candidates) (take l.i (links_of d links l.initial.candidates)) l.numbers (before ++ marked links l.initial.marks) (before ++ marked links l.marks);
+  touched : (d : Link) (links before : List Link) (labels : List ℕ) → length links ≡ length l.initial.marks → AreOpenOf labels d links l.initial.candidates
+      → AreTouched labels (links_of d links l.initial.candidates) (take l.i (links_of d links l.initial.candidates)) l.numbers
+      (before ++ marked links l.initial.marks) (before ++ marked links l.marks);
 }

@@ -8,6 +8,7 @@ use Rattle.round_core.proofs.solver.Solver.finish.Goals as goal
 pub returns-clause-forest : goal.returns-clause-forest
 returns-clause-forest g c =
     let forest = c.of_distinct.result in
-    let moved : IsPermutation c.self.inside.taken.items forest = subst (λ (xs : List Link). IsPermutation xs forest) (c.in_ok-taken.ensures.items ∙ c.as_slice.ensures.value) c.of_distinct.ensures.same in
+    let moved : IsPermutation c.self.inside.taken.items forest =
+    subst (λ (xs : List Link). IsPermutation xs forest) (c.in_ok-taken.ensures.items ∙ c.as_slice.ensures.value) c.of_distinct.ensures.same in
     finished c.args.self.now c.args.cut.now forest (subst IsProgress c.self.view_is c.self.invariant.0) c.requires.ends (sym c.in_default.ensures)
     (subst (λ (p : Progress). IsPermutation p.taken forest) c.self.view_is moved) c.of_distinct.ensures.ascending

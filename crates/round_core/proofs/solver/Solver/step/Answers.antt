@@ -12,5 +12,6 @@ invariant_of-self-2 g c =
     let p : Progress = so_far c.self.inside.labels c.self.inside.taken.items c.self.inside.rounds in
     let q : Progress = so_far c.merge_by.new.labels c.merge_by.new.taken.items c.merge_by.new.rounds in
     let picks : ArePicksOfHearings p.labels c.args.picks.now = subst (λ (r : Progress). ArePicksOfHearings r.labels c.args.picks.now) (sym c.self.view_is) c.requires.picks in
-    goes_on_with p q c.args.picks.now _ c.in-Merged.field-0 c.in-Merged.is c.in_ok-turn.ensures.turn c.self.inside.roots c.as_slice.result.now c.self.invariant.1 c.as_slice.ensures.labels c.keep.new.self c.self.invariant.0 picks
+    goes_on_with p q c.args.picks.now _ c.in-Merged.field-0 c.in-Merged.is c.in_ok-turn.ensures.turn c.self.inside.roots
+    c.as_slice.result.now c.self.invariant.1 c.as_slice.ensures.labels c.keep.new.self c.self.invariant.0 picks
     (rw c.merge_by.ensures.roots at c.keep.ensures)

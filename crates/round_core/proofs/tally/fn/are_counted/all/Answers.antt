@@ -12,5 +12,6 @@ returns g c =
     let labels = c.captures.labels.now in
     let numbers = c.captures.numbers.now in
     let a : AnswerValue = record { round = c.answer.inside.round; shard = c.answer.inside.shard; offers = c.answer.inside.offers } in
-    let counts : IsTrue c.offers_are_counted.result ↔ AreCountedIn labels numbers (named_links (links_at cut a.shard) a.offers) = rw (← c.shard.ensures.links, ← c.pairs.ensures.pairs) c.offers_are_counted.ensures in
+    let counts : IsTrue c.offers_are_counted.result ↔ AreCountedIn labels numbers (named_links (links_at cut a.shard) a.offers) =
+    rw (← c.shard.ensures.links, ← c.pairs.ensures.pairs) c.offers_are_counted.ensures in
     subst (λ (x : AnswerValue). IsTrue c.offers_are_counted.result ↔ AreCountedIn labels numbers (named_links (links_at cut x.shard) x.offers)) c.answer.view_is counts

@@ -2,7 +2,7 @@
 use Rattle.std.proofs.Common.{◌≡◌, ℕ, ◌<◌, ◌≤◌, Contains, take, length, get_or}
 use Rattle.links.specs.LinkSet.{SameLinks}
 use Rattle.links.specs.declared.links.Link.{Link}
-use Rattle.plain_run.proofs.repeats.put_once_behind.Given as goal
+use Rattle.links.proofs.repeats.put_once_behind.Given as goal
 
 abbrev pub invariant-loop-i : goal.invariant-loop-i
 invariant-loop-i l = record {

@@ -2,8 +2,8 @@ use Rattle.std.proofs.Common.{◌≡◌, ◌-◌, ◌<◌, ◌≤◌, Contains, 
 use Rattle.std.proofs.lemmas.List.{length-set}
 use Rattle.links.specs.LinkSet.{SameLinks}
 use Rattle.links.specs.declared.links.Link.{Link}
-use Rattle.plain_run.proofs.KeptOnce.{counted_unless, once_more}
-use Rattle.plain_run.proofs.repeats.put_once_behind.Goals as goal
+use Rattle.links.proofs.KeptOnce.{counted_unless, once_more}
+use Rattle.links.proofs.repeats.put_once_behind.Goals as goal
 
 pub loop-i-preserved : goal.loop-i-preserved
 loop-i-preserved c =
@@ -23,7 +23,8 @@ loop-i-preserved c =
       to = omega (arith, i_in);
       few = search rules;
       some = search rules;
-      same = once_more start l.links x i_in is kept_in some (counted_unless c.is_other-is_new.result l.kept (x ≡ get_or l.links (l.kept - 1) x) (λ no. search (c.is_other-is_new.ensures no, rules))) l.invariant.same;
+      same = once_more start l.links x i_in is kept_in some
+          (counted_unless c.is_other-is_new.result l.kept (x ≡ get_or l.links (l.kept - 1) x) (λ no. search (c.is_other-is_new.ensures no, rules))) l.invariant.same;
     }
 
 pub returns-clause-same : goal.returns-clause-same
