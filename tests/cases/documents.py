@@ -652,11 +652,15 @@ def the_sentences_are_short(_room):
 
 
 def ensured(path, text):
-    """The names of what functions ensure: of their clauses, and of the fields of records that are a clause without a name."""
+    """The names of what functions ensure: of their clauses, and of the fields of records that are a clause without a name, also
+    by another name of such a record."""
     names, specs = set(re.findall(r"ensures (\w+) ", text)), f"{ROOT}/{path.partition('/src/')[0]}/specs"
     records = set(re.findall(r"ensures \{ ([A-Z]\w+)", text))
-    for name in os.listdir(specs) if records else []:
-        for record, fields in re.findall(r"^pub record (\w+).*? where\n((?:(?:  .*)?\n)*)", text_of(f"{os.path.relpath(specs, ROOT)}/{name}"), re.M):
+    texts = [text_of(f"{os.path.relpath(specs, ROOT)}/{name}") for name in os.listdir(specs)] if records else []
+    for text in texts:
+        records |= {record for own, record in re.findall(r"^abbrev pub (\w+) :.*\n\1 .*=\s+([A-Z]\w+) ", text, re.M) if own in records}
+    for text in texts:
+        for record, fields in re.findall(r"^pub record (\w+).*? where\n((?:(?:  .*)?\n)*)", text, re.M):
             names |= set(re.findall(r"^  pub (\w+) :", fields, re.M)) if record in records else set()
     return names
 
