@@ -12,9 +12,7 @@ use Rattle.worker_engine.specs.Served.{WroteSome, CutOff}
 
 -- a head, offers and others behind them
 joined : (head : List ℕ) (offers first rest : List Offer) → offers ≡ first ++ rest → (head ++ flat_map offer_text first) ++ flat_map offer_text rest ≡ head ++ flat_map offer_text offers
-joined head offers first rest split =
-    append_assoc head (flat_map offer_text first) (flat_map offer_text rest)
-    ∙ ap (λ (t : List ℕ). head ++ t) (sym (flat_map-append offer_text first rest) ∙ ap (flat_map offer_text) (sym split))
+joined head offers first rest split = search (arith, append_assoc, flat_map-append)
 
 -- a text was written, and what follows it was cut off
 cut_behind : (first text : List ℕ) (s t u : SinkState) → Took 0 first s t → CutOff text t u → CutOff (first ++ text) s u

@@ -102,13 +102,12 @@ module _ (worker : ℕ) (source source' source'' : SourceState) (sink sink' sink
 
   -- one more frame came
   gave_frame : (frames : List FrameValue) (v : FrameValue) → Gave 0 0 (texts_of frames) source source' → Gave 0 0 (text_of v) source' source'' → Gave 0 0 (texts_of (frames ++ v ∷ [])) source source''
-  gave_frame frames v first second =
-      subst (λ (bytes : List ℕ). Gave 0 0 bytes source source'') (ap (λ (t : List ℕ). texts_of frames ++ t) (sym (texts-one v)) ∙ sym (texts-append frames (v ∷ [])))
-      (gave_more 0 0 (texts_of frames) (text_of v) source source' source'' first second)
+  gave_frame frames v first second = search (arith, texts-one, texts-append, gave_more)
 
   -- what is owed with the reply to it
   more_owed : (replies now : List FrameValue) → (text_of (HelloFrame VERSION worker) ++ texts_of replies) ++ texts_of now ≡ text_of (HelloFrame VERSION worker) ++ texts_of (replies ++ now)
-  more_owed replies now = append_assoc (text_of (HelloFrame VERSION worker)) (texts_of replies) (texts_of now) ∙ ap (λ (t : List ℕ). text_of (HelloFrame VERSION worker) ++ t) (sym (texts-append replies now))
+  more_owed replies now = append_assoc (text_of (HelloFrame VERSION worker)) (texts_of replies) (texts_of now)
+      ∙ ap (λ (t : List ℕ). text_of (HelloFrame VERSION worker) ++ t) (sym (texts-append replies now))
 
   -- and was heard
   pub so_far_more : (shelf shelf' : Shelf) (served served' : Served) (replies : List FrameValue) (written : Written)
@@ -165,18 +164,7 @@ module _ (worker : ℕ) (source source' source'' : SourceState) (sink sink' sink
 -- nothing was heard yet
 pub so_far_starts : (worker : ℕ) (served : Served) (source : SourceState) (sink sink' : SinkState) → served.frames ≡ 0 → served.answers ≡ 0 → served.faults ≡ 0
     → Gave 0 0 [] source source → Took 0 (text_of (HelloFrame VERSION worker)) sink sink' → SoFar worker empty_shelf served source source sink sink'
-so_far_starts worker served source sink sink' frames answers faults gave took = record {
-  frames = [];
-  replies = [];
-  lawful = tt;
-  shelf_is = refl;
-  answered = refl;
-  frames_are = frames;
-  answers_are = answers;
-  faults_are = faults;
-  gave = gave;
-  took = subst (λ (bytes : List ℕ). Took 0 bytes sink sink') (sym (append-nil (text_of (HelloFrame VERSION worker)))) took;
-}
+so_far_starts worker served source sink sink' frames answers faults gave took = search (arith, append-nil)
 
 -- the hello wasn't written
 pub ends_at_hello : (worker limit : ℕ) (fault : ServeFault) (source : SourceState) (sink sink' : SinkState) → Gave 0 0 [] source source
@@ -235,11 +223,11 @@ module _ (worker limit : ℕ) (source source' source'' : SourceState) (sink sink
 
   pub stops_by : (fault : ServeFault) (result : Result Served ServeFault) → HearsNone fault source' source'' → IfErr result (λ why. (why ≡ fault) × (fault ≢ Read Ended))
       → IfErr result (λ why. EndsBy worker limit why source source'' sink sink')
-  stops_by fault (Ok counts) stops over = tt
-  stops_by fault (Err why) stops (same, inside) = subst (λ (x : ServeFault). EndsBy worker limit x source source'' sink sink') (sym same) (ends_by fault stops inside)
+  stops_by a1 a2 a3 a4 = search (arith, ends_by)
 
   -- a write failed behind one that was
-  pub cuts_by : (shelf' : Shelf) (replies : List FrameValue) (sink'' : SinkState) (fault : ServeFault) → HearsNext replies shelf shelf' source' source'' → fault ≡ Write → CutOff (texts_of replies) sink' sink''
+  pub cuts_by : (shelf' : Shelf) (replies : List FrameValue) (sink'' : SinkState) (fault : ServeFault)
+      → HearsNext replies shelf shelf' source' source'' → fault ≡ Write → CutOff (texts_of replies) sink' sink''
       → EndsBy worker limit fault source source'' sink sink''
   cuts_by shelf' replies sink'' fault hears write cut =
       subst (λ (x : ServeFault). EndsBy worker limit x source source'' sink sink'') (sym write)

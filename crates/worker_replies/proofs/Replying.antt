@@ -1,6 +1,6 @@
 -- Replies to frames, one after the other.
 use Rattle.std.proofs.Common.{◌≡◌, ℕ, ◌+◌, ◌≤◌, Option, Some, None, List, [], ◌∷◌, ◌++◌, length, refl, sym, ap, subst, ◌∙◌, inl, inr, append_assoc, append-nil, arith}
-use Rattle.std.specs.Prelude.{◌↔◌, ◌⊎◌, IfSome, IsSome, if◌then◌else◌}
+use Rattle.std.specs.Prelude.{◌↔◌, ◌⊎◌, IfSome, IsSome}
 use Rattle.std.proofs.lemmas.Bool.Decides.{eqb_tells}
 use Rattle.std.proofs.lemmas.List.{length-append}
 use Rattle.limits.specs.declared.TheConstants.{MAX_SHARD_LINKS}
@@ -9,7 +9,7 @@ use Rattle.links.specs.Link.{EndsUpTo}
 use Rattle.links.specs.Offers.{Offer}
 use Rattle.round_theory.proofs.LightOffers.{light_offers_unique}
 use Rattle.links.specs.AnswerValue.{AnswerValue}
-use Rattle.frames.specs.FrameValue.{FrameValue, HelloFrame, ShardFrame, AskFrame, AnswerFrame, FaultFrame}
+use Rattle.frames.specs.FrameValue.{FrameValue, HelloFrame, AskFrame, AnswerFrame, FaultFrame}
 use Rattle.frames.specs.FrameText.{text_of}
 use Rattle.frames.specs.Lawful.{IsLawful, IsAsk}
 use Rattle.frames.specs.FrameStream.{texts_of, AreLawful}
@@ -71,7 +71,8 @@ prefix_has_prefix_replies version worker prefix rest out serves =
     let hello : List ℕ = text_of (HelloFrame version worker) in (
       hello ++ texts_of early,
       texts_of late,
-      serves.written ∙ ap (λ (rs : List FrameValue). hello ++ texts_of rs) split ∙ ap (λ (t : List ℕ). hello ++ t) (texts-append early late) ∙ sym (append_assoc hello (texts_of early) (texts_of late)),
+      serves.written ∙ ap (λ (rs : List FrameValue). hello ++ texts_of rs) split ∙ ap (λ (t : List ℕ). hello ++ t) (texts-append early late)
+          ∙ sym (append_assoc hello (texts_of early) (texts_of late)),
       record { known = serves.known; frames = some; replies = early; came = are; answered = first; written = refl },
     )
 

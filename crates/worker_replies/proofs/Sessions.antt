@@ -1,7 +1,7 @@
 -- A session, frame by frame.
 use Rattle.std.proofs.Common.{◌≡◌, ℕ, ◌+◌, List, [], ◌∷◌, ◌++◌, length, drop, sym, ap, subst, ◌∙◌, append_assoc, arith}
 use Rattle.std.proofs.lemmas.List.{length-append, drop_at}
-use Rattle.frames.specs.FrameValue.{FrameValue, HelloFrame}
+use Rattle.frames.specs.FrameValue.{FrameValue}
 use Rattle.frames.specs.declared.frame.TheConstants.{VERSION}
 use Rattle.frames.specs.FrameText.{text_of}
 use Rattle.frames.specs.Lawful.{IsLawful}

@@ -1,10 +1,10 @@
 -- The frames that a worker of a version hears.
-use Rattle.std.proofs.Common.{◌≡◌, ℕ, Bool, true, false, cond, List, [], ◌∷◌, ◌++◌, refl, sym, ap, subst, ◌∙◌, lit≤, le-leb, arith}
-use Rattle.std.specs.Prelude.{nat_le, if◌then◌else◌}
+use Rattle.std.proofs.Common.{◌≡◌, ℕ, Bool, true, false, cond, List, [], ◌∷◌, ◌++◌, refl, sym, ap, ◌∙◌, lit≤, le-leb, arith}
+use Rattle.std.specs.Prelude.{nat_le}
 use Rattle.std.proofs.lemmas.List.Sums.{take_while-cons}
-use Rattle.frames.specs.FrameValue.{FrameValue, HelloFrame, ShardFrame, AskFrame, AnswerFrame, FaultFrame}
+use Rattle.frames.specs.FrameValue.{FrameValue}
 use Rattle.frames.specs.declared.frame.TheConstants.{VERSION}
-use Rattle.frames.specs.FrameText.{are_narrow, version_of}
+use Rattle.frames.specs.FrameText.{version_of}
 use Rattle.frames.specs.Lawful.{IsVersion, IsLawful}
 use Rattle.frames.specs.FrameStream.{AreLawful}
 use Rattle.worker_replies.specs.Serving.{heard_by}

@@ -6,9 +6,7 @@ use Rattle.worker_engine.proofs.Steps.{so_far_starts, so_far_more, ends_at_hello
 use Rattle.worker_engine.proofs.session.serve_upto.Goals as goal
 
 pub returns-in_err-greet-clause-ends_by : goal.returns-in_err-greet-clause-ends_by
-returns-in_err-greet-clause-ends_by g c =
-    let p = err_from_is_err_and c.from_residual.result c.from_residual.ensures.1 in
-    rw (p.1, p.2) (ends_at_hello c.args.worker c.args.frames c.in_err-greet.field-0.0 _ _ _ (gave_nothing _) c.in_err-greet.ensures.ungreeted)
+returns-in_err-greet-clause-ends_by g c = search (arith, err_from_is_err_and, ends_at_hello, gave_nothing)
 
 pub loop-served-init : goal.loop-served-init
 loop-served-init g c = record {
@@ -21,11 +19,13 @@ loop-served-init g c = record {
 
 pub returns-in-Err-clause-ends_well : goal.returns-in-Err-clause-ends_well
 returns-in-Err-clause-ends_well g c =
-    stops_well c.args.worker c.args.frames _ _ _ _ _ (shelf_of c.loop-served.engine) c.loop-served.served c.loop-served.invariant.so_far c.in-Err.fault c.stopped.result c.in-Err.ensures.stops c.stopped.ensures.over
+    stops_well c.args.worker c.args.frames _ _ _ _ _ (shelf_of c.loop-served.engine) c.loop-served.served c.loop-served.invariant.so_far
+    c.in-Err.fault c.stopped.result c.in-Err.ensures.stops c.stopped.ensures.over
 
 pub returns-in-Err-clause-ends_by : goal.returns-in-Err-clause-ends_by
 returns-in-Err-clause-ends_by g c =
-    stops_by c.args.worker c.args.frames _ _ _ _ _ (shelf_of c.loop-served.engine) c.loop-served.served c.loop-served.invariant.so_far c.in-Err.fault c.stopped.result c.in-Err.ensures.stops c.stopped.ensures.stops
+    stops_by c.args.worker c.args.frames _ _ _ _ _ (shelf_of c.loop-served.engine) c.loop-served.served c.loop-served.invariant.so_far
+    c.in-Err.fault c.stopped.result c.in-Err.ensures.stops c.stopped.ensures.stops
 
 pub returns-in_err-written-clause-ends_by : goal.returns-in_err-written-clause-ends_by
 returns-in_err-written-clause-ends_by g c =
@@ -34,14 +34,7 @@ returns-in_err-written-clause-ends_by g c =
     _ _ _ c.in_err-written.field-0.0 c.in-Ok.ensures.hears c.in_err-written.ensures.write c.in_err-written.ensures.cut)
 
 pub loop-served-preserved : goal.loop-served-preserved
-loop-served-preserved g c = record {
-  so_far = so_far_more c.args.worker _ _ _ _ _ _ (shelf_of c.loop-served.engine) (shelf_of c.hear_next.new.self) c.loop-served.served c.count.new.self _ c.in_ok-written.written
-      c.loop-served.invariant.so_far c.in-Ok.ensures.hears c.in_ok-written.ensures.wrote c.count.ensures.frames c.count.ensures.replies;
-  few = c.count.ensures.few;
-  within = omega (arith, c.count.ensures.frames, c.loop-served-test.true);
-  can_read = c.in-Ok.ensures.again;
-  can_write = c.in_ok-written.ensures.again;
-}
+loop-served-preserved g c = search (arith, so_far_more)
 
 pub returns-clause-ends_by : goal.returns-clause-ends_by
 returns-clause-ends_by g c =

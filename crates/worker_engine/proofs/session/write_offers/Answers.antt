@@ -1,3 +1,4 @@
+use Rattle.std.proofs.Common.{arith}
 use Rattle.std.proofs.lemmas.Result.{err_from_is_err_and}
 use Rattle.worker_engine.proofs.Pieces.{wrote_more, wrote_then_cut}
 use Rattle.worker_engine.proofs.session.write_offers.Goals as goal
@@ -8,8 +9,4 @@ returns-in_err-rest-2-clause-cut g c =
     rw p.1 (wrote_then_cut c.args.head.now c.args.offers.now c.loop-rest.rest.now _ _ _ c.loop-rest.invariant.some c.in_err-rest-2.ensures.cut)
 
 pub loop-rest-preserved : goal.loop-rest-preserved
-loop-rest-preserved g c = record {
-  some = wrote_more c.args.head.now c.args.offers.now c.loop-rest.rest.now c.in_ok-rest-2.rest.now _ _ _ c.loop-rest.invariant.some c.in_ok-rest-2.ensures.some;
-  room = c.in_ok-rest-2.ensures.room;
-  can = c.in_ok-rest-2.ensures.again;
-}
+loop-rest-preserved g c = search (arith, wrote_more)

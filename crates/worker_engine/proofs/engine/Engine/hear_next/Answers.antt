@@ -1,17 +1,10 @@
-use Rattle.std.proofs.Common.{ℕ, List, refl, sym, subst, arith}
-use Rattle.links.specs.Labels.{Coarsens}
+use Rattle.std.proofs.Common.{refl, sym, arith}
 use Rattle.frames.specs.FrameValue.{AskFrame, value_of}
-use Rattle.frames.specs.declared.next_frame.NextFrame.{NextFrame}
-use Rattle.frames.specs.NextFrame.{SaysCoarser}
 use Rattle.worker_engine.proofs.Shelves.{under_coarser, may_reply}
 use Rattle.worker_engine.proofs.engine.Engine.hear_next.Goals as goal
 
 pub reply_under_par-reply-requires-in-Ok-AskCoarser-clause-live : goal.reply_under_par-reply-requires-in-Ok-AskCoarser-clause-live
-reply_under_par-reply-requires-in-Ok-AskCoarser-clause-live g c =
-    let labels = c.in-Ok-AskCoarser.labels in
-    let said = subst (λ (n : NextFrame g.row.A.Denot). SaysCoarser c.as_slice.result.now n) c.in-Ok-AskCoarser.field-0-is c.in-Ok-AskCoarser.ensures.coarser in
-    let coarsens = subst (λ (last : List ℕ). Coarsens labels last) c.as_slice.ensures.labels said.0 in
-    λ lives outlive. under_coarser labels c.self.inside.labels c.self.inside.shards.entries coarsens c.self.invariant
+reply_under_par-reply-requires-in-Ok-AskCoarser-clause-live g c = search (arith, under_coarser)
 
 pub returns-in-Ok-AskAgain-clause-hears : goal.returns-in-Ok-AskAgain-clause-hears
 returns-in-Ok-AskAgain-clause-hears g c = record {
@@ -35,6 +28,7 @@ returns-in-Ok-AskCoarser-clause-hears g c = record {
   may = (
     value_of c.reply_or_fault-in-Ok-AskCoarser.result,
     refl,
-    rw (sym c.self.view_is) (may_reply _ _ _ _ c.reply_under_par-reply-in-Ok-AskCoarser.result _ c.reply_under_par-reply-in-Ok-AskCoarser.ensures.replies c.reply_or_fault-in-Ok-AskCoarser.ensures.reply c.reply_or_fault-in-Ok-AskCoarser.ensures.fault),
+    rw (sym c.self.view_is) (may_reply _ _ _ _ c.reply_under_par-reply-in-Ok-AskCoarser.result _ c.reply_under_par-reply-in-Ok-AskCoarser.ensures.replies
+        c.reply_or_fault-in-Ok-AskCoarser.ensures.reply c.reply_or_fault-in-Ok-AskCoarser.ensures.fault),
   );
 }

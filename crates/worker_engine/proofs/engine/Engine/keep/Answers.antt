@@ -6,7 +6,8 @@ use Rattle.worker_engine.proofs.Shelves.{shelf_inserted, under_inserted}
 use Rattle.worker_engine.proofs.engine.Engine.keep.Goals as goal
 
 pub invariant_of-self-2 : goal.invariant_of-self-2
-invariant_of-self-2 g c = under_inserted c.self.inside.shards.entries c.insert.new.self.entries c.args.number c.new-kept.result c.in_ok-insert.ensures.updates.0 c.self.inside.labels c.new-kept.ensures.live c.self.invariant
+invariant_of-self-2 g c = under_inserted c.self.inside.shards.entries c.insert.new.self.entries c.args.number c.new-kept.result
+    c.in_ok-insert.ensures.updates.0 c.self.inside.labels c.new-kept.ensures.live c.self.invariant
 
 pub returns-clause-kept : goal.returns-clause-kept
 returns-clause-kept g c =
