@@ -498,9 +498,9 @@ def how_much_was_read_of_several_files(room):
     # threads read more at a time
     status, output, errors = ran(["--plain", "--progress", "--threads", "4", *names[:2]], cwd=room)
     expect((status, output, bool(re.fullmatch(rb"read 1[6-9] MB\rread 3[2-9] MB\rread 40 MB\n", errors))), 0, SMALL_FOREST, True)
-    # a fault is told over what was read
+    # a fault begins a line of its own
     for name, status, line in [("6.gr", 1, b"6.gr: line 1: UnknownLine"), ("none.gr", 3, b"cannot open none.gr")]:
-        expect(ran(["--plain", "--progress", "0.gr", name, "1.gr"], cwd=room), status, b"", b"read 16 MB\rboruvka: " + line + b"\n")
+        expect(ran(["--plain", "--progress", "0.gr", name, "1.gr"], cwd=room), status, b"", b"read 16 MB\r\nboruvka: " + line + b"\n")
 
 
 # Calls that fail, and refused memory
