@@ -228,6 +228,39 @@ def large_files(room):
 
 
 @case
+def files_of_more_than_a_million_links(room):
+    # a path of light links, and heavier ones beside it, which close cycles: the forest is the path. Neither file has so many
+    # links that some are dropped while it is read
+    vertices = 600_000
+    path = [(v, v + 1, v % 7) for v in range(1, vertices)]
+    beside = [(v, v + 2, 10 + v % 5) for v in range(1, vertices - 1)]
+    rows = sorted((weight, u, v) for u, v, weight in path)
+    names = files_in(room, [file_of(vertices, path + beside), file_of(vertices, beside + path)])
+    links = 2 * (len(path) + len(beside))
+    total = sum(weight for weight, _, _ in rows)
+    report = b"vertices=%d links=%d rounds=0 shards=0 asked=0 answered=0 alone=0 closed=0 total=%d\n" % (vertices, links, total)
+    expect_joined(room, names, forest_text(vertices, rows), report)
+
+
+@case
+def many_arcs_of_a_million_vertices_take_no_more_memory(room):
+    # each file has too few arcs a vertex for links to be dropped while it is read, so what is kept of them has its bound where
+    # they are joined
+    vertices, arcs = 2**20 + 1, 7_000_000
+    with open(f"{room}/net.gr", "wb") as it:
+        it.write(b"p sp %d %d\n" % (vertices, arcs))
+        it.write(b"a 1 2 3\na 1 3 3\n" * (arcs // 2))
+    text = b"p sp %d 2\na 1 2 3\na 1 3 3\n" % vertices
+    peaks = {}
+    for count in [2, 4, 8]:
+        found, peak = told_by(room, [Program.path, "--plain", *["net.gr"] * count], b"", {"PEAK": "1"}, cwd=room)
+        expect(found, 0, text, b"")
+        peaks[count] = int(peak) << 10
+    if not 16 * arcs < peaks[4] or peaks[8] > 1.05 * peaks[4]:
+        raise AssertionError(f"bytes by so many files: {peaks}")
+
+
+@case
 def forests_of_parts_make_the_forest_of_the_whole(room):
     for seed, vertices, count, most in [(41, 5, 40, 1), (42, 60, 300, 0), (43, 500, 400, 9), (44, 700, 6000, 50), (45, 2000, 9000, 2**63 - 1)]:
         draw = random.Random(seed)
@@ -465,9 +498,9 @@ def how_much_was_read_of_several_files(room):
     # threads read more at a time
     status, output, errors = ran(["--plain", "--progress", "--threads", "4", *names[:2]], cwd=room)
     expect((status, output, bool(re.fullmatch(rb"read 1[6-9] MB\rread 3[2-9] MB\rread 40 MB\n", errors))), 0, SMALL_FOREST, True)
-    # a fault is told over what was read
+    # a fault begins a line of its own
     for name, status, line in [("6.gr", 1, b"6.gr: line 1: UnknownLine"), ("none.gr", 3, b"cannot open none.gr")]:
-        expect(ran(["--plain", "--progress", "0.gr", name, "1.gr"], cwd=room), status, b"", b"read 16 MB\rboruvka: " + line + b"\n")
+        expect(ran(["--plain", "--progress", "0.gr", name, "1.gr"], cwd=room), status, b"", b"read 16 MB\r\nboruvka: " + line + b"\n")
 
 
 # Calls that fail, and refused memory

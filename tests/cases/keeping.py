@@ -1,5 +1,6 @@
 """Files round the sizes from which `--plain` keeps fewer links than it reads: of more than 65,536 arcs, and of more than 15
 a vertex, a list of 32,768 links and of 10 a vertex becomes its forest."""
+import os
 import random
 
 from cases.running import Program, case, expect, file_of, forest_of, forest_text, ran, told_by
@@ -105,3 +106,21 @@ def edges_in_both_directions_take_the_memory_of_one(room):
         peaks[name] = int(peak) << 10
     if not 8 << 20 < peaks["one"] < 40 << 20 or peaks["both"] > 1.05 * peaks["one"]:
         raise AssertionError(f"bytes by the edges' directions: {peaks}")
+
+
+@case
+def many_arcs_of_a_million_vertices_take_the_memory_of_ten_a_vertex(room):
+    # 40 million arcs, which would take 640 MB: of two links in turns, so that none repeats the one before it
+    vertices, arcs = 2**20 + 1, 40_000_000
+    name = f"{room}/long.gr"
+    with open(name, "wb") as it:
+        it.write(b"p sp %d %d\n" % (vertices, arcs))
+        for _ in range(20):
+            it.write(b"a 1 2 3\na 1 3 3\n" * (arcs // 40))
+    text = b"p sp %d 2\na 1 2 3\na 1 3 3\n" % vertices
+    for words in THREADS:
+        found, peak = told_by(room, [Program.path, *words, name], b"", {"PEAK": "1"})
+        expect(found, 0, text, b"")
+        if not 16 * 10 * vertices < int(peak) << 10 < 16 * 25 * vertices:
+            raise AssertionError(f"{words}: {peak.decode()} KiB")
+    os.remove(name)

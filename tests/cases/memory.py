@@ -1,7 +1,8 @@
 """Refused memory: each allocation in turn, alone and with all that follow; little address space."""
+import re
 import resource
 
-from cases.running import NO_MEMORY, SMALL_FOREST, SMALL_NET, SMALL_REPORT, Program, Report, case, drawn_graph, expect, ran, told_by, written
+from cases.running import NO_MEMORY, ROOT, SMALL_FOREST, SMALL_NET, SMALL_REPORT, Program, Report, case, drawn_graph, expect, ran, told_by, written
 from cases.workers import healthy_report, over
 
 
@@ -198,6 +199,43 @@ def no_more_memory_than_is_documented(room):
 
             found, _ = told_by(room, [Program.path, *words], file, {"PROCESSORS": "1"}, preexec_fn=limit)
             expect(found, 0, text, b"")
+
+
+def enough_space(words, source, text, most):
+    """A size of address space, at most 64 KiB more than the least, in which the program writes this text."""
+    short, enough = 0, most >> 16
+    while enough - short > 1:
+        middle = (short + enough) // 2
+        if in_space(middle << 16, words, source) == (0, text, b""):
+            enough = middle
+        else:
+            short = middle
+    return enough << 16
+
+
+@case
+def threads_take_no_more_address_space_than_is_documented(room):
+    # beside what a run without threads needs. Of few vertices and many arcs the list of links is longer by threads; the last
+    # graph's list is then past a power of two, so that its room is twice as large
+    with open(f"{ROOT}/SECURITY.md", encoding="utf-8") as it:
+        told = re.search(r"For `--threads` allow twice what `--plain` takes, (\d+) MB, and for each further thread a stack \(`ulimit -s`\) and (0\.\d) MB\.", it.read())
+    beside, each, stack = int(told[1]) * 10**6, int(float(told[2]) * 10**6), 8 << 20
+
+    def limit(space):
+        resource.setrlimit(resource.RLIMIT_STACK, (stack, resource.getrlimit(resource.RLIMIT_STACK)[1]))
+        resource.setrlimit(resource.RLIMIT_AS, (space, space))
+
+    for vertices, arcs in [(9, 700_000), (30_000, 200_000), (52_000, 900_000)]:
+        file, text = drawn_graph(61, vertices, arcs)
+        name = written(f"{room}/net.gr", file)
+        alone = enough_space(["--plain", name], b"", text, 100 << 20)
+        for threads in [2, 3, 4, 8]:
+            documented = 2 * alone + beside + (threads - 1) * (stack + each)
+            # (what is enough may be too little with a little more, since another thread then starts)
+            for more in [0, 10**6, 3 * 10**6, 6 * 10**6, 10**7, 2 * 10**7, 4 * 10**7]:
+                found = ran(["--plain", "--threads", str(threads), name], preexec_fn=lambda space=documented + more: limit(space))
+                if found != (0, text, b""):
+                    raise AssertionError(f"{vertices} vertices, {threads} threads, {more} bytes more than is documented beside {alone}: {found!r:.300}")
 
 
 @case

@@ -3,7 +3,7 @@ import os
 import re
 import subprocess
 
-from cases.running import SMALL_FOREST, SMALL_NET, SMALL_REPORT, Program, case, expect, ran, run, written
+from cases.running import NOTHING_WRITTEN, SMALL_FOREST, SMALL_NET, SMALL_REPORT, Program, case, expect, ran, run, told_by, written
 
 # a comment of a thousand bytes
 COMMENT = b"c" + 998 * b"." + b"\n"
@@ -44,11 +44,37 @@ def nothing_is_told_unasked_or_of_a_short_file(_room):
 
 
 @case
-def a_fault_is_told_over_what_was_read(_room):
+def a_fault_begins_a_line(_room):
+    # so that a log that is searched for lines of the program has it
     malformed = 20_000 * COMMENT + b"x\n" + SMALL_NET
     for words in MODES:
-        told = b"read 16 MB\rboruvka: line 20001: UnknownLine\n"
+        told = b"read 16 MB\r\nboruvka: line 20001: UnknownLine\n"
         expect(ran([*words, "--progress"], malformed), 1, b"", told)
+        # (nothing was told, or its line was ended)
+        expect(ran([*words, "--progress"], COMMENT + b"x\n"), 1, b"", b"boruvka: line 2: UnknownLine\n")
+        cut = b"read 16 MB\rread 32 MB\rread 40 MB\nboruvka: line 40010: MissingArcs\n"
+        expect(ran([*words, "--progress"], LONG_NET[: -len(b"a 6 5 20\n")]), 1, b"", cut)
+
+
+@case
+def a_failed_read_begins_a_line(room):
+    # 300 reads of 65,536 bytes are more than the first step; which line then follows is counted here
+    name = written(f"{room}/long.gr", LONG_NET)
+    line = LONG_NET[: 300 * 65_536].count(b"\n") + 1
+    environment = {"FAIL_CALL": "read", "FAIL_NUMBER": "301"}
+    found, told = told_by(room, [Program.path, "--plain", "--progress", name], b"", environment)
+    expect(found, 3, b"", b"read 16 MB\r\nboruvka: line %d: read failed\n" % line)
+    expect((told, b"", b""), b"x", b"", b"")
+
+
+@case
+def a_failed_write_begins_a_line(room):
+    name = written(f"{room}/long.gr", LONG_NET)
+    for words in MODES:
+        with open("/dev/full", "wb") as full:
+            status, _, errors = ran([*words, "--progress", name], output=full)
+        lines = errors.split(b"\n")
+        expect((status, lines[0][-10:], lines[1:]), 3, b"read 40 MB", [NOTHING_WRITTEN[:-1], b""])
 
 
 @case

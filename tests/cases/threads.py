@@ -181,14 +181,16 @@ def threads_that_do_not_start(room):
 
 @case
 def the_threads_that_are_asked_for(room):
-    # whatever the number of processors, with the first just so many run at once; the file is long enough for more than fifty
+    # whatever the number of processors, with the first just so many run at once; the file is long enough for more than fifty,
+    # and so are two files
     name, text = large_net(room)
-    for threads in THREADS:
-        found, told = told_by(room, [Program.path, *by(threads), name], b"", {"PROCESSORS": "1", "STARTED": "0"})
-        expect(found, 0, text, b"")
-        others = told.count(b"a")
-        if b"J" in told or not min(threads - 1, 50) <= others < threads:
-            raise AssertionError(f"{threads} threads, and {others} others at once: told {told!r:.300}")
+    for names in [[name], [name, name]]:
+        for threads in THREADS:
+            found, told = told_by(room, [Program.path, *by(threads), *names], b"", {"PROCESSORS": "1", "STARTED": "0"})
+            expect(found, 0, text, b"")
+            others = told.count(b"a")
+            if b"J" in told or not min(threads - 1, 50) <= others < threads:
+                raise AssertionError(f"{len(names)} files, {threads} threads, and {others} others at once: told {told!r:.300}")
 
 
 @case

@@ -3,7 +3,6 @@ use Rattle.std.specs.Prelude.{Result, OnOk, Bool, true, false, ⊤}
 use Rattle.std.proofs.Common.{◌≡◌, ◌≤◌, ℕ, ◌⊎◌, List, [], ◌∷◌, length, slice_get, Option, None, Some, inl, inr, Ok, Err, refl, arith}
 use Rattle.byte_streams.specs.Streams.{SourceState, SinkState, IsFlushed, HadNoSetback}
 use Rattle.byte_streams.proofs.Streaming.{gave_nothing, took_nothing}
-use Rattle.links.specs.declared.cuts.CutFault.TheVariants as cut
 use Rattle.links.specs.declared.links.Link.{Link}
 use Rattle.gr_text.specs.Graph.{GraphValue}
 use Rattle.gr_text.specs.declared.faults.ReadFault.TheVariants as read
@@ -15,9 +14,8 @@ use Rattle.plain_run.specs.declared.fault.RunFault.{RunFault}
 use Rattle.plain_run.specs.declared.fault.RunFault.TheVariants as fault
 use Rattle.program_words.specs.Messages.{IsWritten, fault_line}
 use Rattle.program_words.specs.Statuses.{status_for}
-use Rattle.boruvka.specs.Streams.{OnLeft}
-use Rattle.boruvka.specs.Asked.{Asked, EndsAs, EndsOnFiles, EndsOnSource, EndsOn}
-use Rattle.boruvka.specs.Status.{EndsOverWorkers, LeavesOutput, IsUntouched, report_of, status_of_run, uncounted}
+use Rattle.boruvka.specs.Asked.{Asked, EndsAs, EndsOnFiles, EndsOn}
+use Rattle.boruvka.specs.Status.{EndsOverWorkers, LeavesOutput, IsUntouched, report_of, status_of_run}
 
 -- ---- want of memory before anything was read or written
 
@@ -56,17 +54,9 @@ wants_memory_as true asked s a e f text = record {
 }
 wants_memory_as false asked s a e f text = wants_memory_over asked.workers asked.shards asked.report s a e f text
 
--- what is so of the state of a source is so whether it is told how much was read or isn't
-pub so_left : {S : Type 0} (told : Bool) (R : S → Type 0) (left : S) → R left → OnLeft told R left
-so_left a1 a2 a3 a4 = search arith
-
-wants_memory_in : (asked : Asked) (s : SourceState) (a e f : SinkState) → IsWritten no_memory e f
-    → EndsOnSource asked 4 (record { source = s; sink = a; errors = e }) (record { source = s; sink = a; errors = f })
-wants_memory_in asked s a e f text = so_left asked.progress _ s (wants_memory_as asked.plain asked s a e f text)
-
 wants_memory_on : (file : Option (List ℕ)) (asked : Asked) (s : SourceState) (a e f : SinkState) → IsWritten no_memory e f
     → EndsOn file asked 4 (record { source = s; sink = a; errors = e }) (record { source = s; sink = a; errors = f })
-wants_memory_on a1 a2 a3 a4 a5 a6 a7 = search (arith, wants_memory_in)
+wants_memory_on a1 a2 a3 a4 a5 a6 a7 = search (arith, wants_memory_as)
 
 pub wants_memory_of : (files : List (Option (List ℕ))) (asked : Asked) (s : SourceState) (a e f : SinkState) → IsWritten no_memory e f
     → EndsOnFiles files asked 4 (record { source = s; sink = a; errors = e }) (record { source = s; sink = a; errors = f })

@@ -1,5 +1,5 @@
 -- Several files, whose links are joined: one file after the other, and how the run ends.
-use Rattle.std.proofs.Common.{◌≡◌, ◌≢◌, ◌≤◌, ◌<◌, ◌+◌, ℕ, ◌⊎◌, ◌∙◌, List, [], ◌∷◌, ◌++◌, length, get_or, take, drop, map, All, Option, None, Some, Bool, true, false, inl, inr, Result, Ok, Err, refl, sym, ap, subst, arith}
+use Rattle.std.proofs.Common.{◌≡◌, ◌≢◌, ◌≤◌, ◌<◌, ◌+◌, ℕ, ◌∙◌, List, [], ◌∷◌, ◌++◌, length, get_or, take, drop, map, All, Option, None, Some, Bool, true, false, inl, inr, Result, Ok, Err, refl, sym, ap, subst, arith}
 use Rattle.std.specs.Prelude.{IsSome, IsErrAnd, MatchResult, is_some, not, ◌||◌, option_map}
 use Rattle.std.proofs.lemmas.List.{drop_more, get_or-map, length-map, length-take, take-append-drop, take_more}
 use Rattle.limits.specs.declared.TheConstants.{MAX_BYTES}
@@ -14,12 +14,12 @@ use Rattle.plain_run.specs.declared.fault.RunFault.{RunFault}
 use Rattle.plain_run.specs.declared.fault.RunFault.TheVariants as fault
 use Rattle.plain_run.specs.declared.report.Report.{Report}
 use Rattle.program_words.specs.Messages.{IsWritten}
-use Rattle.boruvka.specs.Joined.{AddsFile, AddsFrom, AreAdded, EndsAtFile, EndsJoined, EndsOnSeveral, GiveGraphs, GivesGraph, StopsAfter, StopsAt, inputs, source_of, status_for_stop, stop_line}
+use Rattle.boruvka.specs.Joined.{AddsFile, AddsFrom, AreAdded, EndsOnSeveral, GiveGraphs, GivesGraph, StopsAfter, StopsAt, inputs, source_of, status_for_stop, stop_line}
 use Rattle.boruvka.specs.Status.{IsReported, IsUntouched, LeavesOutput, status_of_run, uncounted}
-use Rattle.boruvka.specs.Streams.{OnLeft, Standard, with_source}
+use Rattle.boruvka.specs.Streams.{Standard}
 use Rattle.boruvka.specs.declared.joined.JoinFault.{JoinFault}
 use Rattle.boruvka.specs.declared.joined.JoinFault.TheVariants.{Unopened, Part}
-use Rattle.boruvka.proofs.Endings.{loud, so_left, status_bound}
+use Rattle.boruvka.proofs.Endings.{loud, status_bound}
 
 -- ---- one more file
 
@@ -160,74 +160,49 @@ stops_at s now new_left left files before behind file was_read old (Part why) sp
   stops = step_stops s now new_left left before file was_read old why fresh long adds;
 }
 
--- ---- where it is told how much was read, and where it isn't
-
-pub on_told : {S : Type 0} (told : Bool) (R : S → Type 0) (left s : S) → told ≡ true → R s → OnLeft told R left
-on_told a1 a2 a3 a4 a5 a6 = search arith
-
-some_left : {S : Type 0} (told : Bool) (R : S → Type 0) (left : S) → OnLeft told R left → (s : S) × R s
-some_left a1 a2 a3 a4 = search arith
-
-untold_left : {S : Type 0} (told : Bool) (R : S → Type 0) (left : S) → told ≡ false → OnLeft told R left → R left
-untold_left a1 a2 a3 a4 a5 = search arith
-
-pub map_left : (told : Bool) (R R' : SourceState → Type 0) (left : SourceState) → ((s : SourceState) → R s → R' s) → OnLeft told R left → OnLeft told R' left
-map_left a1 a2 a3 a4 a5 a6 = search arith
-
--- the same of a stream's state
-pub state_left : {S : Type 0} (told : Bool) (state : S → SourceState) (R : SourceState → Type 0) (left : S) → OnLeft told (λ s. R (state s)) left → OnLeft told R (state left)
-state_left a1 a2 a3 a4 a5 = search arith
+-- ---- how the input is left
 
 -- a FILE that was opened is a source of which nothing is known, and leaves the input alone
-pub adds_named : {S J : Type 0} (told : Bool) (file : Option (List ℕ)) (name : List ℕ) (was_read : Bool) (before : SourceState) (state : S → SourceState) (left : S)
-    (old : PartsValue) (added : Result PartsValue JoinFault) (j : J) → file ≡ Some name → OnLeft told (λ (j : J). AddsFrom uncounted uncounted old added) j
-    → OnLeft told (λ s. AddsFile file was_read before (state s) old added) left
-adds_named {J} told file name was_read before state left old added j is adds = search (arith, some_left, so_left, adds_file)
+pub adds_named : (file : Option (List ℕ)) (name : List ℕ) (was_read : Bool) (before after : SourceState) (old : PartsValue) (added : Result PartsValue JoinFault)
+    → file ≡ Some name → AddsFrom uncounted uncounted old added → AddsFile file was_read before after old added
+adds_named a1 a2 a3 a4 a5 a6 a7 a8 a9 = search (arith, adds_file)
 
 -- no file yet
-pub keeps_none : (tells : Bool) (s : SourceState) (parts : PartsValue) → ArePartsOf [] parts → OnLeft tells (Keeps s [] false parts) s
-keeps_none tells s parts are = so_left tells (Keeps s [] false parts) s ((λ unread. refl), ([], tt, are))
+pub keeps_none : (s : SourceState) (parts : PartsValue) → ArePartsOf [] parts → Keeps s [] false parts s
+keeps_none s parts are = ((λ unread. refl), ([], tt, are))
 
 left_real : (file : Option (List ℕ)) (now real : SourceState) → (IsSome file → real ≡ now) → left_by file now real ≡ real
 left_real a1 a2 a3 a4 = search arith
 
-pub ok_left : (tells told : Bool) (s now real : SourceState) (before : List (Option (List ℕ))) (file : Option (List ℕ)) (was_read now_read : Bool) (old new : PartsValue)
-    → (tells ≡ false → told ≡ false) → now_read ≡ (was_read || not (is_some file)) → (IsSome file → real ≡ now) → (was_read ≡ false → now ≡ s)
-    → inputs before ≡ times was_read → OnLeft tells (Keeps s before was_read old) now
-    → OnLeft told (λ left. AddsFile file was_read now left old (Ok new)) real → OnLeft tells (Keeps s (before ++ file ∷ []) now_read new) real
-ok_left false told s now real before file was_read now_read old new off is leaves fresh count keeps adds =
-    let added = untold_left told (λ left. AddsFile file was_read now left old (Ok new)) real (off refl) adds in
+pub ok_left : (s now real : SourceState) (before : List (Option (List ℕ))) (file : Option (List ℕ)) (was_read now_read : Bool) (old new : PartsValue)
+    → now_read ≡ (was_read || not (is_some file)) → (IsSome file → real ≡ now) → (was_read ≡ false → now ≡ s)
+    → inputs before ≡ times was_read → Keeps s before was_read old now
+    → AddsFile file was_read now real old (Ok new) → Keeps s (before ++ file ∷ []) now_read new real
+ok_left s now real before file was_read now_read old new is leaves fresh count keeps added =
     subst (Keeps s (before ++ file ∷ []) now_read new) (left_real file now real leaves)
     (fresh_left was_read now_read file s now real is fresh, step_ok s now real now before file was_read old new fresh count keeps added)
-ok_left true told s now real before file was_read now_read old new off is leaves fresh count (left, keeps) adds =
-    let (u, added) = some_left told (λ left. AddsFile file was_read now left old (Ok new)) real adds in
-    (left_by file left u, (fresh_left was_read now_read file s left u is keeps.0, step_ok s now u left before file was_read old new fresh count keeps added))
 
 stop_real : (file : Option (List ℕ)) (was_read : Bool) (old : PartsValue) (why : JoinFault) (now real : SourceState) → (IsSome file → real ≡ now)
     → AddsFile file was_read now real old (Err why) → stop_left file why now real ≡ real
 stop_real a1 a2 a3 a4 a5 a6 a7 a8 = search (arith, left_real)
 
-pub stops_left : (tells told : Bool) (s now real : SourceState) (files before behind : List (Option (List ℕ))) (file : Option (List ℕ)) (was_read : Bool) (old : PartsValue)
-    (why : JoinFault) → (tells ≡ false → told ≡ false) → files ≡ before ++ file ∷ behind → (IsSome file → real ≡ now) → (was_read ≡ false → now ≡ s)
-    → inputs before ≡ times was_read → old.files ≡ length before → OnLeft tells (Keeps s before was_read old) now
-    → OnLeft told (λ left. AddsFile file was_read now left old (Err why)) real → OnLeft tells (StopsAt files file why s) real
-stops_left false told s now real files before behind file was_read old why off split leaves fresh count long keeps adds =
-    let adds_here = untold_left told (λ left. AddsFile file was_read now left old (Err why)) real (off refl) adds in
-    subst (StopsAt files file why s) (stop_real file was_read old why now real leaves adds_here)
-    (stops_at s now real now files before behind file was_read old why split fresh count long keeps adds_here)
-stops_left true told s now real files before behind file was_read old why off split leaves fresh count long (left, keeps) adds =
-    let (u, adds_so) = some_left told (λ left. AddsFile file was_read now left old (Err why)) real adds in
-    (stop_left file why left u, stops_at s now u left files before behind file was_read old why split fresh count long keeps adds_so)
+pub stops_left : (s now real : SourceState) (files before behind : List (Option (List ℕ))) (file : Option (List ℕ)) (was_read : Bool) (old : PartsValue)
+    (why : JoinFault) → files ≡ before ++ file ∷ behind → (IsSome file → real ≡ now) → (was_read ≡ false → now ≡ s)
+    → inputs before ≡ times was_read → old.files ≡ length before → Keeps s before was_read old now
+    → AddsFile file was_read now real old (Err why) → StopsAt files file why s real
+stops_left s now real files before behind file was_read old why split leaves fresh count long keeps adds =
+    subst (StopsAt files file why s) (stop_real file was_read old why now real leaves adds)
+    (stops_at s now real now files before behind file was_read old why split fresh count long keeps adds)
 
 -- once all files were read
-pub added_left : (tells : Bool) (s real : SourceState) (files : List (Option (List ℕ))) (was_read : Bool) (parts : PartsValue) → inputs files ≡ times was_read
-    → OnLeft tells (Keeps s files was_read parts) real → OnLeft tells (AreAdded files parts s) real
-added_left tells s real files was_read parts count keeps = search (arith, map_left, once, none_read)
+pub added_left : (s real : SourceState) (files : List (Option (List ℕ))) (was_read : Bool) (parts : PartsValue) → inputs files ≡ times was_read
+    → Keeps s files was_read parts real → AreAdded files parts s real
+added_left s real files was_read parts count keeps = search (arith, once, none_read)
 
 -- a file that came to the parts was the input for the first time
-pub added_unread : (told : Bool) (file : Option (List ℕ)) (was_read : Bool) (now real : SourceState) (old new : PartsValue)
-    → OnLeft told (λ left. AddsFile file was_read now left old (Ok new)) real → file ≡ None → was_read ≡ false
-added_unread a1 a2 a3 a4 a5 a6 a7 a8 = search arith
+pub added_unread : (file : Option (List ℕ)) (was_read : Bool) (now real : SourceState) (old new : PartsValue)
+    → AddsFile file was_read now real old (Ok new) → file ≡ None → was_read ≡ false
+added_unread a1 a2 a3 a4 a5 a6 a7 = search arith
 
 -- ---- place by place
 
@@ -298,25 +273,20 @@ forest_silent graph (Err (fault.Write n)) status a b is written silent = absurd 
 
 -- ---- the end
 
-ends_joined : (files : List (Option (List ℕ))) (wants : Bool) (status : ℕ) (before after : Standard) (parts : PartsValue) (result : Result Report RunFault) (left : SourceState)
-    → status ≡ status_of_run result → ((graphs : List GraphValue) → ArePartsOf graphs parts → WritesForestOf (joined_graph parts.vertices graphs) result before.sink after.sink)
-    → IsReported wants result before.errors after.errors → AreAdded files parts before.source left → EndsJoined files wants status before (with_source left after)
-ends_joined files wants status before after parts result left is written reported added = search arith
-
-pub joined_ends : (files : List (Option (List ℕ))) (tells wants : Bool) (status : ℕ) (before after : Standard) (parts : PartsValue) (result : Result Report RunFault)
-    → OnLeft tells (AreAdded files parts before.source) after.source → status ≡ status_of_run result
+pub joined_ends : (files : List (Option (List ℕ))) (wants : Bool) (status : ℕ) (before after : Standard) (parts : PartsValue) (result : Result Report RunFault)
+    → AreAdded files parts before.source after.source → status ≡ status_of_run result
     → ((graphs : List GraphValue) → ArePartsOf graphs parts → WritesForestOf (joined_graph parts.vertices graphs) result before.sink after.sink)
-    → IsReported wants result before.errors after.errors → EndsOnSeveral files tells wants status before after
-joined_ends files tells wants status before after parts result added is written reported = search (arith, map_left, ends_joined)
+    → IsReported wants result before.errors after.errors → EndsOnSeveral files wants status before after
+joined_ends files wants status before after parts result added is written reported = search arith
 
-pub stop_ends : (files : List (Option (List ℕ))) (tells wants : Bool) (status : ℕ) (before after : Standard) (file : Option (List ℕ)) (why : JoinFault)
-    → OnLeft tells (StopsAt files file why before.source) after.source → status ≡ status_for_stop why → after.sink ≡ before.sink
-    → IsWritten (stop_line file why) before.errors after.errors → EndsOnSeveral files tells wants status before after
-stop_ends files tells wants status before after file why stops is same told = search (arith, map_left, took_nothing)
+pub stop_ends : (files : List (Option (List ℕ))) (wants : Bool) (status : ℕ) (before after : Standard) (file : Option (List ℕ)) (why : JoinFault)
+    → StopsAt files file why before.source after.source → status ≡ status_for_stop why → after.sink ≡ before.sink
+    → IsWritten (stop_line file why) before.errors after.errors → EndsOnSeveral files wants status before after
+stop_ends files wants status before after file why stops is same told = search (arith, took_nothing)
 
 -- the text was written of some graph's forest
-pub wrote : (tells : Bool) (input real : SourceState) (files : List (Option (List ℕ))) (a b : SinkState) (parts : PartsValue) (result : Result Report RunFault)
-    → OnLeft tells (AreAdded files parts input) real
+pub wrote : (input real : SourceState) (files : List (Option (List ℕ))) (a b : SinkState) (parts : PartsValue) (result : Result Report RunFault)
+    → AreAdded files parts input real
     → ((graphs : List GraphValue) → ArePartsOf graphs parts → WritesForestOf (joined_graph parts.vertices graphs) result a b)
     → (graph : GraphValue) × WritesForestOf graph result a b
-wrote tells input real files a b parts result added written = search (arith, some_left)
+wrote input real files a b parts result added written = search arith

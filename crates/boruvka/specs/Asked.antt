@@ -9,7 +9,7 @@ use Rattle.program_words.specs.declared.chosen.Options.{Options}
 use Rattle.program_words.specs.Messages.{IsWritten, fault_line, unopened_line}
 use Rattle.boruvka.specs.Joined.{EndsOnSeveral}
 use Rattle.boruvka.specs.Status.{EndsOverWorkers, EndsWith, IsUntouched, uncounted}
-use Rattle.boruvka.specs.Streams.{OnLeftSource, Standard, with_source}
+use Rattle.boruvka.specs.Streams.{Standard, with_source}
 
 -- what lawful words ask for: so many workers and shards, or no workers; with the report or without; on these files, each a FILE or the input
 pub record Asked : Type 0 where
@@ -17,7 +17,6 @@ pub record Asked : Type 0 where
   pub shards : ℕ
   pub plain : Bool
   pub report : Bool
-  pub progress : Bool
   pub files : List (Option (List ℕ))
 
 -- the files that are asked for
@@ -30,7 +29,6 @@ asked_of chosen = record {
   shards = chosen.shards;
   plain = chosen.plain;
   report = chosen.report;
-  progress = chosen.progress;
   files = files_of chosen;
 }
 
@@ -39,17 +37,13 @@ abbrev pub EndsAs : Bool → Asked → ℕ → Standard → Standard → Type 0
 EndsAs true asked = EndsWith asked.report
 EndsAs false asked = EndsOverWorkers asked.workers asked.shards asked.report
 
--- a run on a source, of which it is told how much was read or isn't
-abbrev pub EndsOnSource : Asked → ℕ → Standard → Standard → Type 0
-EndsOnSource asked status = OnLeftSource asked.progress (EndsAs asked.plain asked status)
-
 -- what is done with a FILE: it can't be opened, whose line is written and nothing else, or it is run on, and nothing is
 -- known of what it has; without a FILE the input is run on
 abbrev pub EndsOn : Option (List ℕ) → Asked → ℕ → Standard → Standard → Type 0
-EndsOn None asked status before after = EndsOnSource asked status before after
+EndsOn None asked status before after = EndsAs asked.plain asked status before after
 EndsOn (Some name) asked status before after =
     ((status ≡ 3) × IsUntouched before.sink after.sink × IsWritten (unopened_line name) before.errors after.errors)
-    ⊎ EndsOnSource asked status (with_source uncounted before) (with_source uncounted after)
+    ⊎ EndsAs asked.plain asked status (with_source uncounted before) (with_source uncounted after)
 
 -- memory was refused before a run began: the line that says so is written and nothing else, and the input is left alone
 pub record EndsBefore (status : ℕ) (before after : Standard) : Type 0 where
@@ -64,7 +58,7 @@ abbrev pub EndsOnFiles : List (Option (List ℕ)) → Asked → ℕ → Standard
 EndsOnFiles [] asked = EndsOn None asked
 EndsOnFiles (file ∷ []) asked = EndsOn file asked
 EndsOnFiles (file ∷ next ∷ files) asked = λ status before after.
-    EndsBefore status before after ⊎ EndsOnSeveral (file ∷ next ∷ files) asked.progress asked.report status before after
+    EndsBefore status before after ⊎ EndsOnSeveral (file ∷ next ∷ files) asked.report status before after
 
 -- what is asked for was done
 abbrev pub Obeys : Asked → ℕ → Standard → Standard → Type 0
@@ -79,7 +73,6 @@ asked_by words = record {
   shards = number_or (given words (codes "shards")) 64;
   plain = is_set words (codes "plain");
   report = is_set words (codes "report");
-  progress = is_set words (codes "progress");
   files = files_named words;
 }
 

@@ -12,7 +12,7 @@ use Rattle.plain_run.specs.declared.report.Report.{Report}
 use Rattle.program_words.specs.Messages.{IsWritten, part_line, unopened_line}
 use Rattle.program_words.specs.Statuses.{status_for_part}
 use Rattle.boruvka.specs.Status.{IsReported, IsUntouched, status_of_run, uncounted}
-use Rattle.boruvka.specs.Streams.{OnLeftSource, Standard}
+use Rattle.boruvka.specs.Streams.{Standard}
 use Rattle.boruvka.specs.declared.joined.JoinFault.{JoinFault}
 use Rattle.boruvka.specs.declared.joined.JoinFault.TheVariants.{Unopened, Part}
 
@@ -129,8 +129,6 @@ pub record EndsAtFile (files : List (Option (List ℕ))) (status : ℕ) (before 
   pub nothing : IsUntouched before.sink after.sink
   pub told : IsWritten (stop_line file why) before.errors after.errors
 
--- a run on several files, of which it is told how much was read or isn't, and whose report is wanted or not, had this status,
--- and did to its streams what it says
-abbrev pub EndsOnSeveral : List (Option (List ℕ)) → Bool → Bool → ℕ → Standard → Standard → Type 0
-EndsOnSeveral files tells wants status =
-    OnLeftSource tells (λ before after. EndsJoined files wants status before after ⊎ EndsAtFile files status before after)
+-- a run on several files, whose report is wanted or not, had this status, and did to its streams what it says
+abbrev pub EndsOnSeveral : List (Option (List ℕ)) → Bool → ℕ → Standard → Standard → Type 0
+EndsOnSeveral files wants status before after = EndsJoined files wants status before after ⊎ EndsAtFile files status before after

@@ -14,8 +14,7 @@ use Rattle.plain_run.specs.declared.fault.RunFault.{RunFault}
 use Rattle.tcp_lines.specs.Lines.{TcpLineState, tcp_line, unused}
 use Rattle.program_words.specs.Messages.{IsWritten, report_line, fault_line}
 use Rattle.program_words.specs.Statuses.{status_for}
-use Rattle.boruvka.specs.Streams.{Standard, Left, left_output, left_errors, of_run}
-use Rattle.boruvka.specs.declared.standard.StandardStreams.{StandardStreams}
+use Rattle.boruvka.specs.Streams.{Standard, of_run}
 
 -- ---- what was written
 
@@ -44,13 +43,13 @@ LeavesOutput status = (status ≡ 1) ⊎ (status ≡ 2) ⊎ (status ≡ 4) ⊎ (
 -- a run ends with one of six statuses, and one without workers isn't ended by what workers answered. At a status that says
 -- that nothing was written the output is as it was; at status 0 none of its bytes waits for a flush, and the errors got
 -- nothing, but for a report that is wanted
-pub record KeepsStreams {I O E : Type 0} (writes : Sink.Ghosts O) (plain wants : Bool) (status : ℕ)
-    (before : StandardStreams I O E) (after : Left I O E) : Type 0 where
+pub record KeepsStreams {O E : Type 0} (writes : Sink.Ghosts O) (plain wants : Bool) (status : ℕ)
+    (output : O) (errors : E) (left_output : O) (left_errors : E) : Type 0 where
   pub few : status ≤ 5
   pub plain_status : plain ≡ true → status ≤ 4
-  pub silent : LeavesOutput status → IsUntouched (writes.state before.output.now) (writes.state (left_output after))
-  pub flushed : status ≡ 0 → IsFlushed (writes.unflushed (left_output after))
-  pub quiet : wants ≡ false → status ≡ 0 → left_errors after ≡ before.errors.now
+  pub silent : LeavesOutput status → IsUntouched (writes.state output) (writes.state left_output)
+  pub flushed : status ≡ 0 → IsFlushed (writes.unflushed left_output)
+  pub quiet : wants ≡ false → status ≡ 0 → left_errors ≡ errors
 
 -- ---- the report
 

@@ -1,10 +1,11 @@
 -- The program's three streams, before a call and after it.
-use Rattle.std.specs.Prelude.{⊤, Bool, true, false}
+use Rattle.std.specs.Prelude.{◌≡◌, ⊤}
 use Rattle.std.specs.Borrow.{MutBor}
 use Rattle.byte_streams.specs.Streams.{SourceState, SinkState}
 use Rattle.byte_streams.specs.declared.traits.Source as Source
 use Rattle.byte_streams.specs.declared.traits.Sink as Sink
 use Rattle.plain_run.specs.Outcomes.{Streams, streams}
+use Rattle.boruvka.specs.declared.progress.Watched.{Watched}
 use Rattle.boruvka.specs.declared.standard.StandardStreams.{StandardStreams}
 
 -- the program's three streams, as each is known
@@ -50,15 +51,12 @@ OnStreams reads writes tells R before after =
     (standard reads writes tells before.input.now before.output.now before.errors.now)
     (standard reads writes tells (left_input after) (left_output after) (left_errors after))
 
--- R of how a source was left. Where it is told how much was read, that isn't known, and R is so of some state
-abbrev pub OnLeft : {S : Type 0} → Bool → (S → Type 0) → S → Type 0
-OnLeft {S} true R left = (s : S) × R s
-OnLeft false R left = R left
-
 -- the streams with another source
 abbrev pub with_source : SourceState → Standard → Standard
 with_source s all = record { source = s; sink = all.sink; errors = all.errors }
 
--- R of the streams before and after, where it is told how much was read or isn't
-abbrev pub OnLeftSource : Bool → (Standard → Standard → Type 0) → Standard → Standard → Type 0
-OnLeftSource tells R before after = OnLeft tells (λ left. R before (with_source left after)) after.source
+-- ---- sources of which it is told how much was read
+
+-- nothing was told: the writer is the same, and as it was
+abbrev pub IsUntold : {I W : Type 0} → Watched I W → Watched I W → Type 0
+IsUntold before after = (after.progress.ghost_name ≡ before.progress.ghost_name) × (after.progress.now.writer ≡ before.progress.now.writer)

@@ -13,14 +13,14 @@ ghost use Rattle.forest_run.specs.WiredLines.{AreServed};
 ghost use Rattle.tcp_lines.specs.Lines.{tcp_line, unused};
 ghost use Rattle.program_words.specs.Arguments.{IsMistake, files_named, is_set, refusals};
 ghost use Rattle.program_words.specs.Messages.{IsWritten, message_line, no_text_line};
-ghost use Rattle.boruvka.specs.Streams.{AreReady, OnStreams, left_input, standard};
-ghost use Rattle.boruvka.specs.Asked.{asked_by, asked_of, EndsAs, EndsOnSource, Obeys};
+ghost use Rattle.boruvka.specs.Streams.{AreReady, IsUntold, OnStreams, left_errors, left_output, standard};
+ghost use Rattle.boruvka.specs.Asked.{asked_by, asked_of, EndsAs, Obeys};
 ghost use Rattle.boruvka.specs.Asked.{AskFor, AreWrong, HelpEnds, RefusesWords, EndsRefused};
 ghost use Rattle.boruvka.specs.Status.{report_of, JudgesFile, KeepsStreams, EndsOver, RefusesNoGraph, IsDoneOrHindered, LeavesOutput, IsUntouched};
 
 use crate::ends::write_end;
 use crate::joined::run_joined;
-use crate::progress::{Told, Watched};
+use crate::progress::Watched;
 use crate::standard::{StandardStreams, workers_beside};
 use byte_streams::{Sink, Source, Uncounted, put};
 use forest_run::{Cutting, Report, RunFault, run_lines, run_plain, run_threads};
@@ -31,7 +31,7 @@ use program_words::{
 use std::alloc::{Alloc, AllocError, Global};
 use std::convert::AsStr;
 use std::fs::{File, Files};
-use std::io::{self, ErrorKind};
+use std::io::{self, ErrorKind, Write};
 use std::net::{Net, TcpListener, TcpStream};
 use std::sync::Wait;
 use std::thread::Threads;
@@ -68,7 +68,7 @@ pub fn run_over<
     // Whatever the workers answer, and more where each line is new and carries its worker's session.
     ensures ends { OnStreams I.Source O.Sink E.Sink (EndsOver L.Line lines.items shards wants_report result)
         io.entry io.exit }
-    ensures kept { KeepsStreams O.Sink false wants_report result io.entry io.exit }
+    ensures kept { KeepsStreams O.Sink false wants_report result io.entry.output.now io.entry.errors.now (left_output io.exit) (left_errors io.exit) }
 
     // A file that means nothing is refused.
     ensures malformed { OnStreams I.Source O.Sink E.Sink (RefusesNoGraph result) io.entry io.exit }
@@ -103,7 +103,7 @@ fn run_started<R: Alloc<A = Global> + Threads + Wait + Sync, I: Source, O: Sink,
     // Over just these lines, whatever comes over them.
     ensures ends { OnStreams I.Source O.Sink E.Sink
         (EndsOver tcp_line started.0.items chosen.now.shards chosen.now.report result) io.entry io.exit }
-    ensures kept { KeepsStreams O.Sink false chosen.now.report result io.entry io.exit }
+    ensures kept { KeepsStreams O.Sink false chosen.now.report result io.entry.output.now io.entry.errors.now (left_output io.exit) (left_errors io.exit) }
 {
     let (lines, workers) = started;
     let status = run_over(rt, chosen.shards, chosen.report, lines, io);
@@ -149,7 +149,7 @@ where
     requires workers { chosen.now.workers ≤ MAX_WORKERS }
     requires streams { AreReady I.Source O.Sink E.Sink io }
     ensures ends { OnStreams I.Source O.Sink E.Sink (EndsAs chosen.now.plain (asked_of chosen.now) result) io.entry io.exit }
-    ensures kept { KeepsStreams O.Sink chosen.now.plain chosen.now.report result io.entry io.exit }
+    ensures kept { KeepsStreams O.Sink chosen.now.plain chosen.now.report result io.entry.output.now io.entry.errors.now (left_output io.exit) (left_errors io.exit) }
 {
     if chosen.plain {
         let StandardStreams {
@@ -169,11 +169,12 @@ where
 }
 
 // Runs as the words ask for, on the input, and tells how much of it was read, where they ask for that.
-fn run_told<R, I, O, E, P>(
+fn run_told<R, I, W, O, E>(
     rt: &R,
     chosen: &Options,
-    io: StandardStreams<I, O, E>,
-    progress: &mut P,
+    input: &mut Watched<I, W>,
+    output: &mut O,
+    errors: &mut E,
 ) -> u8
 where
     R: Files<File = File>
@@ -186,44 +187,48 @@ where
         + Send
         + 'static,
     I: Source,
+    W: Write,
     O: Sink,
     E: Sink,
-    P: Sink,
     requires workers { chosen.now.workers ≤ MAX_WORKERS }
-    requires streams { AreReady I.Source O.Sink E.Sink io }
-    requires always { (sink : P) → P.can_write sink }
-    ensures ends { OnStreams I.Source O.Sink E.Sink (EndsOnSource (asked_of chosen.now) result) io.entry io.exit }
-    ensures kept { KeepsStreams O.Sink chosen.now.plain chosen.now.report result io.entry io.exit }
-    ensures untold { chosen.now.progress ≡ false → progress.new ≡ progress.old }
+    requires input { I.can_read input.old.source }
+    requires output { O.can_write output.old }
+    requires errors { E.can_write errors.old }
+    ensures ends { EndsAs chosen.now.plain (asked_of chosen.now) result
+        (standard I.Source O.Sink E.Sink input.old.source output.old errors.old)
+        (standard I.Source O.Sink E.Sink input.new.source output.new errors.new) }
+    ensures kept { KeepsStreams O.Sink chosen.now.plain chosen.now.report result output.old errors.old output.new errors.new }
+    ensures untold { chosen.now.progress ≡ false → IsUntold input.old input.new }
 {
-    if !chosen.progress {
-        return run_on(rt, chosen, io);
+    if chosen.progress {
+        input.progress.want(true);
+        let told = StandardStreams {
+            input,
+            output,
+            errors,
+        };
+        return run_on(rt, chosen, told);
     }
-    let StandardStreams {
-        input,
-        output,
-        errors,
-    } = io;
-    let watched = StandardStreams {
-        input: &mut Watched::new(input, progress, Told::new(true)),
+    let untold = StandardStreams {
+        input: &mut input.source,
         output,
         errors,
     };
-    run_on(rt, chosen, watched)
+    run_on(rt, chosen, untold)
 }
 
 /// Does what lawful words ask for, and answers the status.
 ///
 /// One FILE is opened before the run begins; without FILE it reads the input. Of several files it joins the links. The forest
-/// goes to the output, and what went wrong to the errors, as does the report where it is asked for. `progress` is told how much was read,
-/// where that is asked for. With `--plain` it runs by up to as many
-/// threads as are asked for. Without it it starts the workers that are asked for, in threads of this process at the far
-/// ends of sockets, and ends them.
-pub fn obey<R, I, O, E, P>(
+/// goes to the output, and what went wrong to the errors, as does the report where it is asked for. It tells how much was
+/// read, where that is asked for. With `--plain` it runs by up to as many threads as are asked for. Without it it starts
+/// the workers that are asked for, in threads of this process at the far ends of sockets, and ends them.
+pub fn obey<R, I, W, O, E>(
     rt: &R,
     chosen: &Options,
-    io: StandardStreams<I, O, E>,
-    progress: &mut P,
+    input: &mut Watched<I, W>,
+    output: &mut O,
+    errors: &mut E,
 ) -> u8
 where
     R: Files<File = File>
@@ -236,46 +241,51 @@ where
         + Send
         + 'static,
     I: Source,
+    W: Write,
     O: Sink,
     E: Sink,
-    P: Sink,
     requires workers { chosen.now.workers ≤ MAX_WORKERS }
-    requires streams { AreReady I.Source O.Sink E.Sink io }
-    requires always { (sink : P) → P.can_write sink }
+    requires input { I.can_read input.old.source }
+    requires output { O.can_write output.old }
+    requires errors { E.can_write errors.old }
     requires few { length chosen.now.files.items ≤ MAX_FILES }
 
     // What is asked for is done, on the input or on FILE, or on several; where each is a FILE the input isn't read.
-    ensures obeys { OnStreams I.Source O.Sink E.Sink (Obeys (asked_of chosen.now) result) io.entry io.exit }
+    ensures obeys { Obeys (asked_of chosen.now) result
+        (standard I.Source O.Sink E.Sink input.old.source output.old errors.old)
+        (standard I.Source O.Sink E.Sink input.new.source output.new errors.new) }
     ensures leaves_input { chosen.now.files.items ≢ [] → All IsSome chosen.now.files.items
-        → left_input io.exit ≡ io.entry.input.now }
+        → input.new.source ≡ input.old.source }
 
     // A file that is refused or can't be cut, want of memory and answers that make no forest write nothing to the
     // output. Where the run ends well none of its bytes waits for a flush, where that is known, and the errors get the
     // report alone.
-    ensures kept { KeepsStreams O.Sink chosen.now.plain chosen.now.report result io.entry io.exit }
-    ensures untold { chosen.now.progress ≡ false → progress.new ≡ progress.old }
+    ensures kept { KeepsStreams O.Sink chosen.now.plain chosen.now.report result output.old errors.old output.new errors.new }
+    ensures untold { chosen.now.progress ≡ false → IsUntold input.old input.new }
 {
     if chosen.files.len() > 1 {
-        return run_joined(rt, chosen, io, progress);
+        return run_joined(rt, chosen, input, output, errors);
     }
     let Some(Some(name)) = chosen.files.first() else {
-        return run_told(rt, chosen, io, progress);
+        return run_told(rt, chosen, input, output, errors);
     };
     let Ok(file) = File::open(rt, name) else {
-        write_unopened(io.errors, name.as_str());
+        write_unopened(errors, name.as_str());
         return DEVICE;
     };
-    let StandardStreams {
-        input: _,
-        output,
-        errors,
-    } = io;
-    let from_file = StandardStreams {
-        input: &mut Uncounted(file),
-        output,
-        errors,
+    if !chosen.progress {
+        let untold = StandardStreams {
+            input: &mut Uncounted(file),
+            output,
+            errors,
+        };
+        return run_on(rt, chosen, untold);
+    }
+    let mut from_file = Watched {
+        source: Uncounted(file),
+        progress: &mut *input.progress,
     };
-    run_told(rt, chosen, from_file, progress)
+    run_told(rt, chosen, &mut from_file, output, errors)
 }
 
 // Prints the help or the version to the output, or what is wrong with the words to errors.
@@ -322,20 +332,19 @@ fn print_usage<O: Sink, E: Sink>(
 ///
 /// `words` has the program's name first. The words are judged first, by [`options`]; then they are
 /// obeyed, by [`obey`], or the user reads what is wrong with them. A text for the user goes to the errors, the
-/// help and the version alone to the output. A failed write to the errors is ignored. `progress` is told how much was read,
-/// if the words ask for that; it may be another handle of the errors' stream.
+/// help and the version alone to the output. A failed write to the errors is ignored. If the words ask for it, the writer
+/// beside the input is told how much was read; it may be another handle of the errors' stream.
 ///
 /// Status 0: done. 1: the file was refused, or can't be cut so. 2: the words were. 3: FILE can't be opened, a
 /// read failed, or a write did. 4: memory was refused. 5: what the workers answered makes no forest.
 ///
 /// It waits for the workers, and each of them has ended when it answers.
-pub fn command<R, S, I, O, E, P>(
+pub fn command<R, S, I, W, O, E>(
     rt: &R,
     words: &[S],
-    input: &mut I,
+    input: &mut Watched<I, W>,
     output: &mut O,
     errors: &mut E,
-    progress: &mut P,
 ) -> u8
 where
     R: Files<File = File>
@@ -349,21 +358,20 @@ where
         + 'static,
     S: AsStr,
     I: Source,
+    W: Write,
     O: Sink,
     E: Sink,
-    P: Sink,
-    requires input { I.can_read input.old }
+    requires input { I.can_read input.old.source }
     requires output { O.can_write output.old }
     requires errors { E.can_write errors.old }
-    requires always { (sink : P) → P.can_write sink }
 
     // What lawful words ask for is done: the input is run on, or FILE is, or several; where each is a FILE the input isn't
     // touched.
     ensures obeys { refusals (map S.text words.now) ≡ [] → Obeys (asked_by (map S.text words.now)) result
-        (standard I.Source O.Sink E.Sink input.old output.old errors.old)
-        (standard I.Source O.Sink E.Sink input.new output.new errors.new) }
+        (standard I.Source O.Sink E.Sink input.old.source output.old errors.old)
+        (standard I.Source O.Sink E.Sink input.new.source output.new errors.new) }
     ensures leaves_input { files_named (map S.text words.now) ≢ []
-        → All IsSome (files_named (map S.text words.now)) → input.new ≡ input.old }
+        → All IsSome (files_named (map S.text words.now)) → input.new.source ≡ input.old.source }
 
     // A file that is refused or can't be cut, wrong words, want of memory and answers that make no forest write
     // nothing to the output. Where all went well none of the forest's bytes waits for a flush, where that is known, and
@@ -372,7 +380,7 @@ where
     ensures silent { LeavesOutput result → IsUntouched (O.state output.old) (O.state output.new) }
     ensures flushed { refusals (map S.text words.now) ≡ [] → result ≡ 0 → IsFlushed (O.unflushed output.new) }
     ensures quiet { is_set (map S.text words.now) (codes "report") ≡ false → result ≡ 0 → errors.new ≡ errors.old }
-    ensures untold { is_set (map S.text words.now) (codes "progress") ≡ false → progress.new ≡ progress.old }
+    ensures untold { is_set (map S.text words.now) (codes "progress") ≡ false → IsUntold input.old input.new }
 
     // The help and the version go to the output, and wrong words touch nothing. Words that are refused and ask for the help
     // too end as one or the other.
@@ -386,14 +394,7 @@ where
         → (input.new ≡ input.old) × EndsRefused O.state result output.old output.new }
 {
     match options(rt.alloc(), words) {
-        Ok(chosen) => {
-            let io = StandardStreams {
-                input,
-                output,
-                errors,
-            };
-            obey(rt, &chosen, io, progress)
-        }
+        Ok(chosen) => { obey(rt, &chosen, input, output, errors) }
         Err(OptionsFault::Usage(error)) => print_usage(rt.alloc(), &error, output, errors),
         Err(OptionsFault::Memory) => {
             write_fault(errors, &RunFault::Memory);

@@ -6,16 +6,16 @@ ghost use Rattle.boruvka.specs.Asked.{files_of};
 ghost use Rattle.boruvka.specs.Joined.{AddsFile, AddsFrom, AreAdded, EndsOnSeveral, StopsAt, status_for_stop, stop_line};
 ghost use Rattle.boruvka.specs.Joined.{name_of as the_name_of};
 ghost use Rattle.boruvka.specs.Status.{KeepsStreams};
-ghost use Rattle.boruvka.specs.Streams.{AreReady, OnLeft, OnStreams, left_input};
+ghost use Rattle.boruvka.specs.Streams.{IsUntold, standard};
 
 use crate::ends::write_end;
-use crate::progress::{Told, Watched};
-use crate::standard::StandardStreams;
+use crate::progress::Watched;
 use byte_streams::{Sink, Source, Uncounted};
 use plain_run::{Crew, ManyThreads, PartFault, Parts};
 use program_words::{DEVICE, Options, status_of_part, write_part_fault, write_unopened};
 use std::alloc::{Alloc, Global};
 use std::fs::{File, Files};
+use std::io::Write;
 use std::thread::Threads;
 
 /// Why a file of several stops the run.
@@ -27,64 +27,61 @@ pub enum JoinFault {
     Part(PartFault),
 }
 
-// One more part from a source, and how much of it was read is told, if that is wanted.
-fn add_source<C: Crew, I: Source, P: Sink>(
+// One more part from a source.
+fn add_source<C: Crew, I: Source>(
     crew: &C,
     parts: Parts,
     source: &mut I,
-    progress: &mut P,
-    told: &mut Told,
 ) -> Result<Parts, JoinFault>
     requires ready { C.ready }
     requires source { I.can_read source.old }
-    requires always { (sink : P) → P.can_write sink }
     requires room { parts.files < MAX_FILES }
-    ensures added { OnLeft told.old.is_wanted
-        (λ left. AddsFrom (I.state source.old) (I.state left) parts result) source.new }
+    ensures added { AddsFrom (I.state source.old) (I.state source.new) parts result }
     ensures files { IfOk result (λ more. more.files ≡ parts.files + 1) }
-    ensures untold { told.old.is_wanted ≡ false → (progress.new ≡ progress.old) × (told.new.is_wanted ≡ false) }
 {
-    if !told.is_wanted {
-        return parts.add(crew, source).map_err(JoinFault::Part);
-    }
-    let mut watched = Watched::new(source, progress, *told);
-    let added = parts.add(crew, &mut watched).map_err(JoinFault::Part);
-    *told = watched.told();
-    added
+    parts.add(crew, source).map_err(JoinFault::Part)
 }
 
-// One more part from a file: FILE is opened, and the input is read only once.
-fn add_file<R: Files<File = File>, C: Crew, I: Source, P: Sink>(
+// One more part from a file, and how much of it was read is told, if that is wanted. FILE is opened, and the input is read
+// only once.
+fn add_file<R: Files<File = File>, C: Crew, I: Source, W: Write>(
     rt: &R,
     crew: &C,
     parts: Parts,
     file: &Option<String>,
-    input: &mut I,
+    input: &mut Watched<I, W>,
     was_read: bool,
-    progress: &mut P,
-    told: &mut Told,
 ) -> Result<Parts, JoinFault>
     requires ready { C.ready }
-    requires input { was_read ≡ false → I.can_read input.old }
-    requires always { (sink : P) → P.can_write sink }
+    requires input { was_read ≡ false → I.can_read input.old.source }
     requires room { parts.files < MAX_FILES }
-    ensures added { OnLeft told.old.is_wanted
-        (λ left. AddsFile (option_map string_bytes file.now) was_read (I.state input.old) (I.state left) parts result)
-        input.new }
+    ensures added { AddsFile (option_map string_bytes file.now) was_read (I.state input.old.source) (I.state input.new.source) parts result }
     ensures files { IfOk result (λ more. more.files ≡ parts.files + 1) }
-    ensures leaves_input { IsSome file.now → input.new ≡ input.old }
-    ensures untold { told.old.is_wanted ≡ false → (progress.new ≡ progress.old) × (told.new.is_wanted ≡ false) }
+    ensures leaves_input { IsSome file.now → input.new.source ≡ input.old.source }
+    ensures untold { input.old.progress.now.is_wanted ≡ false → IsUntold input.old input.new × (input.new.progress.now.is_wanted ≡ false) }
 {
     match file {
-        Some(name) => match File::open(rt, name) {
-            Ok(file) => add_source(crew, parts, &mut Uncounted(file), progress, told),
-            Err(_) => Err(JoinFault::Unopened),
-        },
+        Some(name) => {
+            let Ok(file) = File::open(rt, name) else {
+                return Err(JoinFault::Unopened);
+            };
+            if !input.progress.is_wanted {
+                return add_source(crew, parts, &mut Uncounted(file));
+            }
+            let mut from_file = Watched {
+                source: Uncounted(file),
+                progress: &mut *input.progress,
+            };
+            add_source(crew, parts, &mut from_file)
+        }
         None => {
             if was_read {
                 return Err(JoinFault::Unopened);
             }
-            add_source(crew, parts, input, progress, told)
+            if !input.progress.is_wanted {
+                return add_source(crew, parts, &mut input.source);
+            }
+            add_source(crew, parts, input)
         }
     }
 }
@@ -97,33 +94,30 @@ fn is_read_by(was_read: bool, file: &Option<String>) -> bool
 }
 
 // The files as parts, in their order, or the first that isn't one.
-fn add_files<'a, R: Files<File = File> + Alloc<A = Global> + Threads + Sync, I: Source, P: Sink>(
+fn add_files<'a, R: Files<File = File> + Alloc<A = Global> + Threads + Sync, I: Source, W: Write>(
     rt: &R,
     chosen: &'a Options,
-    input: &mut I,
-    progress: &mut P,
+    input: &mut Watched<I, W>,
 ) -> Result<Parts, (&'a Option<String>, JoinFault)>
-    requires input { I.can_read input.old }
-    requires always { (sink : P) → P.can_write sink }
+    requires input { I.can_read input.old.source }
     requires few { length chosen.now.files.items ≤ MAX_FILES }
-    ensures joined { IfOk result (λ parts. OnLeft chosen.now.progress
-        (AreAdded (files_of chosen.now) parts (I.state input.old)) (I.state input.new)) }
-    ensures stopped { IfErr result (λ (file, why). OnLeft chosen.now.progress
-        (StopsAt (files_of chosen.now) (option_map string_bytes file.now) why (I.state input.old)) (I.state input.new)) }
-    ensures leaves_input { All IsSome chosen.now.files.items → input.new ≡ input.old }
-    ensures untold { chosen.now.progress ≡ false → progress.new ≡ progress.old }
+    ensures joined { IfOk result (λ parts. AreAdded (files_of chosen.now) parts (I.state input.old.source) (I.state input.new.source)) }
+    ensures stopped { IfErr result (λ (file, why). StopsAt (files_of chosen.now) (option_map string_bytes file.now) why
+        (I.state input.old.source) (I.state input.new.source)) }
+    ensures leaves_input { All IsSome chosen.now.files.items → input.new.source ≡ input.old.source }
+    ensures untold { chosen.now.progress ≡ false → IsUntold input.old input.new }
 {
     let crew = ManyThreads {
         rt,
         threads: chosen.threads as usize,
     };
     let files = chosen.files.as_slice();
-    let mut told = Told::new(chosen.progress);
+    input.progress.want(chosen.progress);
     let mut parts = Parts::new(rt.alloc());
     let mut was_read = false;
     for file in files {
-        told.is_last = parts.files() as usize + 1 == files.len();
-        match add_file(rt, &crew, parts, file, input, was_read, progress, &mut told) {
+        input.progress.is_last = parts.files() as usize + 1 == files.len();
+        match add_file(rt, &crew, parts, file, input, was_read) {
             Ok(more) => parts = more,
             Err(fault) => return Err((file, fault)),
         }
@@ -164,33 +158,29 @@ fn write_stop<E: Sink>(file: &Option<String>, fault: &JoinFault, errors: &mut E)
 
 /// Writes the text of the forest of all links of the files that the words name, and answers the status.
 ///
-/// They are read in their order, `None` is the input, and at the first that isn't a part only why is told. The sink
-/// that is told how much was read is taken to be ready at any time, since no call says how a file's reader left it. No
-/// worker is asked. `progress` is told how much was read of all, where the words ask for that.
+/// They are read in their order, `None` is the input, and at the first that isn't a part only why is told. No worker is
+/// asked. The writer beside the input is told how much was read of all, where the words ask for that.
 pub fn run_joined<
     R: Files<File = File> + Alloc<A = Global> + Threads + Sync,
     I: Source,
+    W: Write,
     O: Sink,
     E: Sink,
-    P: Sink,
->(rt: &R, chosen: &Options, io: StandardStreams<I, O, E>, progress: &mut P) -> u8
+>(rt: &R, chosen: &Options, input: &mut Watched<I, W>, output: &mut O, errors: &mut E) -> u8
     requires several { 2 ≤ length chosen.now.files.items }
     requires few { length chosen.now.files.items ≤ MAX_FILES }
-    requires streams { AreReady I.Source O.Sink E.Sink io }
-    requires always { (sink : P) → P.can_write sink }
-    ensures ends { OnStreams I.Source O.Sink E.Sink
-        (EndsOnSeveral (files_of chosen.now) chosen.now.progress chosen.now.report result) io.entry io.exit }
-    ensures leaves_input { All IsSome chosen.now.files.items → left_input io.exit ≡ io.entry.input.now }
-    ensures kept { KeepsStreams O.Sink chosen.now.plain chosen.now.report result io.entry io.exit }
+    requires input { I.can_read input.old.source }
+    requires output { O.can_write output.old }
+    requires errors { E.can_write errors.old }
+    ensures ends { EndsOnSeveral (files_of chosen.now) chosen.now.report result
+        (standard I.Source O.Sink E.Sink input.old.source output.old errors.old)
+        (standard I.Source O.Sink E.Sink input.new.source output.new errors.new) }
+    ensures leaves_input { All IsSome chosen.now.files.items → input.new.source ≡ input.old.source }
+    ensures kept { KeepsStreams O.Sink chosen.now.plain chosen.now.report result output.old errors.old output.new errors.new }
     ensures plain { result ≤ 4 }
-    ensures untold { chosen.now.progress ≡ false → progress.new ≡ progress.old }
+    ensures untold { chosen.now.progress ≡ false → IsUntold input.old input.new }
 {
-    let StandardStreams {
-        input,
-        output,
-        errors,
-    } = io;
-    match add_files(rt, chosen, input, progress) {
+    match add_files(rt, chosen, input) {
         Ok(parts) => {
             let ended = parts.write_threads(rt, chosen.threads as usize, output);
             write_end(chosen.report, &ended, errors)

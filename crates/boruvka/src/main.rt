@@ -30,11 +30,14 @@ mod standard;
 mod tests;
 
 use byte_streams::Uncounted;
+use progress::{OwnLine, Progress, Watched};
+use std::cell::Cell;
 use std::process::ExitCode;
 use std::{env, io};
 
 fn main(rt: HostRuntime) -> ExitCode {
-    let mut errors = Uncounted(rt.stderr());
+    let is_line_open = Cell::new(false);
+    let mut errors = OwnLine::new(Uncounted(rt.stderr()), rt.stderr(), &is_line_open);
     let words = match env::args(&rt) {
         Ok(words) => program_words::all_words(rt.alloc(), words).map_err(io::Error::from),
         Err(error) => Err(error),
@@ -43,10 +46,12 @@ fn main(rt: HostRuntime) -> ExitCode {
         Ok(words) => command::command(
             &rt,
             words.as_slice(),
-            &mut Uncounted(rt.stdin()),
+            &mut Watched {
+                source: Uncounted(rt.stdin()),
+                progress: &mut Progress::new(rt.stderr(), &is_line_open),
+            },
             &mut Uncounted(rt.stdout()),
             &mut errors,
-            &mut Uncounted(rt.stderr()),
         ),
         Err(error) => command::without_words(&error, &mut errors),
     };

@@ -4,8 +4,9 @@ ghost use Rattle.wires.specs.Lines.{HasRoom};
 ghost use Rattle.ports.specs.Testing.{line_of_script};
 
 use crate::command::{command, run_over, without_words};
+use crate::progress::{OwnLine, Progress, Watched};
 use crate::standard::{StandardStreams, workers_beside};
-use byte_streams::{FusedSink, FusedSource, Uncounted};
+use byte_streams::{FusedSink, FusedSource, Uncounted, put};
 use forest_run::{Report, RunFault};
 use gr_text::{GrFault, GrKind, ReadFault};
 use links::{CutFault, Link};
@@ -14,6 +15,7 @@ use program_words::{
     OptionsFault, all_words, options, status_of, write_fault, write_report, write_text,
 };
 use std::alloc::{Alloc, AllocError, Global};
+use std::cell::Cell;
 use std::env;
 use std::fmt::Debug;
 use std::fs::{self, File, Files};
@@ -88,12 +90,16 @@ fn expect(
     output: &[u8],
     errors: &[u8],
 ) {
-    let mut source = input;
     let mut out = Vec::new(rt.alloc());
     let mut err = Vec::new(rt.alloc());
-    let mut told = Vec::new(rt.alloc());
-    let ended = command(rt, words, &mut source, &mut out, &mut err, &mut told);
-    expect_same(rt, told.is_empty(), true);
+    let is_line_open = Cell::new(false);
+    let mut told = Progress::new(Vec::new(rt.alloc()), &is_line_open);
+    let mut source = Watched {
+        source: input,
+        progress: &mut told,
+    };
+    let ended = command(rt, words, &mut source, &mut out, &mut err);
+    expect_same(rt, told.writer.0.is_empty(), true);
     expect_same(rt, ended, status);
     expect_same(rt, out.as_slice(), output);
     expect_same(rt, err.as_slice(), errors);
@@ -224,11 +230,14 @@ fn expect_broken_off(
     words: &[&str],
     held: &[u8],
 ) {
-    let mut input = SMALL_NET.as_slice();
+    let is_line_open = Cell::new(false);
+    let mut input = Watched {
+        source: SMALL_NET.as_slice(),
+        progress: &mut Progress::new(Vec::new(rt.alloc()), &is_line_open),
+    };
     let mut output = FusedSink::new(rt.alloc(), 10, 7).expect(rt, "memory");
     let mut errors = Vec::new(rt.alloc());
-    let mut told = Vec::new(rt.alloc());
-    let ended = command(rt, words, &mut input, &mut output, &mut errors, &mut told);
+    let ended = command(rt, words, &mut input, &mut output, &mut errors);
     expect_same(rt, ended, 3);
     expect_same(rt, output.held(), held);
     let line = b"boruvka: write failed after 10 bytes\n".as_slice();
@@ -345,11 +354,14 @@ fn ignores_errors_that_fail(rt: HostRuntime) {
         (late, 1, b"".as_slice()),
     ];
     for (file, status, text) in files {
-        let mut input = file;
+        let is_line_open = Cell::new(false);
+        let mut input = Watched {
+            source: file,
+            progress: &mut Progress::new(Vec::new(rt.alloc()), &is_line_open),
+        };
         let mut output = Vec::new(rt.alloc());
         let mut errors = FusedSink::new(rt.alloc(), 0, 1).expect(&rt, "memory");
-        let mut told = Vec::new(rt.alloc());
-        let ended = command(&rt, &words, &mut input, &mut output, &mut errors, &mut told);
+        let ended = command(&rt, &words, &mut input, &mut output, &mut errors);
         expect_same(&rt, ended, status);
         expect_same(&rt, output.as_slice(), text);
         expect_same(&rt, errors.held().is_empty(), true);
@@ -365,28 +377,41 @@ fn reports_only_what_ended_well(rt: HostRuntime) {
     expect_broken_off(&rt, &words, b"p sp 6 5\na");
 }
 
-// The source gives the first line and four bytes of the second, and then fails.
+// The source gives the first line and four bytes of the second, and then fails; with the progress word it's the same.
 #[test]
 fn prints_the_line_of_a_failed_read(rt: HostRuntime) {
-    let file = Vec::from_slice(rt.alloc(), b"p sp 2 2\na 1 2 5").expect(&rt, "memory");
-    let mut input = FusedSource::new(file, 12, 5);
-    let mut output = Vec::new(rt.alloc());
-    let mut errors = Vec::new(rt.alloc());
-    let status = command(
-        &rt,
-        &["boruvka", "--plain"],
-        &mut input,
-        &mut output,
-        &mut errors,
-        &mut Vec::new(rt.alloc()),
-    );
-    expect_same(&rt, status, 3);
-    expect_same(&rt, output.is_empty(), true);
-    expect_same(
-        &rt,
-        errors.as_slice(),
-        b"boruvka: line 2: read failed\n".as_slice(),
-    );
+    let words = ["boruvka", "--plain", "--progress"];
+    for count in [2, 3] {
+        let file = Vec::from_slice(rt.alloc(), b"p sp 2 2\na 1 2 5").expect(&rt, "memory");
+        let is_line_open = Cell::new(false);
+        let mut input = Watched {
+            source: FusedSource::new(file, 12, 5),
+            progress: &mut Progress::new(Vec::new(rt.alloc()), &is_line_open),
+        };
+        let mut output = Vec::new(rt.alloc());
+        let mut errors = Vec::new(rt.alloc());
+        let status = command(&rt, &words[..count], &mut input, &mut output, &mut errors);
+        expect_same(&rt, status, 3);
+        expect_same(&rt, output.is_empty(), true);
+        expect_same(
+            &rt,
+            errors.as_slice(),
+            b"boruvka: line 2: read failed\n".as_slice(),
+        );
+    }
+}
+
+// A line of progress is ended once, before what goes wrong is written, and by the other handle.
+#[test]
+fn ends_an_open_line_before_it_writes(rt: HostRuntime) {
+    let is_line_open = Cell::new(true);
+    let mut handle = Vec::new(rt.alloc());
+    let mut errors = OwnLine::new(Vec::new(rt.alloc()), &mut handle, &is_line_open);
+    expect_same(&rt, put(&mut errors, b"boruvka: "), Ok(()));
+    expect_same(&rt, put(&mut errors, b"no memory\n"), Ok(()));
+    expect_same(&rt, is_line_open.get(), false);
+    drop(errors);
+    expect_same(&rt, handle.as_slice(), b"\n".as_slice());
 }
 
 // A writer that counts how often it is written to.
@@ -422,15 +447,18 @@ fn expect_one_write(
     name: &str,
     line: &str,
 ) {
-    let mut input = SMALL_NET.as_slice();
+    let is_line_open = Cell::new(false);
+    let mut input = Watched {
+        source: SMALL_NET.as_slice(),
+        progress: &mut Progress::new(Vec::new(rt.alloc()), &is_line_open),
+    };
     let mut output = Vec::new(rt.alloc());
     let mut errors = Uncounted(CountingWriter {
         writes: 0,
         taken: Vec::new(rt.alloc()),
     });
     let words = ["boruvka", "--plain", name];
-    let mut told = Vec::new(rt.alloc());
-    let ended = command(rt, &words, &mut input, &mut output, &mut errors, &mut told);
+    let ended = command(rt, &words, &mut input, &mut output, &mut errors);
     expect_same(rt, ended, 3);
     expect_same(rt, output.is_empty(), true);
     expect_same(rt, errors.0.taken.as_slice(), line.as_bytes());
@@ -595,11 +623,14 @@ fn expect_refused(
 ) {
     let is_usage = matches!(options(rt.alloc(), words), Err(OptionsFault::Usage(_)));
     expect_same(rt, is_usage, true);
+    let is_line_open = Cell::new(false);
+    let mut input = Watched {
+        source: SMALL_NET.as_slice(),
+        progress: &mut Progress::new(Vec::new(rt.alloc()), &is_line_open),
+    };
     let mut errors = Vec::new(rt.alloc());
-    let mut input = SMALL_NET.as_slice();
     let mut output = Vec::new(rt.alloc());
-    let mut told = Vec::new(rt.alloc());
-    let status = command(rt, words, &mut input, &mut output, &mut errors, &mut told);
+    let status = command(rt, words, &mut input, &mut output, &mut errors);
     expect_same(rt, status, 2);
     expect_same(rt, (output.is_empty(), errors.is_empty()), (true, false));
 }

@@ -2,8 +2,6 @@ use Rattle.std.proofs.Common.{All, ap, map, option_map, refl, subst, sym, ◌∙
 use Rattle.std.specs.Prelude.{IsSome}
 use Rattle.std.specs.String.{string_bytes}
 use Rattle.clap.specs.Words.{kind_of}
-use Rattle.program_words.specs.Arguments.{files_named}
-use Rattle.boruvka.specs.Asked.{asked_by}
 use Rattle.boruvka.proofs.Endings.{wants_memory_of}
 use Rattle.boruvka.proofs.Joining.{some_items}
 use Rattle.boruvka.proofs.command.command.Goals as goal
