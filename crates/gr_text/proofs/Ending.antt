@@ -17,12 +17,10 @@ use Rattle.gr_text.proofs.Standing.{lawful_of}
 
 -- the lines with a last one that has begun, and with none
 with_last-begun : (lines : List (List ℕ)) (part : List ℕ) → is_begun part ≡ true → with_last lines part ≡ lines ++ part ∷ []
-with_last-begun lines [] begun = absurd (cc)
-with_last-begun lines (b ∷ part) begun = refl
+with_last-begun a1 a2 a3 = search arith
 
 with_last-none : (lines : List (List ℕ)) (part : List ℕ) → is_begun part ≡ false → with_last lines part ≡ lines
-with_last-none lines [] begun = refl
-with_last-none lines (b ∷ part) begun = absurd (cc)
+with_last-none a1 a2 a3 = search arith
 
 with_last-more : (lines : List (List ℕ)) (part : List ℕ) → (more : List (List ℕ)) × (with_last lines part ≡ lines ++ more)
 with_last-more lines [] = ([], sym (append-nil lines))
@@ -57,11 +55,7 @@ last_fault fault.Memory limit r text short stands begun any = tt
 -- what the lines of the whole text give
 graph_of : (swap : Swap) (outcome : Result GraphValue ReadFault) (limit : ℕ) (text : List ℕ) (lines : List (List ℕ)) (number : ℕ) → length text ≤ limit → AreLines text lines
     → number ≡ length lines + 1 → MatchResult outcome (λ graph. IsGraphOfLinesBut swap lines graph) (λ e. IsLack e number lines) → IsReadBut swap limit text outcome
-graph_of swap (Ok graph) limit text lines number short are numbered (all, by, (arcs, lawful, links)) = (all, by, (short, (arcs, (lines, are, lawful), links)))
-graph_of swap (Err (fault.Gr f)) limit text lines number short are numbered (line_is, lacks) = inl (short, (lines, are, inr (lacks, line_is ∙ numbered)))
-graph_of swap (Err (fault.Source k)) limit text lines number short are numbered no_such = no_such
-graph_of swap (Err fault.TooLong) limit text lines number short are numbered no_such = absurd no_such
-graph_of swap (Err fault.Memory) limit text lines number short are numbered no_such = absurd no_such
+graph_of a1 a2 a3 a4 a5 a6 a7 a8 a9 a10 = search arith
 
 -- the text ends in a line feed, or is empty
 pub ends_whole : {swap : Swap} (outcome : Result GraphValue ReadFault) (limit : ℕ) (r : ReaderValue) (text : List ℕ) → length text ≤ limit → (stands : Stands swap r text)
@@ -80,7 +74,4 @@ ends_within {swap} outcome limit r text short stands begun gives =
 
 -- what stopped the reader is why the whole text isn't read
 pub fails_of_stops : (e : ReadFault) (limit : ℕ) (text : List ℕ) → StopsBy e limit text → FailsBy e limit text
-fails_of_stops (fault.Gr f) limit text stops = search (arith, leb_tells, first_of_ended, take_all)
-fails_of_stops (fault.Source k) limit text stops = stops
-fails_of_stops fault.TooLong limit text stops = stops
-fails_of_stops fault.Memory limit text stops = tt
+fails_of_stops a1 a2 a3 a4 = search (arith, leb_tells, first_of_ended, take_all)

@@ -66,10 +66,7 @@ fitting limit fed len text piece counted within is = search (arith, take_of_more
 -- the reader stops within a piece
 pub stops_within : (e : ReadFault) (limit fed len : ℕ) (text piece : List ℕ) → length text ≡ fed → fed ≤ limit
     → len ≡ min (limit - fed) (length piece) → StopsAt e (text ++ take len piece) → StopsBy e limit (text ++ piece)
-stops_within (fault.Gr f) limit fed len text piece counted within is stops = search (arith, fitting)
-stops_within (fault.Source number) limit fed len text piece counted within is stops = stops
-stops_within fault.TooLong limit fed len text piece counted within is stops = absurd stops
-stops_within fault.Memory limit fed len text piece counted within is stops = tt
+stops_within a1 a2 a3 a4 a5 a6 a7 a8 a9 a10 = search (arith, fitting)
 
 -- the piece goes past the limit
 pub too_long : (limit fed len : ℕ) (text piece : List ℕ) → length text ≡ fed → fed ≤ limit → len ≡ min (limit - fed) (length piece) → len < length piece

@@ -82,16 +82,7 @@ Head (word.Negative kept) b = b ≡ 45
 Head word.Other b = Unit {0}
 
 head_of : (w : Word) (b : ℕ) (rest : List ℕ) → WordMeans w (b ∷ rest) → Head w b
-head_of word.Empty b rest means = absurd (cc)
-head_of word.LetterP b rest means = head_is b 112 rest [] means
-head_of word.LetterA b rest means = head_is b 97 rest [] means
-head_of word.LetterS b rest means = head_is b 115 rest [] means
-head_of word.Sp b rest means = head_is b 115 rest (112 ∷ []) means
-head_of word.Comment b rest (others, is) = head_is b 99 rest others is
-head_of (word.Number kept) b rest means = means.1.1.0
-head_of word.Minus b rest means = head_is b 45 rest [] means
-head_of (word.Negative kept) b rest means = head_is b 45 rest means.0 means.2
-head_of word.Other b rest means = tt
+head_of a1 a2 a3 a4 = search (arith, head_is)
 
 -- a field that writes a number is kept as one
 pub kept_as_number : (w : Word) (field : List ℕ) (n : ℕ) → WordMeans w field → Writes field n → (kept : ℕ) × (w ≡ word.Number kept)

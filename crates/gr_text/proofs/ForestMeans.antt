@@ -69,16 +69,13 @@ decimal_line : (n : ℕ) → n < 2 ^ 64 → IsLine (decimal n)
 decimal_line n small = each (decimal n) digit_in_line (writes_decimal n small).1
 
 signed_fields : (z : ℤ) → neg_ℤ (pos (2 ^ 63)) ≤ℤ z → z <ℤ pos (2 ^ 63) → AllByRecursion IsFieldByte (signed_decimal z)
-signed_fields (pos n) low high = decimal_fields n (omega (arith, ints, high))
-signed_fields (negsuc n) low high = search (arith, decimal_fields, ints)
+signed_fields a1 a2 a3 = search (arith, decimal_fields, ints)
 
 signed_line : (z : ℤ) → neg_ℤ (pos (2 ^ 63)) ≤ℤ z → z <ℤ pos (2 ^ 63) → IsLine (signed_decimal z)
-signed_line (pos n) low high = decimal_line n (omega (arith, ints, high))
-signed_line (negsuc n) low high = (λ is. omega (arith, is), decimal_line (suc n) (omega (arith, ints, low)))
+signed_line a1 a2 a3 = search (arith, decimal_line, ints)
 
 signed_some : (z : ℤ) → neg_ℤ (pos (2 ^ 63)) ≤ℤ z → z <ℤ pos (2 ^ 63) → signed_decimal z ≢ []
-signed_some (pos n) low high = (writes_decimal n (omega (arith, ints, high))).0
-signed_some (negsuc n) low high = λ e. absurd (cc)
+signed_some a1 a2 a3 = search (arith, writes_decimal, ints)
 
 -- ---- fields
 

@@ -27,8 +27,7 @@ unfolding digits
 decimal_fits n = omega (arith, digits_fit 64 10 false n [])
 
 signed_fits : (z : ℤ) → length (signed_decimal z) ≤ 65
-signed_fits (pos n) = omega (arith, decimal_fits n)
-signed_fits (negsuc n) = omega (arith, decimal_fits (suc n))
+signed_fits a1 = search (arith, decimal_fits)
 
 header_fits : (n k : ℕ) → length (header_of n k) ≤ 256
 header_fits n k = simp length-append (omega (arith, decimal_fits n, decimal_fits k))

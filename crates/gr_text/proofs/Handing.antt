@@ -44,13 +44,7 @@ out_stopped count after bytes more s t ready part = search (arith, prefix_of_mor
 -- a call behind bytes that went out
 pub out_then_out : (count middle : ℕ) (xs ys : List ℕ) (result : Result ℕ WriteFault) (s t u : SinkState) (ready : Type 0) → HandsOn count middle xs s t
     → HandsOut middle ys result t u ready → HandsOut count (xs ++ ys) result s u ready
-out_then_out count middle xs ys (Ok total) s t u ready first second = record {
-  whole = hands_then_hands count middle total xs ys s t u first second.whole;
-  part = tt;
-  ends_ok = λ none. search rules;
-  again = second.again;
-}
-out_then_out count middle xs ys (Err fault) s t u ready first second = search (arith, hands_then_prefix, took_unhindered)
+out_then_out a1 a2 a3 a4 a5 a6 a7 a8 a9 a10 a11 = search (arith, hands_then_hands, hands_then_prefix, took_unhindered)
 
 -- the count that is given of a text of fewer than 2^64 bytes is the number itself
 pub prefix_is_exact : (written : ℕ) (text : List ℕ) (s t : SinkState) → length text < 2 ^ 64 → PrefixWentOut written text s t

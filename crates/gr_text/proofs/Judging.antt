@@ -56,8 +56,7 @@ no_arc l fields means which = absurd (grind arith)
 
 -- whether a line is silent stands in its first field
 pub silent_alone : (first : List ℕ) (others : List (List ℕ)) → AreSilent (first ∷ others) → AreSilent (first ∷ [])
-silent_alone [] others silent = silent
-silent_alone (b ∷ bytes) others silent = silent
+silent_alone a1 a2 a3 = search arith
 
 pub ends_of : (n u v : ℕ) (arc : Arc) → n ≤ MAX_VERTICES → IsCapped u arc.tail → IsCapped v arc.head → 1 ≤ u → u ≤ n → 1 ≤ v → v ≤ n → HasEnds n arc
 ends_of n u v arc small tail head u1 un v1 vn = search arith

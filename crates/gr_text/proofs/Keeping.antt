@@ -59,8 +59,7 @@ kept_again all old new cover counted whole are = record {
 
 few_of : {drops : Type 0} {dropped : ℕ} (size : Option ProblemSize) (count : ℕ) (all links : List Link) (lines : List (List ℕ)) → AreKeptOf drops dropped all links → AreKept size count all lines
     → dropped + length links ≤ count
-few_of None count all links lines are (say, zero_count, none) = omega (arith, are.counted, ap length none, zero_count)
-few_of (Some size) count all links lines are (arcs, lawful, counted, of_arcs) = omega (arith, are.counted, counted, links_few arcs all of_arcs)
+few_of a1 a2 a3 a4 a5 a6 a7 = search (arith, links_few)
 
 -- those that were dropped and those that are kept are no more than the arcs
 pub kept_few : {drops : Type 0} {knows : List Link → Type 0} {dropped : ℕ} (reader : ReaderValue) (text : List ℕ) → reader.fault ≡ None → HasKept drops knows dropped reader text
@@ -107,10 +106,8 @@ kept_on old so_far text none keeps kept =
 pub kept_ok : {X E : Type 0} (drops : Type 0) (knew knows : List Link → Type 0) (dropped now : ℕ) (r : Result X E) (was old : ReaderValue) (so_far : LinesSoFarValue) → was ≡ old → old.fault ≡ None
     → OnOk r (KeepsOn drops knows dropped now was.so_far so_far)
     → OnOk r ((text : List ℕ) → HasKept drops knew dropped old text → HasKept drops knows now (record was { so_far = so_far }) text)
-kept_ok drops knew knows dropped now (Ok x) was old so_far same none keeps = search (arith, kept_on)
-kept_ok drops knew knows dropped now (Err e) was old so_far same none fails = fails
+kept_ok a1 a2 a3 a4 a5 a6 a7 a8 a9 a10 a11 a12 = search (arith, kept_on)
 
 -- who drops none keeps all
 pub keeps_all : (limit dropped : ℕ) (result : Result GraphValue ReadFault) (before after : SourceState) → IsKeptReadOf ⊥ limit dropped result before after → IsReadOf limit result before after
-keeps_all limit dropped (Ok graph) before after (all, are, read) = search arith
-keeps_all limit dropped (Err e) before after read = read
+keeps_all a1 a2 a3 a4 a5 a6 = search arith

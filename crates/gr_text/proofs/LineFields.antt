@@ -1,5 +1,5 @@
 -- What a line can still become when one more field comes.
-use Rattle.std.proofs.Common.{◌≡◌, ◌≢◌, ℕ, ℤ, List, [], ◌∷◌, ◌++◌, refl, ap, sym, append_assoc, codes, subst}
+use Rattle.std.proofs.Common.{◌≡◌, ◌≢◌, ℕ, ℤ, List, [], ◌∷◌, ◌++◌, refl, ap, sym, append_assoc, codes, subst, arith}
 use Rattle.links.specs.Arc.{Arc}
 use Rattle.gr_text.specs.Fields.{Writes, WritesSigned}
 use Rattle.gr_text.specs.Statement.{Statement, Problem, ArcLine, AreSilent, FieldsSay}
@@ -71,5 +71,4 @@ arc_with_more fields field first second third is = never_arc fields (first ∷ s
 
 -- a silent line with a field is a comment
 pub comment_of_silent : (first : List ℕ) (others : List (List ℕ)) → AreSilent (first ∷ others) → BeginsComment first
-comment_of_silent [] others silent = absurd silent
-comment_of_silent (b ∷ bytes) others silent = (bytes, ap (λ (x : ℕ). x ∷ bytes) silent)
+comment_of_silent a1 a2 a3 = search arith

@@ -14,8 +14,7 @@ use Rattle.gr_text.proofs.Faulty.{lawful_ends}
 use Rattle.gr_text.proofs.Texts.{AreLawfulLines-unique, said_unique}
 
 lawful_said : (lines : List (List ℕ)) (so_far : SaidSoFar) → HaveSaid lines so_far → AreLawfulSoFar lines
-lawful_said lines Unsaid said = inl said
-lawful_said lines (Stated n m arcs) said = inr (n, m, arcs, said)
+lawful_said a1 a2 a3 = search arith
 
 -- a prefix of lawful lines is lawful
 AreLawfulSoFar-prefix : (lines more : List (List ℕ)) → AreLawfulSoFar (lines ++ more) → AreLawfulSoFar lines

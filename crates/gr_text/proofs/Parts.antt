@@ -20,8 +20,7 @@ blank_first b line (field ∷ fields) blank (blanks, after, all, some, is_field,
     (b ∷ blanks, after, (blank, all), some, is_field, ap (λ (xs : List ℕ). b ∷ xs) is, begins, others)
 
 with_none : (fields : List (List ℕ)) (more : List ℕ) (others : List (List ℕ)) → with_field fields more ++ others ≡ fields ++ with_field [] more ++ others
-with_none fields [] others = ap (λ (xs : List (List ℕ)). xs ++ others) (sym (append-nil fields))
-with_none fields (b ∷ more) others = refl
+with_none a1 a2 a3 = search (arith, append-nil)
 
 -- a blank ends the last field
 pub AreParts-blank : (part : List ℕ) (fields : List (List ℕ)) (last : List ℕ) (b : ℕ) → AreParts part fields last → IsBlank b → AreParts (part ++ b ∷ []) (with_field fields last) []
@@ -50,5 +49,4 @@ is_begun-push [] b = refl
 is_begun-push (x ∷ part) b = refl
 
 pub not_begun : (part : List ℕ) → is_begun part ≡ false → part ≡ []
-not_begun [] none = refl
-not_begun (b ∷ part) none = absurd (cc)
+not_begun a1 a2 = search arith

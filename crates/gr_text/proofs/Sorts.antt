@@ -126,20 +126,10 @@ Begins NoArc first = first ≡ codes "a"
 Begins Unknown first = (first ≢ codes "p") × (first ≢ codes "a")
 
 begins_of : (first : List ℕ) (others : List (List ℕ)) (s : LineSort) → AreOfSort (first ∷ others) s → Begins s first
-begins_of first others Nothing silent = comment_of_silent first others silent
-begins_of first others (Makes (Problem n m)) (f, g, is, wf, wg) = cc
-begins_of first others (Makes (ArcLine arc)) (f, g, h, is, wf, wg, wh) = cc
-begins_of first others NoProblem ((more, is), never) = cc
-begins_of first others NoArc ((more, is), never) = cc
-begins_of first others Unknown ((f, more, is, not_p, not_a), loud) = let same : f ≡ first = cc in (λ p. not_p (same ∙ p), λ a. not_a (same ∙ a))
+begins_of a1 a2 a3 a4 = search (arith, comment_of_silent)
 
 none_is_silent : (s : LineSort) → AreOfSort [] s → s ≡ Nothing
-none_is_silent Nothing silent = refl
-none_is_silent (Makes (Problem n m)) (f, g, is, wf, wg) = absurd (cc)
-none_is_silent (Makes (ArcLine arc)) (f, g, h, is, wf, wg, wh) = absurd (cc)
-none_is_silent NoProblem ((more, is), never) = absurd (cc)
-none_is_silent NoArc ((more, is), never) = absurd (cc)
-none_is_silent Unknown ((f, more, is, not_p, not_a), loud) = absurd (cc)
+none_is_silent a1 a2 = search arith
 
 -- No line is of two sorts: its first field tells them apart, or else what the fields say.
 sort_unique : (fields : List (List ℕ)) (s t : LineSort) → AreOfSort fields s → AreOfSort fields t → s ≡ t

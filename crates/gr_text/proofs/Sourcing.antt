@@ -32,11 +32,7 @@ nothing_fed drops knows dropped reader s none known read = record { text = []; k
 
 pub new_reader : {K A : Type 0} (keep : Keep.Ghosts K A) (keeper : K) (reader : ReaderValue)
     → IsNewKeeper keep keeper → reader.fault ≡ None → HasRead reader [] → IsKeeping keep keeper reader
-new_reader keep keeper reader new clean read = record {
-  ready = new.ready;
-  clean = clean;
-  kept = ([], nothing_kept keep.drops (keep.knows keeper) (keep.dropped keeper) reader new.none new.nothing read);
-}
+new_reader keep keeper reader new clean read = search (arith, clean, nothing_kept)
 
 -- one more piece was fed
 pub fed_kept : {drops : Type 0} {knows : List Link → Type 0} {dropped : ℕ} (old new : ReaderValue) (text piece : List ℕ)

@@ -72,8 +72,7 @@ pub AreLinksOf-append : (arcs more : List Arc) (links others : List Link) → Ar
 AreLinksOf-append arcs more links others are also = search (arith, map-append, filter-append)
 
 pub counts_of : (size : Option ProblemSize) (count : ℕ) (links : List Link) (lines : List (List ℕ)) → AreKept size count links lines → AreTallied size count lines
-counts_of None count links lines (say, zero_count, none) = (say, zero_count)
-counts_of (Some size) count links lines (arcs, lawful, counted, are) = (arcs, lawful, counted)
+counts_of a1 a2 a3 a4 a5 = search arith
 
 pub KeepsLinesBut-silent : (size : Option ProblemSize) (count : ℕ) (links : List Link) (lines : List (List ℕ)) (line : List ℕ)
     → AreKept size count links lines → IsSilent line → AreKept size count links (lines ++ line ∷ [])

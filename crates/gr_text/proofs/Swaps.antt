@@ -16,5 +16,4 @@ differ_more {swap} {all} {links} more now by is = search (arith, append_assoc)
 
 -- where none were swapped, all are there
 pub is_read : (limit : ℕ) (text : List ℕ) (result : Result GraphValue ReadFault) → IsReadBut no_swap limit text result → IsRead limit text result
-is_read limit text (Ok graph) (all, by, read) = search arith
-is_read limit text (Err e) fails = fails
+is_read a1 a2 a3 a4 = search arith

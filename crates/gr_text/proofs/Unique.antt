@@ -31,8 +31,7 @@ stops_at_field [] after some all = absurd (some refl)
 stops_at_field (b ∷ field) after some all = all.0
 
 stops_at_blank : (after : List ℕ) → BeginsBlank after → Stops IsFieldByte after
-stops_at_blank [] begins = tt
-stops_at_blank (b ∷ after) begins = λ other. other begins
+stops_at_blank a1 a2 = search arith
 
 blanks_hold_no_field : (line blanks field after : List ℕ) → AllByRecursion IsBlank line → line ≡ blanks ++ field ++ after → field ≢ [] → AllByRecursion IsFieldByte field → ⊥
 blanks_hold_no_field line blanks [] after all e some fs = some refl
@@ -91,34 +90,17 @@ minus_writes_none : (field digits : List ℕ) (n : ℕ) → field ≡ 45 ∷ dig
 minus_writes_none field digits n is w = let all : AllByRecursion IsDigit (45 ∷ digits) = subst (AllByRecursion IsDigit) is w.1 in omega (arith, all.0)
 
 signed_unique : (field : List ℕ) (y z : ℤ) → WritesSigned field y → WritesSigned field z → y ≡ z
-signed_unique field y z (inl (n, w, e)) (inl (m, v, f)) = e ∙ ap pos (writes_unique field n m w v) ∙ sym f
-signed_unique field y z (inl (n, w, e)) (inr (ds, m, is, v, f)) = absurd (minus_writes_none field ds n is w)
-signed_unique field y z (inr (ds, n, is, w, e)) (inl (m, v, f)) = absurd (minus_writes_none field ds m is v)
-signed_unique field y z (inr (ds, n, is, w, e)) (inr (es, m, is', v, f)) = search (arith, neg_ℤ, writes_unique)
+signed_unique a1 a2 a3 a4 a5 = search (arith, writes_unique, minus_writes_none, neg_ℤ)
 
 pub arc_unique : (a b : Arc) → a.tail ≡ b.tail → a.head ≡ b.head → a.weight ≡ b.weight → a ≡ b
 arc_unique a b e f g = search arith
 
 -- Fields make one statement at the most.
 pub FieldsSay-unique : (fields : List (List ℕ)) (s t : Statement) → FieldsSay fields s → FieldsSay fields t → s ≡ t
-FieldsSay-unique fields (Problem n m) (Problem k l) (f, g, e, wf, wg) (f', g', e', wf', wg') =
-    let same : codes "p" ∷ codes "sp" ∷ f ∷ g ∷ [] ≡ codes "p" ∷ codes "sp" ∷ f' ∷ g' ∷ [] = sym e ∙ e' in
-    let sf : f ≡ f' = cc in
-    let sg : g ≡ g' = cc in
-    ap (λ (x : ℕ). Problem x m) (writes_unique f' n k (subst (λ (x : List ℕ). Writes x n) sf wf) wf')
-    ∙ ap (Problem k) (writes_unique g' m l (subst (λ (x : List ℕ). Writes x m) sg wg) wg')
-FieldsSay-unique fields (Problem n m) (ArcLine arc) (f, g, e, wf, wg) (f', g', h', e', wf', wg', wh') =
-    absurd (let same : codes "p" ∷ codes "sp" ∷ f ∷ g ∷ [] ≡ codes "a" ∷ f' ∷ g' ∷ h' ∷ [] = sym e ∙ e' in let letters : codes "p" ≡ codes "a" = cc in omega (arith, head_is 112 97 [] [] letters))
-FieldsSay-unique fields (ArcLine arc) (Problem n m) (f', g', h', e', wf', wg', wh') (f, g, e, wf, wg) =
-    absurd (let same : codes "a" ∷ f' ∷ g' ∷ h' ∷ [] ≡ codes "p" ∷ codes "sp" ∷ f ∷ g ∷ [] = sym e' ∙ e in let letters : codes "p" ≡ codes "a" = cc in omega (arith, head_is 112 97 [] [] letters))
-FieldsSay-unique fields (ArcLine a) (ArcLine b) (f, g, h, e, wf, wg, wh) (f', g', h', e', wf', wg', wh') = search (arith, codes, arc_unique, writes_unique, signed_unique)
+FieldsSay-unique a1 a2 a3 a4 a5 = search (arith, codes, writes_unique, head_is, arc_unique, signed_unique)
 
 pub silent_or_says : (fields : List (List ℕ)) (s : Statement) → AreSilent fields → FieldsSay fields s → ⊥
-silent_or_says [] (Problem n m) silent (f, g, e, wf, wg) = cc
-silent_or_says [] (ArcLine arc) silent (f, g, h, e, wf, wg, wh) = cc
-silent_or_says ([] ∷ fields) s silent says = silent
-silent_or_says ((b ∷ bytes) ∷ fields) (Problem n m) silent (f, g, e, wf, wg) = let letters : b ∷ bytes ≡ codes "p" = cc in omega (arith, head_is b 112 bytes [] letters)
-silent_or_says ((b ∷ bytes) ∷ fields) (ArcLine arc) silent (f, g, h, e, wf, wg, wh) = let letters : b ∷ bytes ≡ codes "a" = cc in omega (arith, head_is b 97 bytes [] letters)
+silent_or_says a1 a2 a3 a4 = search (arith, codes, head_is)
 
 pub Says-unique : (line : List ℕ) (s t : Statement) → Says line s → Says line t → s ≡ t
 Says-unique line s t (fs, are, says) (gs, are', says') =

@@ -39,8 +39,7 @@ inner_of_short : (field : List ℕ) → IsShort field → IsInner field
 inner_of_short field short = record { some = short.some; all = all_as IsDigit Inner inner_of_digit field short.digits }
 
 inner_of_signed : (field : List ℕ) → IsShortSigned field → IsInner field
-inner_of_signed field (inl short) = inner_of_short field short
-inner_of_signed field (inr (digits, is, short)) = search (arith, all_as, inner_of_digit)
+inner_of_signed a1 a2 = search (arith, inner_of_short, all_as, inner_of_digit)
 
 -- a field behind a space
 behind_space : (field after : List ℕ) (others : List (List ℕ)) → IsInner field → BeginsBlank after → AreFields after others → AreFields (32 ∷ (field ++ after)) (field ∷ others)
@@ -49,12 +48,10 @@ behind_space field after others inner begins are =
 
 -- the end of a line is blank, and has no line feed
 blank_end : (end : List ℕ) → IsLineEnd end → BeginsBlank end × AreFields end []
-blank_end end (inl none) = subst (λ (xs : List ℕ). BeginsBlank xs × AreFields xs []) (sym none) (tt, tt)
-blank_end end (inr one) = subst (λ (xs : List ℕ). BeginsBlank xs × AreFields xs []) (sym one) (inr (inr refl), (inr (inr refl), tt))
+blank_end a1 a2 = search arith
 
 line_end : (end : List ℕ) → IsLineEnd end → IsLine end
-line_end end (inl none) = subst IsLine (sym none) tt
-line_end end (inr one) = subst IsLine (sym one) ((λ (e : 13 ≡ line_feed). omega arith), tt)
+line_end a1 a2 = search arith
 
 usual_fields : (line : List ℕ) → (usual : IsUsualArc line) → AreFields line (codes "a" ∷ usual.tail ∷ usual.head ∷ usual.weight ∷ [])
 usual_fields line usual =
@@ -122,8 +119,7 @@ behind kept stop bytes after field rest no_digit (field', short', keeps, is') sh
 
 -- No short number ends a line: none stands before a line feed, nor before a carriage return that one follows.
 pub never_last : (bytes : List ℕ) → HasNoShort line_feed bytes → ((field rest : List ℕ) → IsShort field → bytes ≢ field ++ 13 ∷ line_feed ∷ rest) → HasNoLast bytes
-never_last bytes no_feed no_return field rest short (end, inl none, is) = no_feed field rest short (is ∙ ap (λ (xs : List ℕ). field ++ (xs ++ line_feed ∷ rest)) none)
-never_last bytes no_feed no_return field rest short (end, inr one, is) = no_return field rest short (is ∙ ap (λ (xs : List ℕ). field ++ (xs ++ line_feed ∷ rest)) one)
+never_last a1 a2 a3 a4 a5 a6 a7 = search arith
 
 return_no_digit : ¬ (IsDigit 13)
 return_no_digit digit = omega (arith, digit.0)
@@ -185,8 +181,7 @@ never_other stop xs i no_digit within all other none field rest short is =
 
 -- Bytes that begin with one aren't none.
 pub never_empty : (bytes : List ℕ) (b : ℕ) (rest : List ℕ) → length bytes < 1 → bytes ≢ b ∷ rest
-never_empty [] b rest none is = cc
-never_empty (x ∷ xs) b rest none is = omega (arith, none)
+never_empty a1 a2 a3 a4 a5 = search arith
 
 -- No number ends a line with or without a minus.
 pub never_minus : (bytes digits : List ℕ) → bytes ≡ 45 ∷ digits → HasNoLast digits → HasNoShortSigned bytes

@@ -1,8 +1,6 @@
 -- A run without workers.
 use Rattle.std.specs.Prelude.{◌≡◌, ℕ, ℤ, List, length, Option, Result, IfOk, OnOk}
 use Rattle.byte_streams.specs.Streams.{Took, IsFlushed}
-use Rattle.byte_streams.specs.declared.traits.Source as Source
-use Rattle.byte_streams.specs.declared.traits.Sink as Sink
 use Rattle.links.specs.declared.links.Link.{Link}
 use Rattle.links.specs.Least.{sum_of_weights, IsLightest}
 use Rattle.gr_text.specs.Graph.{GraphValue}
@@ -11,7 +9,7 @@ use Rattle.plain_run.specs.declared.report.Report.{Report}
 use Rattle.plain_run.specs.declared.fault.RunFault.{RunFault}
 use Rattle.plain_run.specs.declared.fault.RunFault.TheVariants as fault
 use Rattle.plain_run.specs.Files.{IsFileOf, HasFile, MeansGraph, MeansNothing, IsFirstFaultOf, IsNoRefusal}
-use Rattle.plain_run.specs.Outcomes.{Streams, Ran, IsSpanning, IsLeast, known}
+use Rattle.plain_run.specs.Outcomes.{Streams, Ran, IsSpanning, IsLeast}
 
 -- a report of so many vertices and links, and of what the forest weighs; no rounds, shards, asks or workers
 abbrev pub counted_report : ℕ → ℕ → ℤ → Report
@@ -78,8 +76,3 @@ pub record RunsPlain (result : Result Report RunFault) (before after : Streams) 
   -- after a run that ends well no byte of a sink that knows which wait for a flush does, and it can be written again
   pub flushed : OnOk result (IsFlushed unflushed)
   pub again : OnOk result ready
-
--- the same of a run from this source to this sink
-abbrev pub RunsPlainOver : {R W : Type 0} → Source.Ghosts R → Sink.Ghosts W → Result Report RunFault → R → R → W → W → Type 0
-RunsPlainOver from to result source source' sink sink' =
-    RunsPlain result (known from.state to.state source sink) (known from.state to.state source' sink') (to.unflushed sink') (to.can_write sink')

@@ -1,6 +1,7 @@
 //! A run by one thread or by several, from the bytes of a file to the text of its forest.
 ghost use Rattle.std.specs.Prelude.{◌≡◌};
-ghost use Rattle.plain_run.specs.PlainRun.{RunsPlainOver, counted_report};
+ghost use Rattle.plain_run.specs.Outcomes.{known};
+ghost use Rattle.plain_run.specs.PlainRun.{RunsPlain, counted_report};
 ghost use Rattle.links.specs.Least.{sum_of_weights};
 
 use crate::crew::{Crew, ManyThreads, OneThread, forest_by};
@@ -39,7 +40,8 @@ fn run<C: Crew, S: Source, W: Sink, A: Allocator + Copy>(
     requires ready { C.ready }
     requires source { S.can_read source.old }
     requires sink { W.can_write sink.old }
-    ensures { RunsPlainOver S.Source W.Sink result source.old source.new sink.old sink.new }
+    ensures { RunsPlain result (known S.state W.state source.old sink.old) (known S.state W.state source.new sink.new)
+        (W.unflushed sink.new) (W.can_write sink.new) }
 {
     let mut keeper = Keeper::new(crew);
     let graph = match crew.read(&mut keeper, alloc, source) {
@@ -80,7 +82,8 @@ pub fn run_plain<S: Source, W: Sink, A: Allocator + Copy>(
 
     // The source was read to its end and exactly the forest's text went out, or the fault says what was done. So a file that
     // means nothing is refused by its first fault.
-    ensures { RunsPlainOver S.Source W.Sink result source.old source.new sink.old sink.new }
+    ensures { RunsPlain result (known S.state W.state source.old sink.old) (known S.state W.state source.new sink.new)
+        (W.unflushed sink.new) (W.can_write sink.new) }
 {
     run(&OneThread, alloc, source, sink)
 }
@@ -102,7 +105,8 @@ pub fn run_threads<R: Threads + Sync, S: Source, W: Sink, A: Allocator + Copy>(
     requires sink { W.can_write sink.old }
 
     // All that `run_plain` promises.
-    ensures { RunsPlainOver S.Source W.Sink result source.old source.new sink.old sink.new }
+    ensures { RunsPlain result (known S.state W.state source.old sink.old) (known S.state W.state source.new sink.new)
+        (W.unflushed sink.new) (W.can_write sink.new) }
 {
     run(&ManyThreads { rt, threads }, alloc, source, sink)
 }

@@ -3,15 +3,7 @@ use Rattle.gr_text.proofs.Sourcing.{fed_kept, piece_fed, links_kept, ends_behind
 use Rattle.gr_text.proofs.sourced.read_pieces.Goals as goal
 
 pub keep-requires : goal.keep-requires
-keep-requires g c =
-    let (text, kept) = c.loop-read.invariant.keeps.kept in
-    record {
-      keeps = record {
-        ready = c.loop-read.invariant.keeps.ready;
-        clean = search rules;
-        kept = (_, fed_kept _ _ text _ c.in_default.ensures.fed kept);
-      };
-    }
+keep-requires g c = search (arith, fed_kept)
 
 pub loop-read-preserved : goal.loop-read-preserved
 loop-read-preserved g c =
