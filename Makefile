@@ -24,7 +24,7 @@ SHARED := libboruvka.so.$(VERSION)
 # What is installed below LIBDIR for those who look for the libraries.
 STAMPED := pkgconfig/boruvka.pc pkgconfig/boruvka_within.pc cmake/boruvka/boruvka-config.cmake cmake/boruvka/boruvka-config-version.cmake
 # What the README sends its reader to, as far as it isn't code.
-DOCUMENTS := LICENSE README.md SECURITY.md CHANGELOG.md CONTRIBUTING.md docs/roads.svg
+DOCUMENTS := LICENSE README.md SECURITY.md CHANGELOG.md CONTRIBUTING.md docs/roads.svg docs/rounds.svg
 DOCUMENTS += $(patsubst %,docs/%.md,ARCHITECTURE DECISIONS GR_FORMAT HEADLINE PERFORMANCE PROMISES PROTOCOL RECIPES)
 DOCUMENTS += examples/small.gr examples/roads.gr $(addprefix examples/embed/,forest.c forest.cpp forest.py forest.rs within.c)
 # (a path may have a space, so it stands in single quotes for the shell)

@@ -1,9 +1,9 @@
 /* SPDX-License-Identifier: MIT OR Apache-2.0 */
 /* boruvka.hpp: calls of boruvka.h over spans, for C++20.
  *
- * A refusal is thrown as boruvka::refused; with BORUVKA_EXPECTED defined, and C++23, it is answered in a std::expected. Files
- * of both kinds can be linked into one program. A vector that finds no memory throws std::bad_alloc in either.
- * What boruvka.h asks of pointers and lengths is seen to here; that no other thread touches a span meanwhile isn't. */
+ * An error is thrown as boruvka::refused; with BORUVKA_EXPECTED defined, and C++23, it is returned in a std::expected. Files of
+ * both kinds can be linked into one program. If a vector gets no memory, std::bad_alloc is thrown in either.
+ * These calls keep the rules of boruvka.h for pointers and lengths; the caller sees to it that no other thread touches a span. */
 #ifndef BORUVKA_HPP
 #define BORUVKA_HPP
 
@@ -32,7 +32,7 @@
 
 namespace boruvka {
 
-/* Why there is no answer: an enum boruvka_refusal, and its text. */
+/* An error: an enum boruvka_refusal, and its text. */
 struct refused : std::runtime_error {
     std::int64_t why;
 
@@ -44,7 +44,7 @@ struct refused : std::runtime_error {
     }
 };
 
-/* An empty span may have a null pointer, which no call takes. */
+/* The pointer of a span. An empty one may have none, for which nothing is proved: then it is one to an element. */
 template <class T> T *first_of(std::span<T> all) {
     static std::remove_const_t<T> none{};
     return all.empty() ? &none : all.data();
@@ -62,7 +62,7 @@ inline boruvka_sum total(std::span<const boruvka_link> links) {
     return sum;
 }
 
-/* What answers in two ways has a namespace for each, so that a linker doesn't take one for the other. */
+/* What returns in two ways has a namespace for each, so that a linker doesn't take one for the other. */
 #ifdef BORUVKA_EXPECTED
 inline namespace with_expected {
 template <class T> using answer = std::expected<T, refused>;
@@ -73,18 +73,18 @@ template <class T> using answer = T;
 template <class T> T refuse(std::int64_t code) { throw refused(code); }
 #endif
 
-/* The minimum spanning forest of links between the vertices 1 to n, which stands first among them then. */
+/* The minimum spanning forest of links between the vertices 1 to n, which are the first of them then. */
 [[nodiscard]] inline answer<std::span<boruvka_link>> forest(std::uint64_t n, std::span<boruvka_link> links) {
     const std::int64_t count = boruvka_forest(of_32_bits(n), first_of(links), links.size());
     if (count < 0) return refuse<std::span<boruvka_link>>(count);
     return links.first(static_cast<std::size_t>(count));
 }
 
-/* The places of its links among the arcs from u[i] to v[i] of weight w[i], between the vertices base to base + n - 1. */
+/* The indices of its links among the arcs from u[i] to v[i] of weight w[i], between the vertices base to base + n - 1. */
 [[nodiscard]] inline answer<std::vector<std::uint32_t>> places(std::uint64_t n, std::uint64_t base,
                                                                std::span<const std::uint32_t> u, std::span<const std::uint32_t> v,
                                                                std::span<const std::int64_t> w) {
-    /* no end is a vertex past 32 bits */
+    /* no endpoint is a vertex past 32 bits */
     if (base > UINT32_MAX && n <= BORUVKA_MAX_VERTICES) n = 0;
     std::vector<std::uint32_t> found(std::min<std::uint64_t>(u.size(), n > 0 ? n - 1 : 0));
     const std::int64_t count = boruvka_places_in(of_32_bits(n), of_32_bits(base), first_of(u), u.size(), first_of(v), v.size(),
@@ -94,7 +94,7 @@ template <class T> T refuse(std::int64_t code) { throw refused(code); }
     return found;
 }
 
-/* The least vertex of each vertex's component under links that close no cycle, that of vertex v at v - 1. */
+/* The least vertex of each vertex's component under links without a cycle, that of vertex v at v - 1. */
 [[nodiscard]] inline answer<std::vector<std::uint32_t>> labels(std::uint64_t n, std::span<const boruvka_link> links) {
     if (n > BORUVKA_MAX_VERTICES) return refuse<std::vector<std::uint32_t>>(BORUVKA_TOO_MANY_VERTICES);
     std::vector<std::uint32_t> found(n);
@@ -103,8 +103,7 @@ template <class T> T refuse(std::int64_t code) { throw refused(code); }
     return found;
 }
 
-/* The merges of the clusters of n points by links that close no cycle, in ascending order of weight, as boruvka_merges has
- * them. */
+/* The merges of the clusters of n points by links without a cycle, in ascending order of weight, as boruvka_merges has them. */
 [[nodiscard]] inline answer<std::vector<boruvka_merge>> merges(std::uint64_t n, std::span<const boruvka_link> links) {
     std::vector<boruvka_merge> found(links.size());
     const std::int64_t count = boruvka_merges_in(of_32_bits(n), first_of(links), links.size(), first_of(std::span(found)), found.size());

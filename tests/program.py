@@ -20,7 +20,7 @@ import time
 
 sys.dont_write_bytecode = True
 
-from cases import words, progress, streams, threads, workers, sockets, calls, memory, joined, keeping, embedding, within, regions, release, python, peers, documents, headline, machinery  # noqa: F401, I001 (they run in this order)
+from cases import words, progress, streams, threads, workers, sockets, calls, memory, joined, keeping, embedding, within, regions, release, python, peers, documents, tables, headline, machinery  # noqa: F401, I001 (they run in this order)
 from cases.running import CASES, Program, Skipped
 
 

@@ -1,4 +1,4 @@
-/* The minimum spanning forest of a small net that lies in memory, written as `boruvka` writes it.
+/* The minimum spanning forest of a small network in memory, printed as `boruvka` prints it.
  *
  * If the libraries are installed where the system looks for them, and `ldconfig` has run since:
  *
@@ -22,8 +22,12 @@
 enum { VERTICES = 6 };
 
 int main(void) {
-    /* weight and two ends, in either order */
-    struct boruvka_link links[] = {{17, 1, 2}, {10, 1, 3}, {2, 2, 4}, {0, 3, 5}, {0, 4, 3}, {3, 4, 6}, {0, 5, 2}, {20, 5, 6}};
+    /* the endpoints of a link come in either order */
+    struct boruvka_link links[] = {
+        {.weight = 17, .low = 1, .high = 2}, {.weight = 10, .low = 1, .high = 3}, {.weight = 2, .low = 2, .high = 4},
+        {.weight = 0, .low = 3, .high = 5},  {.weight = 0, .low = 4, .high = 3},  {.weight = 3, .low = 4, .high = 6},
+        {.weight = 0, .low = 5, .high = 2},  {.weight = 20, .low = 5, .high = 6},
+    };
     const int64_t count = boruvka_forest(VERTICES, links, sizeof links / sizeof *links);
     if (count < 0) {
         char text[64];

@@ -1,4 +1,4 @@
-/* The minimum spanning forest of a small net that lies in memory, written as `boruvka` writes it.
+/* The minimum spanning forest of a small network in memory, printed as `boruvka` prints it.
  *
  * With the static library of a PREFIX:
  *
@@ -9,8 +9,12 @@
 
 int main() {
     const std::uint32_t vertices = 6;
-    /* weight and two ends, in either order */
-    std::vector<boruvka_link> links = {{17, 1, 2}, {10, 1, 3}, {2, 2, 4}, {0, 3, 5}, {0, 4, 3}, {3, 4, 6}, {0, 5, 2}, {20, 5, 6}};
+    /* the endpoints of a link come in either order */
+    std::vector<boruvka_link> links = {
+        {.weight = 17, .low = 1, .high = 2}, {.weight = 10, .low = 1, .high = 3}, {.weight = 2, .low = 2, .high = 4},
+        {.weight = 0, .low = 3, .high = 5},  {.weight = 0, .low = 4, .high = 3},  {.weight = 3, .low = 4, .high = 6},
+        {.weight = 0, .low = 5, .high = 2},  {.weight = 20, .low = 5, .high = 6},
+    };
     try {
         const std::span<boruvka_link> found = boruvka::forest(vertices, links);
         std::printf("p sp %u %zu\n", vertices, found.size());

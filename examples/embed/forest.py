@@ -1,8 +1,8 @@
-"""The minimum spanning forest of a small net that lies in memory, written as `boruvka` writes it.
+"""The minimum spanning forest of a small network in memory, printed as `boruvka` prints it.
 
 usage: python3 forest.py [LIBRARY]
 
-Without a word it takes the shared library that the system's loader finds (after `ldconfig`, once it is installed). With the one of a PREFIX of your own:
+Without an argument it uses the shared library that the system's loader finds (after `ldconfig`, once it is installed). With the one of a PREFIX of your own:
 
     python3 forest.py PREFIX/lib/libboruvka.so.1
 """
@@ -28,7 +28,7 @@ def loaded(path):
 
 
 def forest(library, n, links):
-    """The forest of links in a writable buffer, as an array or numpy has it: they are first in it then."""
+    """The forest of links in a writable buffer, such as an array or one of numpy: it is the first of them then."""
     size, view = ctypes.sizeof(Link), memoryview(links)
     # ctypes would cut n to 32 bits, and read floats as whole numbers (a name stands between colons)
     if not 0 <= n < 2**32:

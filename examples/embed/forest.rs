@@ -1,4 +1,4 @@
-//! The minimum spanning forest of a small net that lies in memory, written as `boruvka` writes it.
+//! The minimum spanning forest of a small network in memory, printed as `boruvka` prints it.
 //!
 //! With the static library of the PREFIX that it is installed under:
 //!
@@ -51,7 +51,7 @@ fn forest(n: u32, links: &mut [Link]) -> Result<&[Link], String> {
     Ok(&links[..count_of(answer)?])
 }
 
-/// The places of the forest's links among the arcs from `u` to `v` of weight `w`, between the vertices `base` to `base + n - 1`.
+/// The indices of the forest's links among the arcs from `u` to `v` of weight `w`, between the vertices `base` to `base + n - 1`.
 fn places(n: u32, base: u32, u: &[u32], v: &[u32], w: &[i64]) -> Result<Vec<u32>, String> {
     let mut places = vec![0; u.len().min(n.saturating_sub(1) as usize)];
     // SAFETY: as above; what is shared is only read, and a vector of its own is written.
@@ -64,7 +64,7 @@ fn places(n: u32, base: u32, u: &[u32], v: &[u32], w: &[i64]) -> Result<Vec<u32>
     Ok(places)
 }
 
-/// The least vertex of each vertex's component under links that close no cycle, from vertex 1 on.
+/// The least vertex of each vertex's component under links without a cycle, from vertex 1 on.
 fn labels(n: u32, links: &[Link]) -> Result<Vec<u32>, String> {
     let mut labels = vec![0; n as usize];
     // SAFETY: as above.
@@ -90,7 +90,7 @@ fn total(links: &[Link]) -> i128 {
     (i128::from(sum.high) << 64) + i128::from(sum.low)
 }
 
-/// What a call counted, or the text of its refusal.
+/// What a call counted, or the text of its error.
 fn count_of(answer: i64) -> Result<usize, String> {
     usize::try_from(answer).map_err(|_| fault_text(answer))
 }

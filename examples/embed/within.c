@@ -1,4 +1,4 @@
-/* The minimum spanning forest of a small net, by calls that take no memory but what they are given: here a static array.
+/* The minimum spanning forest of a small network, by calls that use no memory but what they are given: here a static array.
  * With the library of a PREFIX of your own:
  *
  *     cc -o within -IPREFIX/include within.c PREFIX/lib/libboruvka_within.a
@@ -9,13 +9,20 @@
 
 enum { VERTICES = 6 };
 
-/* aligned to 16 bytes */
-static _Alignas(16) unsigned char pages[4 * 4096];
+/* four pages; on x86-64 a long double is aligned to 16 bytes, as the call needs it */
+static union {
+    unsigned char bytes[4 * 4096];
+    long double aligned;
+} pages;
 
 int main(void) {
-    const struct boruvka_memory memory = {pages, sizeof pages};
-    /* weight and two ends, in either order */
-    struct boruvka_link links[] = {{17, 1, 2}, {10, 1, 3}, {2, 2, 4}, {0, 3, 5}, {0, 4, 3}, {3, 4, 6}, {0, 5, 2}, {20, 5, 6}};
+    const struct boruvka_memory memory = {.start = pages.bytes, .size = sizeof pages.bytes};
+    /* the endpoints of a link come in either order */
+    struct boruvka_link links[] = {
+        {.weight = 17, .low = 1, .high = 2}, {.weight = 10, .low = 1, .high = 3}, {.weight = 2, .low = 2, .high = 4},
+        {.weight = 0, .low = 3, .high = 5},  {.weight = 0, .low = 4, .high = 3},  {.weight = 3, .low = 4, .high = 6},
+        {.weight = 0, .low = 5, .high = 2},  {.weight = 20, .low = 5, .high = 6},
+    };
     const int64_t count = boruvka_forest_within(memory, VERTICES, links, sizeof links / sizeof *links);
     if (count < 0) {
         char text[64];

@@ -130,19 +130,19 @@ print(json.dumps(told))
 def mistakes_of_merges_in_node(room):
     mistakes = [
         # not ascending, at the end of a long list too
-        (3, [(1, 2, 5), (2, 3, 4)], "links descend"),
-        (3, [(1, 2, 0), (2, 3, -1)], "links descend"),
-        (1000, [(v, v + 1, v % 999) for v in range(1, 1000)], "links descend"),
+        (3, [(1, 2, 5), (2, 3, 4)], "links aren't sorted by weight"),
+        (3, [(1, 2, 0), (2, 3, -1)], "links aren't sorted by weight"),
+        (1000, [(v, v + 1, v % 999) for v in range(1, 1000)], "links aren't sorted by weight"),
         # all links, and not those of the forest alone
-        (3, [(1, 2, 1), (2, 3, 1), (1, 3, 1)], "a cycle"),
-        (2, [(1, 2, 3), (2, 1, 3)], "a cycle"),
-        (2, [(2, 2, 3)], "a cycle"),
+        (3, [(1, 2, 1), (2, 3, 1), (1, 3, 1)], "links contain a cycle"),
+        (2, [(1, 2, 3), (2, 1, 3)], "links contain a cycle"),
+        (2, [(2, 2, 3)], "links contain a cycle"),
         # both: the cycle is told first
-        (3, [(1, 2, 3), (2, 3, 2), (1, 3, 1)], "a cycle"),
+        (3, [(1, 2, 3), (2, 3, 2), (1, 3, 1)], "links contain a cycle"),
         # vertices from 0 on, or another number of them
-        (3, [(0, 1, 1), (1, 2, 1)], "an end is no vertex"),
-        (2, [(1, 3, 1)], "an end is no vertex"),
-        (0, [(1, 1, 1)], "an end is no vertex"),
+        (3, [(0, 1, 1), (1, 2, 1)], "an endpoint isn't a vertex"),
+        (2, [(1, 3, 1)], "an endpoint isn't a vertex"),
+        (0, [(1, 1, 1)], "an endpoint isn't a vertex"),
         (2**26 + 1, [], "too many vertices"),
     ]
     found = merges_of(room, [(n, arcs) for n, arcs, _ in mistakes])

@@ -106,8 +106,8 @@ def forests_in_node(room):
 def refusals_in_node(room):
     faults = [(text, told) for name, text, told in FAULTS if name.endswith(".gr")]
     links = [
-        (2, [(1, 3, 4)], "an end is no vertex"),
-        (2, [(0, 1, 4)], "an end is no vertex"),
+        (2, [(1, 3, 4)], "an endpoint isn't a vertex"),
+        (2, [(0, 1, 4)], "an endpoint isn't a vertex"),
         (2**26 + 1, [], "too many vertices"),
     ]
     rows = [(1, [], text) for text, _ in faults] + [(n, arcs, b"") for n, arcs, _ in links]

@@ -43,6 +43,11 @@ def shown(language, block):
     return [(f"{command}\n", output) for command, _, output in commands]
 
 
+def shell_recipes():
+    """The blocks of docs/RECIPES.md that a shell runs; the last takes away what the others leave."""
+    return [it for it in blocks_of("docs/RECIPES.md") if it[0] != "python"]
+
+
 def pasted(room, command, shell="sh"):
     """What a command of a page does in a copy of the repository's top that has the examples alone: its status, and what it
     writes to either stream."""
@@ -88,7 +93,7 @@ def awk_rooms(room):
 
 @case
 def the_recipes(room):
-    *blocks, last = blocks_of("docs/RECIPES.md")
+    *blocks, last = shell_recipes()
     for room in awk_rooms(room):
         count = expect_shown(room, blocks)
         if count < 25:
@@ -111,7 +116,7 @@ def the_recipes(room):
 @case
 def the_recipes_in_other_shells(room):
     """In zsh what has both a file and a pipe goes to either. With `pipefail` a pipe fails just if its graph can't be read."""
-    *blocks, last = blocks_of("docs/RECIPES.md")
+    *blocks, last = shell_recipes()
     [setting] = re.findall(r"`(set -o \w+)`", text_of("docs/RECIPES.md"))
     for shell in filter(shutil.which, ["bash", "zsh"]):
         expect_shown(f"{room}/{shell}", blocks, shell)
@@ -125,7 +130,7 @@ def the_recipes_in_other_shells(room):
 @case
 def a_clean_up_without_parts(room):
     """In zsh a pattern that matches nothing takes its command along, and no other."""
-    _, last = blocks_of("docs/RECIPES.md")[-1]
+    _, last = shell_recipes()[-1]
     for shell in filter(shutil.which, ["sh", "bash", "zsh"]):
         names = set(re.findall(r"\w+\.\w+", last))
         for name in names:
@@ -142,6 +147,13 @@ def recipe(room, *headings):
         if pasted(room, command) != (0, output):
             raise AssertionError(command)
     return [command for command, output in commands if output]
+
+
+def csv_recipe(room):
+    """The commands of the recipe of a CSV that show something, after those that it needs the files of."""
+    for heading in ["Clusters", "Decimal weights", "Names instead of numbers"]:
+        recipe(room, heading)
+    return recipe(room, "A CSV with ids")
 
 
 def expect_refused(room, command, name, rows, line, told):
@@ -190,8 +202,7 @@ def counts_that_the_recipes_refuse(room):
     """A count that is mistyped or missing has no answer: neither other clusters, nor weights whose point has moved."""
     for room in awk_rooms(room):
         recipe(room, "Clusters")
-        recipe(room, "Decimal weights")
-        csv = recipe(room, "A CSV with ids")[0]
+        csv = csv_recipe(room)[0]
         for count in ["O4", "4x", "2,5", "1.5", "-2", "two", ""]:
             for command, name in [
                 (f"awk -v clusters='{count}' -f clusters.awk forest.gr", "clusters"),
@@ -209,11 +220,87 @@ def counts_that_the_recipes_refuse(room):
 
 
 @case
+def counts_that_no_clusters_have(room):
+    """The roads have ten vertices and two components: by hand."""
+    of_components = "".join(f"{v} {1 if v < 9 else 9}\n" for v in range(1, 11))
+    for room in awk_rooms(room):
+        recipe(room, "Clusters")
+        for count, status, output in [
+            ("20", 1, "20 clusters are more than the 10 vertices\n"), ("11", 1, "11 clusters are more than the 10 vertices\n"),
+            ("010", 0, "".join(f"{v} {v}\n" for v in range(1, 11))), ("2", 0, of_components), ("components", 0, of_components),
+            ("1", 1, "1 clusters are fewer than the 2 components\n"), ("99999999999999999999", 1, "99999999999999999999 clusters are more than the 10 vertices\n"),
+        ]:
+            found = pasted(room, f"boruvka --plain examples/roads.gr | awk -v clusters={count} -f clusters.awk")
+            if found != (status, output):
+                raise AssertionError(f"{count} clusters: wanted {(status, output)!r}, found {found!r:.600}")
+        for count, status, output in [("1", 1, "1 clusters are more than the 0 vertices\n"), ("components", 0, "")]:
+            found = pasted(room, f"echo p sp 0 0 | boruvka --plain | awk -v clusters={count} -f clusters.awk")
+            if found != (status, output):
+                raise AssertionError(f"{count} clusters of nothing: {found!r:.600}")
+
+
+def forest_of_names(rows):
+    """The ids of the forest of rows (id, name, name, weight), lightest first, if names are ranked as bytes; of equal links the
+    least id counts."""
+    rank = {it: at for at, it in enumerate(sorted({name for _, *ends, _ in rows for name in ends}, key=str.encode), 1)}
+    least = {}
+    for id_, u, v, weight in rows:
+        link = (weight, *sorted((rank[u], rank[v])))
+        least[link] = min(least.get(link, id_), id_)
+    return rank, [least[it] for it in forest_of(len(rank), [(low, high, weight) for weight, low, high in least])]
+
+
+@case
+def the_order_of_rows_changes_nothing(room):
+    """Many lengths are equal, some links too: shuffled rows have the same ids, links and clusters."""
+    draw = random.Random(31)
+    names = [f"{draw.choice(['Ost', 'Ž', 'a', 'Zd', '10', '9'])}{at}" for at in range(40)]
+    rows = [(f"p{at}", draw.choice(names), draw.choice(names), draw.randint(0, 3)) for at in range(300)]
+    rank, ids = forest_of_names(rows)
+    row = {id_: (u, v, weight) for id_, u, v, weight in rows}
+    links = "".join(" ".join((*sorted(row[it][:2], key=rank.get), str(row[it][2]))) + "\n" for it in ids)
+    for room in awk_rooms(room):
+        command = csv_recipe(room)[0]
+        show, _ = recipe(room, "Names instead of numbers")
+        grouped = set()
+        for _ in range(4):
+            draw.shuffle(rows)
+            written(f"{room}/trains.txt", "".join(f"{u} {v} {weight}\n" for _, u, v, weight in rows).encode())
+            found = pasted(room, f"awk -f names.awk -f number.awk trains.txt > trains.gr && {show}")
+            if found != (0, links):
+                raise AssertionError(f"wanted {links!r:.600}\n    found  {found!r:.900}")
+            grouped.add(pasted(room, "boruvka --plain trains.gr | awk -v clusters=9 -f clusters.awk | awk -f named.awk names.txt -"))
+            written(f"{room}/pipes.csv", "".join(["id,from,to,km\n", *(",".join(map(str, it)) + "\n" for it in rows)]).encode())
+            if pasted(room, command) != (0, "".join(f"{it}\n" for it in ids)):
+                raise AssertionError(f"wanted {ids}\n    found  {pasted(room, command)!r:.900}")
+        joined, left = {name: {name} for name in rank}, len(rank)
+        for u, v, _ in map(row.get, ids[: len(rank) - 9]):
+            both = joined[u] | joined[v]
+            joined.update(dict.fromkeys(both, both))
+        wanted = {(0, "".join(f"{name} {min(joined[name], key=rank.get)}\n" for name in rank))}
+        if grouped != wanted:
+            raise AssertionError(f"wanted {wanted!r:.600}\n    found  {grouped!r:.900}")
+
+
+@case
+def no_rows_with_names(room):
+    """They have no names, no links and no clusters, whatever was there before."""
+    for room in awk_rooms(room):
+        csv = csv_recipe(room)[0]
+        show, _ = recipe(room, "Names instead of numbers")
+        written(f"{room}/trains.txt", b"")
+        written(f"{room}/pipes.csv", b"id,from,to,metres\n")
+        for command in [f"awk -f names.awk -f number.awk trains.txt > trains.gr && {show}", csv, "awk -v clusters=components -f clusters.awk forest.gr | awk -f named.awk names.txt -"]:
+            if pasted(room, command) != (0, ""):
+                raise AssertionError(f"{command}: {pasted(room, command)!r:.600}")
+
+
+@case
 def weights_that_the_recipes_refuse(room):
     wrong = ["1,9", "x7", "7x", "", "0.755", "1e3", "nan", "0x1F", "-", ".", "1.", ".5", "+1", "1.2.3", "--1", "1 2", "1.-5", "\u0661"]
     for room in awk_rooms(room):
+        plain, _, quoted = csv_recipe(room)
         [decimals] = recipe(room, "Decimal weights")
-        plain, quoted = recipe(room, "A CSV with ids")
         for weight in wrong:
             arc, row = f"a 1 3 {weight}", f"p9,Old Mill,Gate,{weight}"
             expect_refused(room, decimals, "decimals.gr", ["p sp 3 2", "a 1 2 0.75", arc], 3, arc)
@@ -226,8 +313,7 @@ def weights_that_the_recipes_refuse(room):
 def lines_that_the_recipe_of_a_csv_refuses(room):
     head = "id,from,to,metres"
     for room in awk_rooms(room):
-        recipe(room, "Decimal weights")
-        plain, quoted = recipe(room, "A CSV with ids")
+        plain, _, quoted = csv_recipe(room)
         for rows, line in [
             (["p1,Old Mill,Gate,1"], 1),
             ([head, "p1,Old Mill,Gate,1", "p2,Old Mill,,1"], 3),
@@ -273,7 +359,13 @@ def decimals_that_no_float_tells_apart(room):
         wanted = "p sp 5 4\na 2 3 -92233720368547758.08\na 4 5 -0.01\na 1 2 90071992547409.92\na 3 4 92233720368547758.07\n"
         if pasted(room, command) != (0, wanted):
             raise AssertionError(f"wanted {wanted}\n    found  {pasted(room, command)}")
-        # without digits after a point there is none, as the recipe itself asks of a weight
+        # without digits after a point there is none, as the recipe itself asks of a weight; and if a
+        # count has a leading zero some awks count by eights
+        with open(f"{room}/decimals.gr", "w", encoding="utf-8") as it:
+            it.write("p sp 2 1\na 1 2 0.0000000019\n")
+        found = pasted(room, command.replace("digits=2", "digits=010"))
+        if found != (0, "p sp 2 1\na 1 2 0.0000000019\n"):
+            raise AssertionError(f"ten digits: {found!r:.600}")
         with open(f"{room}/decimals.gr", "w", encoding="utf-8") as it:
             it.write("p sp 3 2\na 1 2 0\na 2 3 -70\n")
         for digits in ["0", "00"]:
@@ -317,8 +409,9 @@ def names_in_files_of_others(room):
     trains = ["Brno Praha 205", "Brno\tOlomouc 80", "Olomouc Praha 250", "Wien Brno 9007199254740993", "Wien  Brno 9007199254740992"]
     wanted = "Brno Olomouc 80\nBrno Praha 205\nBrno Wien 9007199254740992\n"
     for room in awk_rooms(room):
-        [show] = recipe(room, "Names in place of numbers")
-        number = "awk -f number.awk trains.txt > trains.gr"
+        recipe(room, "Clusters")
+        show, _ = recipe(room, "Names instead of numbers")
+        number = "awk -f names.awk -f number.awk trains.txt > trains.gr"
         for text in ["\n".join([*trains, ""]), "\ufeff" + "\r\n".join(trains)]:
             for locale in ["C", "C.UTF-8"]:
                 with open(f"{room}/trains.txt", "w", encoding="utf-8", newline="") as it:
@@ -333,7 +426,7 @@ def names_in_files_of_others(room):
 @case
 def the_links_that_a_picture_draws_black(room):
     """They are the forest's, however the file spells them: by hand."""
-    net = [("1", "2", "9007199254740993"), ("1", "02", "9007199254740992"), ("3", "2", "-007"), ("3", "3", "5"), ("9", "10", "05"), ("10", "9", "5")]
+    net = [("1", "2", "9007199254740993"), ("1", "02", "9007199254740992"), ("3", "2", "-007"), ("3", "3", "5"), ("9", "010", "05"), ("10", "9", "5")]
     black = ["1 -- 2 [label=9007199254740992", "2 -- 3 [label=-7", "9 -- 10 [label=5"]
     grey = ["1 -- 2 [label=9007199254740993", "3 -- 3 [label=5", "9 -- 10 [label=5"]
     draw = blocks_of("docs/RECIPES.md", "A picture")[0][1]
@@ -385,15 +478,44 @@ def points_far_from_zero(room):
 
 
 @case
-def points_that_lie_nowhere(room):
-    """They are refused at once: some kept the search going, or had another point's neighbours."""
+def lines_that_are_no_points(room):
+    """They are reported by their number and at once: a header, an empty line, and coordinates that lie nowhere."""
     recipe(room, "Clusters")
     recipe(room, "Points")
-    for rows in ["0,0 1,nan", "nan,0 1,1", "0,inf 1,1", "-inf,0 1,1", "1e200,1e200 -1e200,0", "1e308,0 -1e308,0"]:
-        written(f"{room}/points.csv", rows.replace(" ", "\n").encode())
+    number, range_ = "a line is x,y: two numbers", "coordinates are finite, and at most 1e150"
+    for rows, line, told, why in [
+        ("x,y 0,0", 1, "x,y", number), ("0,0 1,1  2,2", 3, "", number), ("0,0 1", 2, "1", number), ("0,0 1,2,3", 2, "1,2,3", number),
+        ("0,0 1,two", 2, "1,two", number), ("0,0 1;2", 2, "1;2", number),
+        ("0,0 1,nan", 2, "1,nan", range_), ("nan,0 1,1", 1, "nan,0", range_), ("0,inf 1,1", 1, "0,inf", range_), ("-inf,0 1,1", 1, "-inf,0", range_),
+        ("1,1 1e200,1e200 -1e200,0", 2, "1e200,1e200", range_), ("1e308,0 -1e308,0", 1, "1e308,0", range_),
+    ]:
+        written(f"{room}/points.csv", (rows.replace(" ", "\n") + "\n").encode())
         found = pasted(room, "timeout 10 python3 nearest.py 1 < points.csv")
-        if found != (1, "coordinates are finite, and at most 1e150\n"):
+        if found != (1, f"line {line}: {told}: {why}\n"):
             raise AssertionError(f"{rows}: {found!r:.600}")
+    for rows, count, told in [("", 2, "there are no points\n"), ("0,0\n", 0, "how many are nearest is 1 or more\n"), ("0,0\n", -1, "how many are nearest is 1 or more\n")]:
+        written(f"{room}/points.csv", rows.encode())
+        if pasted(room, f"python3 nearest.py {count} < points.csv") != (1, told):
+            raise AssertionError(f"{rows!r}, {count}: {pasted(room, f'python3 nearest.py {count} < points.csv')!r:.600}")
+    written(f"{room}/points.csv", b"7,7\n")
+    if pasted(room, "python3 nearest.py 3 < points.csv") != (0, "p sp 1 0\n"):
+        raise AssertionError(f"one point: {pasted(room, 'python3 nearest.py 3 < points.csv')!r:.600}")
+
+
+@case
+def the_lengths_of_a_tree_of_points(room):
+    """All pairs of drawn points, by Kruskal's algorithm: each length, and their sum."""
+    recipe(room, "Clusters")
+    recipe(room, "Points")
+    draw = random.Random(12)
+    points = [(draw.uniform(-9, 9), draw.uniform(0, 1e-3)) for _ in range(60)]
+    written(f"{room}/points.csv", "".join(f"{x!r},{y!r}\n" for x, y in points).encode())
+    pairs = [(u, v, math.dist(points[u - 1], points[v - 1])) for v in range(1, 61) for u in range(1, v)]
+    wanted = forest_of(60, pairs)
+    told = "".join(f"{low} {high} {length!r}\n" for length, low, high in wanted) + f"total {math.fsum(it[0] for it in wanted)!r}\n"
+    found = pasted(room, "python3 nearest.py 59 < points.csv | boruvka --plain | python3 lengths.py")
+    if found != (0, told):
+        raise AssertionError(f"wanted {told!r:.600}\n    found  {found!r:.600}")
 
 
 @case
@@ -407,8 +529,7 @@ def the_ids_of_a_drawn_csv(room):
     id_of = {length: f"id {at}" for at, (_, _, length) in enumerate(links)}
     wanted = "".join(f"{id_of[length]}\n" for length, _, _ in forest_of(200, links))
     for room in awk_rooms(room):
-        recipe(room, "Decimal weights")
-        command = recipe(room, "A CSV with ids")[0]
+        command = csv_recipe(room)[0]
         with open(f"{room}/pipes.csv", "w", encoding="utf-8", newline="") as it:
             it.write("\r\n".join(["\ufeffid,from,to,km", *rows, ""]))
         if pasted(room, command) != (0, wanted):
@@ -453,10 +574,10 @@ def a_graph_in_parts_is_the_same_graph(room):
     """Drawn graphs, one with line ends of two bytes, in parts of some lines and of one, beside the reference."""
     for room in awk_rooms(room):
         recipe(room, "Parts of a large graph")
-        for seed, size, end in [(91, 7, "\n"), (92, 40, "\r\n"), (93, 1, "\n")]:
+        for seed, size, end in [(91, 7, "\n"), (92, 40, "\r\n"), (93, 1, "\n")]:  # (the first has a count with a leading zero)
             draw = random.Random(seed)
             arcs = [(draw.randint(1, 30), draw.randint(1, 30), draw.randint(-20, 20)) for _ in range(150)]
-            rows = ["c drawn", "", "p sp 30 150", *(f"a {u} {v} {w}" for u, v, w in arcs)]
+            rows = ["c drawn", "", f"p sp 30 {'0' * (seed == 91)}150", *(f"a {u} {v} {w}" for u, v, w in arcs)]
             rows.insert(draw.randint(4, 150), "c p sp 3 3")
             with open(f"{room}/drawn.gr", "w", encoding="utf-8", newline="") as it:
                 it.write("".join(f"{row}{end}" for row in rows))

@@ -4,7 +4,9 @@
  *     embedding text ROOM       a .gr text on standard input: so much of its forest's text as ROOM bytes have room for,
  *                               and to standard error `answer kind line` and the text of the kind
  *     embedding places BASE     the same list as arcs whose vertices are numbered from BASE on: the places of the forest
- *     embedding limits          empty lists, loops alone, each refusal of links, the largest n, rooms of all sizes
+ *     embedding limits          empty lists, null pointers to no elements, loops alone, each error of links, the largest n,
+ *                               rooms of all sizes
+ *     embedding inlines         what the header itself defines: outputs that overlap inputs, keys of doubles
  *     embedding threads         four threads at once, each over lists of its own
  *     embedding stack           each call by a thread that has 128 KiB of stack in all
  *     embedding many            ten million links
@@ -17,6 +19,7 @@
 #define _GNU_SOURCE
 #include <boruvka.h>
 #include <fcntl.h>
+#include <float.h>
 #include <inttypes.h>
 #include <malloc.h>
 #include <pthread.h>
@@ -585,6 +588,155 @@ static void limits_of_total(void) {
     free(many);
 }
 
+/* The first bad link of a drawn list, and the first bad number of its columns, beside those found by hand. */
+static void compare_bad_ends(uint64_t seed, uint32_t n, size_t m) {
+    struct boruvka_link *given = draw(seed, n, m, 9);
+    struct columns of = columns_of(given, m, (uint32_t)seed);
+    CHECK(boruvka_bad_link(n, given, m) == m);
+    CHECK(boruvka_bad_end(n, (uint32_t)seed, of.u, m) == m && boruvka_bad_end(n, (uint32_t)seed, of.v, m) == m);
+    const uint32_t wrong_ends[] = {0, n + 1, UINT32_MAX};
+    for (size_t i = 0; i < m && i < 20; i++) {
+        const size_t at = drawn(&seed) % m;
+        uint32_t *end = drawn(&seed) % 2 ? &given[at].low : &given[at].high;
+        const uint32_t before = *end;
+        *end = wrong_ends[i % 3];
+        CHECK(boruvka_bad_link(n, given, m) == at);
+        *end = before;
+    }
+    free_columns(of);
+    free(given);
+}
+
+static void limits_of_ends(void) {
+    const struct boruvka_link ends[] = {{1, 1, 2}, {1, 3, 3}, {1, 4, 1}, {1, 1, 0}};
+    CHECK(boruvka_bad_link(3, ends, 2) == 2 && boruvka_bad_link(3, ends, 4) == 2 && boruvka_bad_link(4, ends, 4) == 3);
+    CHECK(boruvka_bad_link(0, ends, 4) == 0 && boruvka_bad_link(UINT32_MAX, ends, 4) == 3 && boruvka_bad_link(0, ends, 0) == 0);
+    const uint32_t column[] = {7, 9, 8, 10, 6, UINT32_MAX, 0};
+    CHECK(boruvka_bad_end(3, 7, column, 3) == 3 && boruvka_bad_end(3, 7, column, 7) == 3 && boruvka_bad_end(4, 7, column, 7) == 4);
+    CHECK(boruvka_bad_end(3, 8, column, 7) == 0 && boruvka_bad_end(0, 7, column, 7) == 0 && boruvka_bad_end(0, 7, column, 0) == 0);
+    /* numbers past 32 bits don't begin at 0 again */
+    CHECK(boruvka_bad_end(9, UINT32_MAX, column + 5, 2) == 1 && boruvka_bad_end(UINT32_MAX, 1, column, 7) == 6);
+    for (uint64_t seed = 1; seed <= 60; seed++) {
+        compare_bad_ends(seed, 1 + (uint32_t)seed % 9, seed * 7 % 100);
+    }
+    compare_bad_ends(5, 1000, 1000000);
+}
+
+/* As Go, C# and Java have them for arrays of no elements. */
+static void null_pointers(void) {
+    uint32_t label[3] = {untouched, untouched, untouched};
+    struct boruvka_sum total = {1, 1};
+    struct boruvka_fault fault = {1, 1};
+    CHECK(boruvka_forest(0, 0, 0) == 0 && boruvka_forest(5, 0, 0) == 0);
+    CHECK(boruvka_places(5, 1, 0, 0, 0, 0, 0) == 0 && boruvka_places_in(0, 0, 0, 0, 0, 0, 0, 0, 0, 0) == 0);
+    CHECK(boruvka_places_in(6, 0, tails, 8, 0, 0, weights, 8, 0, 0) == BORUVKA_LENGTHS_DIFFER);
+    CHECK(boruvka_places_in(6, 0, tails, 8, heads, 8, weights, 8, 0, 0) == BORUVKA_TOO_FEW_PLACES);
+    CHECK(boruvka_labels(0, 0, 0, 0) == 0 && boruvka_labels_in(forest, 1, 0, 0) == BORUVKA_BAD_END);
+    CHECK(boruvka_labels(3, 0, 0, label) == 3 && label[0] == 1 && label[1] == 2 && label[2] == 3);
+    CHECK(boruvka_merges(0, 0, 0, 0) == 0 && boruvka_merges(4, 0, 0, 0) == 0 && boruvka_merges_in(6, forest, 5, 0, 0) == BORUVKA_LENGTHS_DIFFER);
+    boruvka_total(0, 0, &total);
+    CHECK(total.high == 0 && total.low == 0);
+    CHECK(boruvka_bad_link(3, 0, 0) == 0 && boruvka_bad_end(3, 1, 0, 0) == 0);
+    CHECK(boruvka_forest_text(0, 0, 0, 0, &fault) == BORUVKA_MISSING_PROBLEM && fault.line == 1);
+    CHECK(boruvka_forest_text((const uint8_t *)given_text, sizeof given_text - 1, 0, 0, &fault) == (int64_t)sizeof found_text - 1);
+    CHECK(boruvka_fault_text(BORUVKA_NO_MEMORY, 0, 0) == 9);
+}
+
+/* An output in an input's memory is an error, and nothing is written; one that begins where an input ends is none. */
+static void overlaps(void) {
+    enum { ARCS = 4 };
+    union {
+        uint32_t columns[8 * ARCS];
+        int64_t weights[4 * ARCS];
+        struct boruvka_link links[2 * ARCS];
+    } at, before;
+    for (size_t i = 0; i < 8 * ARCS; i++) {
+        at.columns[i] = 1 + (uint32_t)(i % 3);
+    }
+    before = at;
+    uint32_t *const middle = at.columns + 2 * ARCS, u[ARCS] = {1, 2, 3, 4}, v[ARCS] = {2, 3, 4, 5};
+    const int64_t w[ARCS] = {4, 3, 2, 1};
+    for (int step = -2 * ARCS; step <= 2 * ARCS; step++) {
+        uint32_t *const places = middle + step;
+        const int near = -ARCS < step && step < ARCS;
+        CHECK((boruvka_places(5, 1, middle, v, w, ARCS, places) == BORUVKA_OVERLAP) == near);
+        CHECK(!near || !memcmp(&at, &before, sizeof at));
+        at = before;
+        CHECK((boruvka_places(5, 1, u, middle, w, ARCS, places) == BORUVKA_OVERLAP) == near);
+        CHECK(!near || !memcmp(&at, &before, sizeof at));
+        at = before;
+        /* the weights are twice as long */
+        const int of_weights = -ARCS < step && step < 2 * ARCS;
+        CHECK((boruvka_places(5, 1, u, v, at.weights + ARCS, ARCS, places) == BORUVKA_OVERLAP) == of_weights);
+        at = before;
+    }
+    /* of five vertices four places are written, of two one, and of none none */
+    CHECK(boruvka_places(2, 1, u, v, w, ARCS, u + 3) == BORUVKA_OVERLAP && boruvka_places(0, 1, u, v, w, ARCS, u) == BORUVKA_BAD_END);
+    CHECK(boruvka_places(3, 1, u, v, w, 0, u) == 0);
+    for (size_t i = 0; i < ARCS; i++) {
+        at.links[i] = (struct boruvka_link){.weight = (int64_t)i, .low = (uint32_t)i + 1, .high = (uint32_t)i + 2};
+    }
+    before = at;
+    /* four links have sixteen words, five labels five of them */
+    uint32_t *const words = at.columns;
+    CHECK(boruvka_labels(5, at.links, ARCS, words) == BORUVKA_OVERLAP && boruvka_labels(5, at.links, ARCS, words + 15) == BORUVKA_OVERLAP);
+    CHECK(boruvka_labels(5, at.links + 1, 3, words) == BORUVKA_OVERLAP && !memcmp(&at, &before, sizeof at));
+    CHECK(boruvka_labels(5, at.links, ARCS, words + 16) == 5 && words[16] == 1 && words[20] == 1);
+    at = before;
+    struct boruvka_merge *const merges = (struct boruvka_merge *)at.columns;
+    CHECK(boruvka_merges(5, at.links, ARCS, merges) == BORUVKA_OVERLAP && boruvka_merges(5, at.links, ARCS, merges + 5) == BORUVKA_OVERLAP);
+    CHECK(!memcmp(&at, &before, sizeof at));
+    CHECK(boruvka_merges(5, at.links, ARCS, (struct boruvka_merge *)(words + 16)) == ARCS && words[16] == 0 && words[17] == 1);
+}
+
+static double double_of(uint64_t bits) {
+    double weight;
+    memcpy(&weight, &bits, sizeof weight);
+    return weight;
+}
+
+static uint64_t bits_of(double weight) {
+    uint64_t bits;
+    memcpy(&bits, &weight, sizeof bits);
+    return bits;
+}
+
+/* The bits of infinity, and of a sign. */
+static const uint64_t infinite = (uint64_t)0x7ff << 52, sign = (uint64_t)1 << 63;
+
+/* (isnan may be taken away by a compiler's options) */
+static int is_number(uint64_t bits) {
+    return (bits & ~sign) <= infinite;
+}
+
+/* Keys have the order of the doubles, and a key's double is that of the key; what isn't a number has no other key. */
+static void keys(void) {
+    const double ascending[] = {-double_of(infinite), -DBL_MAX, -1.5, -1.0, -DBL_MIN, -DBL_MIN / 2, 0.0, DBL_MIN / 2, DBL_MIN, 0.1, 1.0, 1.0 + DBL_EPSILON, DBL_MAX, double_of(infinite)};
+    const size_t count = sizeof ascending / sizeof *ascending;
+    for (size_t i = 0; i < count; i++) {
+        CHECK(i == 0 || boruvka_key(ascending[i - 1]) < boruvka_key(ascending[i]));
+        CHECK(boruvka_key(double_of(bits_of(ascending[i]) ^ sign)) == -boruvka_key(ascending[i]) && boruvka_weight(boruvka_key(ascending[i])) == ascending[i]);
+    }
+    CHECK(boruvka_key(0.0) == 0 && boruvka_key(double_of(sign)) == 0 && bits_of(boruvka_weight(0)) == 0);
+    CHECK(boruvka_key(double_of(1)) == 1 && boruvka_key(double_of(sign | 1)) == -1);
+    CHECK(boruvka_key(double_of(infinite)) < INT64_MAX && boruvka_key(double_of(sign | infinite)) > BORUVKA_NAN);
+    /* the greatest and the least of those that aren't numbers, of either sign, and the usual one */
+    const uint64_t none[] = {infinite + 1, sign - 1, infinite | (uint64_t)1 << 51, sign | (infinite + 1), UINT64_MAX};
+    for (size_t i = 0; i < sizeof none / sizeof *none; i++) {
+        CHECK(boruvka_key(double_of(none[i])) == BORUVKA_NAN);
+    }
+    CHECK(!is_number(bits_of(boruvka_weight(BORUVKA_NAN))));
+    uint64_t seed = 5;
+    for (int i = 0; i < 1000000; i++) {
+        const uint64_t bits = drawn(&seed), others = drawn(&seed);
+        const double one = double_of(bits), other = double_of(others);
+        if (is_number(bits) && is_number(others)) {
+            CHECK((one < other) == (boruvka_key(one) < boruvka_key(other)) && (one == other) == (boruvka_key(one) == boruvka_key(other)));
+            CHECK(boruvka_weight(boruvka_key(one)) == one);
+        }
+    }
+}
+
 static void expect_refusal(uint32_t n, const struct boruvka_link *given, size_t m, int64_t why) {
     struct boruvka_link links[4];
     memcpy(links, given, m * sizeof *links);
@@ -593,7 +745,7 @@ static void expect_refusal(uint32_t n, const struct boruvka_link *given, size_t 
 }
 
 static void limits(void) {
-    CHECK(boruvka_version() == BORUVKA_VERSION);
+    CHECK(boruvka_version() == BORUVKA_VERSION && boruvka_release() == BORUVKA_RELEASE);
     struct boruvka_link none[1] = {{7, 7, 7}};
     CHECK(boruvka_forest(0, none, 0) == 0 && boruvka_forest(5, none, 0) == 0);
     CHECK(none[0].weight == 7 && none[0].low == 7 && none[0].high == 7);
@@ -624,10 +776,12 @@ static void limits(void) {
     limits_of_labels();
     limits_of_merges();
     limits_of_total();
+    limits_of_ends();
+    null_pointers();
     char text[32];
-    for (int64_t kind = -21; kind <= 3; kind++) {
+    for (int64_t kind = -22; kind <= 3; kind++) {
         const size_t length = boruvka_fault_text(kind, text, sizeof text);
-        CHECK(length > 0 && length <= 19 && length == strlen(text));
+        CHECK(length > 0 && length <= 29 && length == strlen(text));
         for (size_t room = 0; room <= sizeof text; room++) {
             char found[sizeof text + 1], wanted[sizeof text + 1];
             memset(found, '*', sizeof found);
@@ -639,7 +793,7 @@ static void limits(void) {
         printf("%" PRId64 " %s\n", kind, text);
     }
     memset(text, '*', sizeof text);
-    CHECK(boruvka_fault_text(BORUVKA_BAD_END, text, 7) == 19 && !memcmp(text, "an end\0*", 8));
+    CHECK(boruvka_fault_text(BORUVKA_TOO_MANY_LINKS, text, 9) == 14 && !memcmp(text, "too many\0*", 10));
 }
 
 static void *thread(void *seed) {
@@ -929,11 +1083,16 @@ static void a_refusals_text(void) {
 
 static void no_refusals_text(void) {
     char into[32];
-    CHECK(boruvka_fault_text(INT64_MIN, into, sizeof into) == 10 && !strcmp(into, "no refusal"));
+    CHECK(boruvka_fault_text(INT64_MIN, into, sizeof into) == 17 && !strcmp(into, "not an error code"));
 }
 
 static void the_version(void) {
-    CHECK(boruvka_version() == BORUVKA_VERSION);
+    CHECK(boruvka_version() == BORUVKA_VERSION && boruvka_release() == BORUVKA_RELEASE);
+}
+
+static void bad_ends(void) {
+    CHECK(boruvka_bad_link(5, net, 8) == 5 && boruvka_bad_link(6, net, 8) == 8);
+    CHECK(boruvka_bad_end(5, 0, heads, 8) == 5 && boruvka_bad_end(6, 0, heads, 8) == 8);
 }
 
 /* Each call with each of its ends, but a text of more than 2^40 bytes, which can't be had. */
@@ -958,6 +1117,7 @@ static void again(void) {
     REPEAT(a_refusals_text);
     REPEAT(no_refusals_text);
     REPEAT(the_version);
+    REPEAT(bad_ends);
     /* with so little a table of the most vertices is refused, which is asked for after memory for the links */
     const struct rlimit few = {64 << 20, 64 << 20};
     CHECK(!setrlimit(RLIMIT_AS, &few));
@@ -1014,6 +1174,9 @@ int main(int count, char **words) {
         places((uint32_t)strtoul(words[2], 0, 10));
     } else if (!strcmp(what, "limits")) {
         limits();
+    } else if (!strcmp(what, "inlines")) {
+        overlaps();
+        keys();
     } else if (!strcmp(what, "threads")) {
         threads();
     } else if (!strcmp(what, "stack")) {

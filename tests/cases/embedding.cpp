@@ -52,18 +52,18 @@ int main() {
     CHECK(value(boruvka::labels(0, {})).empty() && value(boruvka::labels(2, {})) == (numbers{1, 2}));
     CHECK(boruvka::total({}).high == 0 && boruvka::total({}).low == 0);
     const std::span<const std::uint32_t> fewer = std::span(u).first(7);
-    CHECK(is_refused(BORUVKA_LENGTHS_DIFFER, "lengths differ", [&] { return boruvka::places(6, 1, fewer, v, w); }));
-    CHECK(is_refused(BORUVKA_BAD_END, "an end is no vertex", [&] { return boruvka::places(6, 2, u, v, w); }));
-    CHECK(is_refused(BORUVKA_CYCLE, "a cycle", [&] { return boruvka::labels(6, given); }));
+    CHECK(is_refused(BORUVKA_LENGTHS_DIFFER, "array lengths differ", [&] { return boruvka::places(6, 1, fewer, v, w); }));
+    CHECK(is_refused(BORUVKA_BAD_END, "an endpoint isn't a vertex", [&] { return boruvka::places(6, 2, u, v, w); }));
+    CHECK(is_refused(BORUVKA_CYCLE, "links contain a cycle", [&] { return boruvka::labels(6, given); }));
     CHECK(is_refused(BORUVKA_TOO_MANY_VERTICES, "too many vertices", [&] { return boruvka::labels(BORUVKA_MAX_VERTICES + 1, given); }));
-    CHECK(is_refused(BORUVKA_BAD_END, "an end is no vertex", [&] { return boruvka::forest(5, net); }));
+    CHECK(is_refused(BORUVKA_BAD_END, "an endpoint isn't a vertex", [&] { return boruvka::forest(5, net); }));
     /* numbers that 32 bits would make 6 vertices, or 1 for the first, and a negative one */
     for (const long long past : {0x100000000LL, -0x100000000LL}) {
         CHECK(is_refused(BORUVKA_TOO_MANY_VERTICES, "too many vertices", [&] { return boruvka::forest(past + 6, net); }));
         CHECK(is_refused(BORUVKA_TOO_MANY_VERTICES, "too many vertices", [&] { return boruvka::places(past + 6, 1, u, v, w); }));
         CHECK(is_refused(BORUVKA_TOO_MANY_VERTICES, "too many vertices", [&] { return boruvka::places(past + 6, past + 1, u, v, w); }));
-        CHECK(is_refused(BORUVKA_BAD_END, "an end is no vertex", [&] { return boruvka::places(6, past + 1, u, v, w); }));
-        CHECK(is_refused(BORUVKA_LENGTHS_DIFFER, "lengths differ", [&] { return boruvka::places(past + 6, past + 1, fewer, v, w); }));
+        CHECK(is_refused(BORUVKA_BAD_END, "an endpoint isn't a vertex", [&] { return boruvka::places(6, past + 1, u, v, w); }));
+        CHECK(is_refused(BORUVKA_LENGTHS_DIFFER, "array lengths differ", [&] { return boruvka::places(past + 6, past + 1, fewer, v, w); }));
         CHECK(is_refused(BORUVKA_TOO_MANY_VERTICES, "too many vertices", [&] { return boruvka::labels(past + 6, forest.first(3)); }));
         CHECK(is_refused(BORUVKA_TOO_MANY_VERTICES, "too many vertices", [&] { return boruvka::merges(past + 6, forest); }));
         CHECK(value(boruvka::places(6, past + 1, {}, {}, {})).empty());

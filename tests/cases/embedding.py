@@ -10,8 +10,8 @@ from cases.running import ROOT, SMALL_FOREST, SMALL_NET, Skipped, case, drawn_gr
 
 LIBRARIES = f"{ROOT}/crates/boruvka_c/out"
 INCLUDE = f"-I{ROOT}/include"
-NAMES = {"boruvka_fault_text", "boruvka_forest", "boruvka_forest_text", "boruvka_labels_in", "boruvka_merges_in",
-         "boruvka_places_in", "boruvka_total", "boruvka_version"}
+NAMES = {"boruvka_bad_end", "boruvka_bad_link", "boruvka_fault_text", "boruvka_forest", "boruvka_forest_text", "boruvka_labels_in",
+         "boruvka_merges_in", "boruvka_places_in", "boruvka_release", "boruvka_total", "boruvka_version"}
 MINUTES = 90  # it took 19 where nothing had been built before
 ENVIRONMENT = {it: word for it, word in os.environ.items() if it not in ("MAKEFLAGS", "MAKELEVEL", "MFLAGS", "DESTDIR")}
 # What is wrong with each of these texts, by the names of docs/GR_FORMAT.md, and where.
@@ -23,13 +23,15 @@ FAULTY = [
 ]
 # Each refusal, from the code -1 on: its name in include/boruvka.h, and its text. Those of a line are FAULTY's.
 REFUSALS = [
-    ("NO_MEMORY", "no memory"), ("BAD_END", "an end is no vertex"), ("TOO_MANY_VERTICES", "too many vertices"),
-    ("TOO_MANY_LINKS", "too many links"), ("TOO_LONG", "file is too long"),
+    ("NO_MEMORY", "no memory"), ("BAD_END", "an endpoint isn't a vertex"), ("TOO_MANY_VERTICES", "too many vertices"),
+    ("TOO_MANY_LINKS", "too many links"), ("TOO_LONG", "the text is too long"),
     *((re.sub("(?<=[a-z])(?=[A-Z])", "_", kind).upper(), kind) for _, kind, _ in FAULTY),
-    ("LENGTHS_DIFFER", "lengths differ"), ("TOO_FEW_PLACES", "too few places"), ("CYCLE", "a cycle"), ("DESCENDING", "links descend"),
+    ("LENGTHS_DIFFER", "array lengths differ"), ("TOO_FEW_PLACES", "the output array is too small"), ("CYCLE", "links contain a cycle"),
+    ("DESCENDING", "links aren't sorted by weight"), ("OVERLAP", "an output overlaps an input"),
 ]
-# A line for each number from -21 to 3, and its text.
-TEXTS = "".join(f"{-code} {REFUSALS[code - 1][1] if 0 < code <= len(REFUSALS) else 'no refusal'}\n" for code in range(21, -4, -1)).encode()
+NO_CODE = "not an error code"
+# A line for each number from -22 to 3, and its text.
+TEXTS = "".join(f"{-code} {REFUSALS[code - 1][1] if 0 < code <= len(REFUSALS) else NO_CODE}\n" for code in range(22, -4, -1)).encode()
 
 # Two files of one program, which ask boruvka.hpp for the same in both of its ways.
 KINDS = {
@@ -108,7 +110,7 @@ def worked():
 def expect_text(room, source, forest):
     """The forest's text in rooms of several sizes, of which none is passed."""
     for size in {0, 1, len(forest) - 1, len(forest), len(forest) + 9}:
-        expect(run([caller(room), "text", str(size)], source), 0, forest[:size], b"%d 0 0 no refusal\n" % len(forest))
+        expect(run([caller(room), "text", str(size)], source), 0, forest[:size], f"{len(forest)} 0 0 {NO_CODE}\n".encode())
 
 
 @case
@@ -146,7 +148,7 @@ def the_examples_of_other_languages(room):
     expect(run([compiler(), INCLUDE, "-o", f"{room}/of_c_shared", f"{embed}/forest.c", f"-L{LIBRARIES}", "-Wl,-rpath," + LIBRARIES, "-lboruvka"]), 0, b"", b"")
     expect(run([f"{room}/of_c_shared"]), 0, SMALL_FOREST, b"")
     if shutil.which("c++"):
-        expect(run(["c++", "-x", "c++", "-pedantic", "-Wall", "-Werror", INCLUDE, "-o", f"{room}/of_cpp", f"{embed}/forest.c", "-x", "none", archive]), 0, b"", b"")
+        expect(run(["c++", "-std=c++20", "-x", "c++", "-pedantic", "-Wall", "-Werror", INCLUDE, "-o", f"{room}/of_cpp", f"{embed}/forest.c", "-x", "none", archive]), 0, b"", b"")
         expect(run([f"{room}/of_cpp"]), 0, SMALL_FOREST, b"")
     if shutil.which("rustc"):
         expect(run(["rustc", "--edition", "2024", "-D", "warnings", "-L", LIBRARIES, "-o", f"{room}/of_rust", f"{embed}/forest.rs"]), 0, b"", b"")
@@ -227,7 +229,7 @@ def both_kinds_of_answers_in_one_program(room):
             for number, order in enumerate([objects, objects[::-1]]):
                 made = f"{room}/{of}.{other}.{number}"
                 expect(run([other, "-o", made, *order, archive]), 0, b"", b"")
-                expect(run([made]), 0, b"thrown: 1 1 2, an end is no vertex\nexpected: 1 1 2, an end is no vertex\n", b"")
+                expect(run([made]), 0, b"thrown: 1 1 2, an endpoint isn't a vertex\nexpected: 1 1 2, an endpoint isn't a vertex\n", b"")
 
 
 @case
@@ -347,6 +349,48 @@ def each_refusal_has_its_code_in_the_header(room):
     with open(f"{ROOT}/include/boruvka.h", encoding="utf-8") as it:
         found = re.findall(r"BORUVKA_(\w+) = (-\d+)", it.read())
     expect((found, b"", b""), [(name, str(-place)) for place, (name, _) in enumerate(REFUSALS, 1)], b"", b"")
+
+
+@case
+def the_example_of_the_header(room):
+    """Its head shows a call; the links are those that it says, as is the count."""
+    with open(f"{ROOT}/include/boruvka.h", encoding="utf-8") as it:
+        head = it.read().split("#ifndef")[0]
+    code = "".join(re.findall(r"^ \*     (.*\n)", head, re.M))
+    told = re.search(r"The count is (\d), and the first two links are the forest: \{(.*?)\} and \{(.*?)\}", head).groups()
+    source = f"""#include <boruvka.h>
+#include <stdio.h>
+int main(void) {{
+{code}    printf("%d\\n", (int)count);
+    for (int i = 0; i < count; i++) printf("%d, %u, %u\\n", (int)links[i].weight, links[i].low, links[i].high);
+    return 0;
+}}
+"""
+    expect(run([compiler(), "-std=c99", "-Wall", "-Wextra", "-Werror", INCLUDE, "-o", f"{room}/head", "-x", "c", "-", "-x", "none", libraries()[0]], source.encode()), 0, b"", b"")
+    expect(run([f"{room}/head"]), 0, "".join(f"{it}\n" for it in told).encode(), b"")
+
+
+@case
+def what_the_header_itself_defines(room):
+    """Outputs that overlap inputs, and keys of doubles; also if a compiler takes every double for a number."""
+    made = f"{room}/inlines"
+    for of in filter(shutil.which, ("gcc", "clang")):
+        for more in (["-O0"], ["-O2", "-ffinite-math-only"], ["-O3", "-ffast-math"]):
+            words = [of, *more, "-Wall", "-Wextra", INCLUDE, "-o", made, f"{ROOT}/tests/cases/embedding.c", libraries()[0], "-lpthread"]
+            expect((run(words)[0], b"", b""), 0, b"", b"")
+            expect(run([made, "inlines"]), 0, b"", b"")
+
+
+@case
+def the_release_is_that_of_the_program(room):
+    """Of the header, of each library, and in the program's words."""
+    told = [int(it) for it in ran(["--version"])[1].decode().split()[1].split(".")]
+    number = 10000 * told[0] + 100 * told[1] + told[2]
+    with open(f"{ROOT}/include/boruvka.h", encoding="utf-8") as it:
+        expect((int(re.search(r"#define BORUVKA_RELEASE (\d+) ", it.read())[1]), b"", b""), number, b"", b"")
+    source = b"#include <boruvka.h>\n#include <stdio.h>\nint main(void) { return !printf(\"%u\\n\", boruvka_release()); }\n"
+    expect(run([compiler(), INCLUDE, "-o", f"{room}/release", "-x", "c", "-", "-x", "none", libraries()[0]], source), 0, b"", b"")
+    expect(run([f"{room}/release"]), 0, b"%d\n" % number, b"")
 
 
 @case

@@ -1,13 +1,14 @@
-/* The least memory that a call needs, beside what it takes from malloc. For each graph it writes a line
+/* The least memory that a call needs, compared with what it takes from malloc. For each graph it writes a line
  *
- *     SHAPE N M  LEAST PEAK  LEAST PEAK  LEAST PEAK
+ *     SHAPE N M  LEAST PEAK  LEAST PEAK  LEAST PEAK  LEAST PEAK  LEAST PEAK
  *
- * first of the call over links, then of the call over their text, then of the call over their forest for its merges. LEAST
- * is the size, in whole pages, of the least memory within which the call of libboruvka_within.a has its answer, PEAK how many
+ * of the calls over links, over their text, over their forest for its merges, over them in columns for the indices of the
+ * forest, and over the forest for its labels, in this order. LEAST is the size, in whole pages, of the least memory within which the call of libboruvka_within.a has its answer, PEAK how many
  * bytes the call of libboruvka.a had at once from malloc and realloc. Both calls have to find the same, and LEAST is no more
  * than include/boruvka.h calls enough.
  *
- *     least SHAPE N M    of this graph: grid (M counts for nothing), drawn, star, path, ring, pair, or late (N is past 300)
+ *     least SHAPE N M    of this graph: grid (M counts for nothing), drawn, star, path, ring, pair, after, or late (N is
+ *                        past 300)
  *
  * What a call takes, where blocks come one below the other, and only the last of them goes back:
  * - 16 bytes a link for the list. That of a text grows to twice its size where it lies: so it has up to 32.
@@ -22,8 +23,16 @@
  * Merges take blocks that stay until the end: 16 bytes a link for the list, 4 and 8 a vertex for parents and roots, and 12
  * for each link or each vertex, the fewer of the two.
  *
- * A_LINK, A_VERTEX, A_BYTE, MERGED_LINK, MERGED_VERTEX and MORE are the figures of include/boruvka.h. It is linked with
- * --wrap=malloc, --wrap=realloc and --wrap=free. */
+ * Indices take 24 bytes for each link of the forest and one a vertex once the forest is there. By then all of a list stays
+ * taken but for the numbers of later parts: 4 bytes a vertex are those of the first. `after` takes all of that: its first part
+ * has links between two vertices, and its second joins all others.
+ *
+ * Labels take 29 bytes a link and 4 a vertex as a list does, then 4 for each component and 4 a vertex for the labels. A forest
+ * has as many components as it has vertices more than links: so that is 25 bytes a link and 12 a vertex. Links that contain a
+ * cycle take 29 a link until it is found.
+ *
+ * A_LINK, A_VERTEX, A_BYTE, PLACED_LINK, PLACED_VERTEX, MERGED_LINK, MERGED_VERTEX and MORE are the figures of
+ * include/boruvka.h. It is linked with --wrap=malloc, --wrap=realloc and --wrap=free. */
 #include <boruvka.h>
 #include <inttypes.h>
 #include <stdio.h>
@@ -93,6 +102,9 @@ struct graph {
     size_t m, length, count;
     struct boruvka_link *links, *forest;
     char *text;
+    /* the links in columns */
+    uint32_t *low, *high;
+    int64_t *weight;
 };
 
 static void *block_of(size_t size) {
@@ -171,19 +183,34 @@ static void put(struct graph *graph, const char *shape) {
             link = (struct boruvka_link){0, from + 1, (from + 1) % graph->n + 1};
         } else if (!strcmp(shape, "pair")) {
             link = (struct boruvka_link){0, 1, 2 + (uint32_t)i % 2};
+        } else if (!strcmp(shape, "after")) {
+            const uint32_t path = i + graph->n > graph->m ? (uint32_t)(i + graph->n - graph->m) : 0;
+            link = path ? (struct boruvka_link){weight + (int64_t)graph->m, path, path + 1} : (struct boruvka_link){(int64_t)i, 1, 2};
         }
         graph->links[i] = link;
     }
 }
 
+static void put_columns(struct graph *graph) {
+    graph->low = block_of(graph->m * sizeof *graph->low);
+    graph->high = block_of(graph->m * sizeof *graph->high);
+    graph->weight = block_of(graph->m * sizeof *graph->weight);
+    for (size_t i = 0; i < graph->m; i++) {
+        graph->low[i] = graph->links[i].low;
+        graph->high[i] = graph->links[i].high;
+        graph->weight[i] = graph->links[i].weight;
+    }
+}
+
 static struct graph graph_of(const char *shape, uint32_t n, size_t m) {
-    struct graph graph = {n, m, 0, 0, block_of((m + 2 * (size_t)n) * sizeof *graph.links), 0, 0};
+    struct graph graph = {.n = n, .m = m, .links = block_of((m + 2 * (size_t)n) * sizeof *graph.links)};
     put(&graph, shape);
     graph.forest = block_of(graph.m * sizeof *graph.forest);
     memcpy(graph.forest, graph.links, graph.m * sizeof *graph.forest);
     const int64_t count = boruvka_forest(graph.n, graph.forest, graph.m);
     CHECK(count >= 0);
     graph.count = (size_t)count;
+    put_columns(&graph);
     graph.text = block_of(64 + 45 * graph.m);
     graph.length = (size_t)sprintf(graph.text, "p sp %" PRIu32 " %zu\n", graph.n, graph.m);
     for (size_t i = 0; i < graph.m; i++) {
@@ -215,6 +242,20 @@ static int64_t of_merges(const struct graph *graph, void *block, size_t size, vo
     memset(out, 0, graph->count * sizeof(struct boruvka_merge));
     return block == 0 ? boruvka_merges(graph->n, graph->forest, graph->count, out)
                       : boruvka_merges_within((struct boruvka_memory){block, size}, graph->n, graph->forest, graph->count, out, graph->count);
+}
+
+static int64_t of_places(const struct graph *graph, void *block, size_t size, void *out) {
+    const size_t m = graph->m;
+    memset(out, 0, graph->count * sizeof(uint32_t));
+    return block == 0 ? boruvka_places_in(graph->n, 1, graph->low, m, graph->high, m, graph->weight, m, out, graph->count)
+                      : boruvka_places_within((struct boruvka_memory){block, size}, graph->n, 1, graph->low, m, graph->high, m,
+                                              graph->weight, m, out, graph->count);
+}
+
+static int64_t of_labels(const struct graph *graph, void *block, size_t size, void *out) {
+    memset(out, 0, graph->n * sizeof(uint32_t));
+    return block == 0 ? boruvka_labels(graph->n, graph->forest, graph->count, out)
+                      : boruvka_labels_within((struct boruvka_memory){block, size}, graph->forest, graph->count, out, graph->n);
 }
 
 static void tell(const struct graph *graph, answer_of *answer, size_t out_size, size_t told) {
@@ -249,8 +290,13 @@ int main(int count, char **words) {
     tell(&graph, of_links, graph.m * sizeof *graph.links, A_LINK * graph.m + A_VERTEX * (size_t)graph.n + MORE);
     tell(&graph, of_text, graph.length + 64, A_BYTE * graph.length + A_VERTEX * (size_t)graph.n + MORE);
     tell(&graph, of_merges, graph.count * sizeof(struct boruvka_merge), MERGED_LINK * graph.count + MERGED_VERTEX * (size_t)graph.n + MORE);
+    tell(&graph, of_places, graph.count * sizeof(uint32_t), PLACED_LINK * graph.m + PLACED_VERTEX * (size_t)graph.n + MORE);
+    tell(&graph, of_labels, graph.n * sizeof(uint32_t), A_LINK * graph.count + A_VERTEX * (size_t)graph.n + MORE);
     printf("\n");
     give_back(graph.links);
+    give_back(graph.low);
+    give_back(graph.high);
+    give_back(graph.weight);
     give_back(graph.forest);
     give_back(graph.text);
     return 0;

@@ -205,7 +205,7 @@ def what_cases_would_skip_is_installed(room):
     for name in ("fish", "chromedriver"):
         os.remove(f"{room}/bin/{name}")
     it.put_program("bin/python", "exit 1")
-    lacking = ["fish", "chromium-driver", "python3-scipy", "python3-sklearn"]
+    lacking = ["fish", "chromium-driver", "python3-scipy", "python3-sklearn", "python3-pandas", "python3-psycopg2", "python3-gdal"]
     expect(it.run(), ([f"installs {' '.join(lacking)}"], ["update", *lacking]))
     # no network, a package that isn't known, and no apt-get: the gate runs all the same
     it.put_apt_get("exit 100")

@@ -28,7 +28,7 @@ from stamp import PAGE, PC, VERSION, text_of, version
 EMBED = f"{ROOT}/examples/embed"
 # the documents and examples that are installed
 TEXTS = [
-    "LICENSE", "README.md", "SECURITY.md", "CHANGELOG.md", "CONTRIBUTING.md", "docs/roads.svg",
+    "LICENSE", "README.md", "SECURITY.md", "CHANGELOG.md", "CONTRIBUTING.md", "docs/roads.svg", "docs/rounds.svg",
     *(f"docs/{it}.md" for it in ("ARCHITECTURE", "DECISIONS", "GR_FORMAT", "HEADLINE", "PERFORMANCE", "PROMISES", "PROTOCOL", "RECIPES")),
     "examples/small.gr", "examples/roads.gr", *(f"examples/embed/forest.{it}" for it in ("c", "cpp", "py", "rs")), "examples/embed/within.c",
 ]
@@ -101,11 +101,13 @@ def installed(bin_="bin", lib="lib", include="include", share="share", man="shar
 
 
 def expect_no_dead_links(root, doc, include):
-    """Each link of a document leads to a file, and those to the header and to other documents are there."""
+    """Each link of a document leads to a file, and those to the header and to other documents are there. Each picture is."""
     found = set()
     for path in (it for it in TEXTS if it.endswith(".md")):
         with open(f"{root}/{doc}{path}", encoding="utf-8") as it:
-            links = re.findall(r"\]\(([^()\s#]+)(?:#[^()\s]*)?\)", it.read())
+            text = it.read()
+        links = re.findall(r"\]\(([^()\s#]+)(?:#[^()\s]*)?\)", text)
+        is_so((path, re.findall(r"!\[[^]]*\]", text)), (path, re.findall(r"!\[[^]]*\]", text_of(path))))
         dead = [it for it in links if not os.path.exists(f"{root}/{doc}{os.path.dirname(path)}/{it}")]
         is_so((path, dead), (path, []))
         found |= {os.path.relpath(f"{root}/{doc}{os.path.dirname(path)}/{it}", root) for it in links}
@@ -145,6 +147,22 @@ def expect_example(room, include, lib):
     os.mkdir(f"{room}/lib")
     os.symlink(f"{lib}/libboruvka.so.{version()}", f"{room}/lib/libboruvka.so.{major()}")
     expect(run([f"{room}/shared"], env={**PLAIN, "LD_LIBRARY_PATH": f"{room}/lib"}), 0, SMALL_FOREST, b"")
+
+
+def expect_examples(room, doc, include, lib):
+    """The examples that are packed compile against the packed headers and libraries, and run."""
+    embed, flags_of = f"{doc}/examples/embed", ["-Wall", "-Wextra", "-Werror", f"-I{include}", "-o"]
+    os.makedirs(room)
+    for tool, words in [
+        (compiler(), [*flags_of, f"{room}/c", f"{embed}/forest.c", f"{lib}/libboruvka.a"]),
+        (compiler(), [*flags_of, f"{room}/within", f"{embed}/within.c", f"{lib}/libboruvka_within.a"]),
+        ("c++", ["-std=c++20", *flags_of, f"{room}/spans", f"{embed}/forest.cpp", f"{lib}/libboruvka.a"]),
+        ("rustc", ["--edition", "2024", "-D", "warnings", "-L", lib, "-o", f"{room}/rust", f"{embed}/forest.rs"]),
+    ]:
+        if shutil.which(tool):
+            expect(run([tool, *words]), 0, b"", b"")
+            expect(run([words[words.index("-o") + 1]], env=PLAIN), 0, SMALL_FOREST, b"")
+    expect(run([sys.executable, "-B", f"{embed}/forest.py", f"{lib}/libboruvka.so.{major()}"], env=PLAIN), 0, SMALL_FOREST, b"")
 
 
 # The version
@@ -587,7 +605,7 @@ def the_packed_folder_is_whole_and_runs(room):
     expect(run([f"{root}/bin/boruvka", "--plain", f"{root}/examples/small.gr"], env=PLAIN), 0, SMALL_FOREST, b"")
     expect(run([f"{root}/bin/boruvka"], SMALL_NET, env=PLAIN), 0, SMALL_FOREST, b"")
     expect_example(f"{room}/of_c", f"{root}/include", f"{root}/lib")
-    expect(run([sys.executable, "-B", f"{root}/examples/embed/forest.py", f"{root}/lib/libboruvka.so.{major()}"], env=PLAIN), 0, SMALL_FOREST, b"")
+    expect_examples(f"{room}/packed_examples", root, f"{root}/include", f"{root}/lib")
     if shutil.which("pkg-config"):
         is_so(flags(f"{root}/lib/pkgconfig"), [f"-I{root}/include", f"-L{root}/lib", "-lboruvka"])
 
@@ -627,6 +645,7 @@ def the_package_of_debian_is_whole_and_runs(room):
     expect_proved(f"{root}/usr/share/doc/boruvka/PROVED.txt")
     expect(run([f"{root}/usr/bin/boruvka", "--plain", f"{root}/usr/share/doc/boruvka/examples/small.gr"], env=PLAIN), 0, SMALL_FOREST, b"")
     expect_example(f"{room}/of_c", f"{root}/usr/include", f"{root}/{lib}")
+    expect_examples(f"{room}/packed_examples", f"{root}/usr/share/doc/boruvka", f"{root}/usr/include", f"{root}/{lib}")
     if shutil.which("pkg-config"):
         is_so(flags(f"{root}/{lib}/pkgconfig"), [f"-I{root}/usr/include", f"-L{root}/{lib}", "-lboruvka"])
 

@@ -1,10 +1,12 @@
 /* Calls within memory of many sizes: each answers the forest, or that memory lacks and changes nothing; and what is served
  * within some memory is served within more. Bytes beside the memory stay as they were. A wrong answer ends it by status 1.
  *
- *     within sizes     a small net, its text and its merges, within each size up to four pages, and within two blocks in turn
- *     within enough    lists, texts and merges of many shapes, within as many bytes as include/boruvka.h calls enough
+ *     within sizes     a small net, its text, its columns, and its forest's labels and merges, within each size up to four
+ *                      pages, and within two blocks by turns
+ *     within enough    lists, texts, columns, labels and merges of many shapes, within as many bytes as include/boruvka.h
+ *                      calls enough
  *
- * A_LINK, A_VERTEX, A_BYTE, MERGED_LINK, MERGED_VERTEX and MORE are its figures. */
+ * A_LINK, A_VERTEX, A_BYTE, PLACED_LINK, PLACED_VERTEX, MERGED_LINK, MERGED_VERTEX and MORE are its figures. */
 #include <boruvka.h>
 #include <inttypes.h>
 #include <stdio.h>
@@ -19,6 +21,9 @@ static const char given_text[] = "p sp 6 8\na 1 2 17\na 1 3 10\na 2 4 2\na 3 5 0
 static const char found_text[] = "p sp 6 5\na 2 5 0\na 3 4 0\na 3 5 0\na 4 6 3\na 1 3 10\n";
 static const struct boruvka_link net[LINKS] = {{17, 1, 2}, {10, 1, 3}, {2, 2, 4}, {0, 3, 5}, {0, 4, 3}, {3, 4, 6}, {0, 5, 2}, {20, 5, 6}};
 static const struct boruvka_link forest[FOUND] = {{0, 2, 5}, {0, 3, 4}, {0, 3, 5}, {3, 4, 6}, {10, 1, 3}};
+static const uint32_t tails[LINKS] = {1, 1, 2, 3, 4, 4, 5, 5}, heads[LINKS] = {2, 3, 4, 5, 3, 6, 2, 6};
+static const int64_t weights[LINKS] = {17, 10, 2, 0, 0, 3, 0, 20};
+static const uint32_t forest_places[FOUND] = {6, 4, 3, 5, 1};
 static const struct boruvka_merge joined[FOUND] = {{1, 4, 2}, {2, 3, 2}, {6, 7, 4}, {5, 8, 5}, {0, 9, 6}};
 
 static void wrong(const char *what, int line) {
@@ -57,7 +62,27 @@ static int has_merges(unsigned char *block, size_t size) {
     return answer == FOUND;
 }
 
-/* Refusals that come before memory is wanted come without any, too. */
+static int has_places(unsigned char *block, size_t size) {
+    static const uint32_t none[FOUND];
+    uint32_t places[FOUND] = {0};
+    const struct boruvka_memory memory = {block, size};
+    const int64_t answer = boruvka_places_within(memory, VERTICES, 1, tails, LINKS, heads, LINKS, weights, LINKS, places, FOUND);
+    CHECK(answer == FOUND || answer == BORUVKA_NO_MEMORY);
+    CHECK(!memcmp(places, answer == FOUND ? forest_places : none, sizeof places));
+    return answer == FOUND;
+}
+
+/* Of the forest's three lightest links. */
+static int has_labels(unsigned char *block, size_t size) {
+    static const uint32_t none[VERTICES], wanted[VERTICES] = {1, 2, 2, 2, 2, 6};
+    uint32_t label[VERTICES] = {0};
+    const int64_t answer = boruvka_labels_within((struct boruvka_memory){block, size}, forest, 3, label, VERTICES);
+    CHECK(answer == VERTICES || answer == BORUVKA_NO_MEMORY);
+    CHECK(!memcmp(label, answer == VERTICES ? wanted : none, sizeof label));
+    return answer == VERTICES;
+}
+
+/* Errors that come before memory is asked for come without any, too. */
 static void refusals_without_memory(unsigned char *block) {
     struct boruvka_link links[LINKS];
     memcpy(links, net, sizeof net);
@@ -72,39 +97,60 @@ static void refusals_without_memory(unsigned char *block) {
     CHECK(boruvka_merges_within(none, 2, loops, 2, merges, 2) == BORUVKA_BAD_END);
     CHECK(boruvka_merges_within(none, 3, loops, 2, merges, 2) == BORUVKA_CYCLE);
     CHECK(!memcmp(merges, joined, sizeof merges));
+    uint32_t places[FOUND] = {9, 9, 9, 9, 9};
+    CHECK(boruvka_places_within(none, BORUVKA_MAX_VERTICES + 1, 1, tails, 8, heads, 7, weights, 8, places, 5) == BORUVKA_LENGTHS_DIFFER);
+    CHECK(boruvka_places_within(none, BORUVKA_MAX_VERTICES + 1, 1, tails, 8, heads, 8, weights, 8, places, 5) == BORUVKA_TOO_MANY_VERTICES);
+    CHECK(boruvka_places_within(none, VERTICES, 2, tails, 8, heads, 8, weights, 8, places, 5) == BORUVKA_BAD_END);
+    CHECK(boruvka_labels_within(none, net, 8, places, 5) == BORUVKA_BAD_END);
+    CHECK(boruvka_labels_within(none, loops, 2, places, 3) == BORUVKA_CYCLE);
+    for (size_t i = 0; i < FOUND; i++) {
+        CHECK(places[i] == 9);
+    }
+    CHECK(boruvka_bad_link_within(VERTICES - 1, net, LINKS) == 5 && boruvka_bad_end_within(VERTICES - 1, 1, heads, LINKS) == 5);
+    CHECK(boruvka_release_within() == BORUVKA_RELEASE);
     struct boruvka_fault fault = {1, 1};
     CHECK(boruvka_forest_text_within(none, (const uint8_t *)"x\n", 2, block, 0, &fault) == BORUVKA_UNKNOWN_LINE && fault.line == 1);
 }
 
+/* The calls, each of which is served within some memory. */
+typedef int served(unsigned char *block, size_t size);
+
+enum { CALLS = 5 };
+static served *const calls[CALLS] = {has_forest, has_text, has_places, has_labels, has_merges};
+
 static void sizes(void) {
     static _Alignas(16) unsigned char pages[EDGE + 4 * PAGE + EDGE];
-    int had_forest = 0, had_text = 0, had_merges = 0;
+    int had[CALLS] = {0};
     refusals_without_memory(pages + EDGE);
     for (size_t size = 0; size <= 4 * PAGE; size += size < 3 * 16 || size % PAGE >= PAGE - 20 || size % PAGE < 20 ? 1 : 13) {
-        memset(pages, SIGN, sizeof pages);
-        const int has = has_forest(pages + EDGE, size), says = has_text(pages + EDGE, size), joins = has_merges(pages + EDGE, size);
-        for (size_t i = 0; i < EDGE; i++) {
-            CHECK(pages[i] == SIGN);
+        for (size_t call = 0; call < CALLS; call++) {
+            memset(pages, SIGN, sizeof pages);
+            const int has = calls[call](pages + EDGE, size);
+            for (size_t i = 0; i < EDGE; i++) {
+                CHECK(pages[i] == SIGN);
+            }
+            for (size_t i = EDGE + size; i < sizeof pages; i++) {
+                CHECK(pages[i] == SIGN);
+            }
+            CHECK(has >= had[call] || size < PAGE);
+            had[call] = has;
         }
-        for (size_t i = EDGE + size; i < sizeof pages; i++) {
-            CHECK(pages[i] == SIGN);
-        }
-        CHECK(has >= had_forest || size < PAGE);
-        CHECK(says >= had_text || size < PAGE);
-        CHECK(joins >= had_merges || size < PAGE);
-        had_forest = has;
-        had_text = says;
-        had_merges = joins;
     }
-    CHECK(had_forest && had_text && had_merges);
+    for (size_t call = 0; call < CALLS; call++) {
+        CHECK(had[call]);
+    }
 }
 
 /* After a call its memory is the caller's again: a later call within other memory doesn't read or write it. */
 static void given_back(void) {
     static _Alignas(16) unsigned char first[4 * PAGE], second[4 * PAGE];
-    CHECK(has_forest(first, sizeof first) && has_text(first, sizeof first) && has_merges(first, sizeof first));
+    for (size_t call = 0; call < CALLS; call++) {
+        CHECK(calls[call](first, sizeof first));
+    }
     memset(first, SIGN, sizeof first);
-    CHECK(has_forest(second, sizeof second) && has_text(second, sizeof second) && has_merges(second, sizeof second));
+    for (size_t call = 0; call < CALLS; call++) {
+        CHECK(calls[call](second, sizeof second));
+    }
     for (size_t i = 0; i < sizeof first; i++) {
         CHECK(first[i] == SIGN);
     }
@@ -157,6 +203,41 @@ static void enough_for_merges(uint32_t n, struct boruvka_link *links, size_t m, 
     free(merges);
 }
 
+/* The indices of the forest of these m links, as `count` places. */
+static void enough_for_places(uint32_t n, const struct boruvka_link *links, size_t m, size_t count) {
+    uint32_t *columns = calloc(2 * m + count + 1, sizeof *columns), *places = columns + 2 * m;
+    int64_t *w = calloc(m, sizeof *w);
+    CHECK(columns != 0 && w != 0);
+    for (size_t i = 0; i < m; i++) {
+        columns[i] = links[i].low;
+        columns[m + i] = links[i].high;
+        w[i] = links[i].weight;
+    }
+    const size_t size = PLACED_LINK * m + PLACED_VERTEX * (size_t)n + MORE;
+    unsigned char *block = block_of(size);
+    CHECK(boruvka_places_within((struct boruvka_memory){block, size}, n, 1, columns, m, columns + m, m, w, m, places, count) == (int64_t)count);
+    free(block);
+    free(columns);
+    free(w);
+}
+
+/* The labels by the forest of `count` of these m links, and the error of all m, which contain a cycle if there are more. */
+static void enough_for_labels(uint32_t n, const struct boruvka_link *links, size_t m, size_t count) {
+    uint32_t *label = calloc(n, sizeof *label);
+    CHECK(label != 0);
+    for (size_t k = count;; k = m) {
+        const size_t size = A_LINK * k + A_VERTEX * (size_t)n + MORE;
+        unsigned char *block = block_of(size);
+        const int64_t answer = boruvka_labels_within((struct boruvka_memory){block, size}, links, k, label, n);
+        CHECK(k == count ? answer == n : answer == BORUVKA_CYCLE);
+        free(block);
+        if (k == m) {
+            break;
+        }
+    }
+    free(label);
+}
+
 static void enough_for(enum shape shape, uint64_t seed, uint32_t n, size_t m) {
     struct boruvka_link *links = malloc(m * sizeof *links);
     char *text = malloc(64 + 45 * m);
@@ -168,9 +249,15 @@ static void enough_for(enum shape shape, uint64_t seed, uint32_t n, size_t m) {
     }
     const size_t of_links = A_LINK * m + A_VERTEX * (size_t)n + MORE, of_text = A_BYTE * length + A_VERTEX * (size_t)n + MORE;
     unsigned char *block = block_of(of_links > of_text ? of_links : of_text);
+    struct boruvka_link *given = malloc(m * sizeof *given);
+    CHECK(given != 0);
+    memcpy(given, links, m * sizeof *given);
     const int64_t count = boruvka_forest_within((struct boruvka_memory){block, of_links}, n, links, m);
     CHECK(count >= 0);
+    enough_for_places(n, given, m, (size_t)count);
+    enough_for_labels(n, links, m, (size_t)count);
     enough_for_merges(n, links, m, (size_t)count);
+    free(given);
     struct boruvka_fault fault;
     uint8_t none;
     CHECK(boruvka_forest_text_within((struct boruvka_memory){block, of_text}, (const uint8_t *)text, length, &none, 0, &fault) > 0);

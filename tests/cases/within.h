@@ -90,12 +90,64 @@ static inline int64_t merges_in_within(uint32_t n, const struct boruvka_link *li
     return answer;
 }
 
+static inline int64_t places_in_within(uint32_t n, uint32_t base, const uint32_t *u, size_t u_count, const uint32_t *v, size_t v_count,
+                                       const int64_t *w, size_t w_count, uint32_t *places, size_t room) {
+    void *before = calloc(room + 1, sizeof *places);
+    memcpy(before, places, room * sizeof *places);
+    int64_t answer = BORUVKA_NO_MEMORY;
+    for (size_t size = 100; answer == BORUVKA_NO_MEMORY && size < (size_t)1 << 36; size = size * 2 + 7) {
+        unsigned char *block = edged(size);
+        const struct boruvka_memory memory = {block + EDGE, size};
+        answer = boruvka_places_within(memory, n, base, u, u_count, v, v_count, w, w_count, places, room);
+        given_back(block, size);
+        if (answer == BORUVKA_NO_MEMORY) {
+            same(before, places, room * sizeof *places);
+        }
+    }
+    free(before);
+    return answer;
+}
+
+static inline int64_t places_within(uint32_t n, uint32_t base, const uint32_t *u, const uint32_t *v, const int64_t *w, size_t m,
+                                    uint32_t *places) {
+    const size_t most = n > 0 ? n - 1 : 0;
+    return places_in_within(n, base, u, m, v, m, w, m, places, m < most ? m : most);
+}
+
+static inline int64_t labels_in_within(const struct boruvka_link *links, size_t k, uint32_t *label, size_t n) {
+    const size_t kept = n * sizeof *label < compared ? n * sizeof *label : 0;
+    void *before = calloc(kept + 1, 1);
+    memcpy(before, label, kept);
+    int64_t answer = BORUVKA_NO_MEMORY;
+    for (size_t size = 100; answer == BORUVKA_NO_MEMORY && size < (size_t)1 << 36; size = size * 2 + 7) {
+        unsigned char *block = edged(size);
+        answer = boruvka_labels_within((struct boruvka_memory){block + EDGE, size}, links, k, label, n);
+        given_back(block, size);
+        if (answer == BORUVKA_NO_MEMORY) {
+            same(before, label, kept);
+        }
+    }
+    free(before);
+    return answer;
+}
+
+static inline int64_t labels_within(uint32_t n, const struct boruvka_link *links, size_t k, uint32_t *label) {
+    return labels_in_within(links, k, label, n);
+}
+
 static inline int64_t merges_within(uint32_t n, const struct boruvka_link *links, size_t k, struct boruvka_merge *merges) {
     return merges_in_within(n, links, k, merges, k);
 }
 
+#define boruvka_bad_end boruvka_bad_end_within
+#define boruvka_bad_link boruvka_bad_link_within
+#define boruvka_fault_text boruvka_fault_text_within
 #define boruvka_forest forest_within
 #define boruvka_forest_text forest_text_within
+#define boruvka_labels labels_within
+#define boruvka_labels_in labels_in_within
 #define boruvka_merges merges_within
 #define boruvka_merges_in merges_in_within
-#define boruvka_fault_text boruvka_fault_text_within
+#define boruvka_places places_within
+#define boruvka_places_in places_in_within
+#define boruvka_release boruvka_release_within

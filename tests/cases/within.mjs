@@ -8,7 +8,13 @@
 //     node --experimental-wasm-memory64 within.mjs MODULE merges       the same input, of links that close no cycle and
 //                                                                      don't descend: a line `first second size` for each,
 //                                                                      or the refusal's code
-//     node --experimental-wasm-memory64 within.mjs MODULE codes        each number from -21 to 3, and its text as a refusal's code
+//     node --experimental-wasm-memory64 within.mjs MODULE places       the same input as of `list`: a line for each link of the
+//                                                                      forest, the index of its first arc, or the error's code
+//     node --experimental-wasm-memory64 within.mjs MODULE labels       the same input, of links without a cycle: a line for each
+//                                                                      vertex, its label, or the error's code
+//     node --experimental-wasm-memory64 within.mjs MODULE bad          the same input: the index of the first bad link, that of
+//                                                                      the first bad head, and the release
+//     node --experimental-wasm-memory64 within.mjs MODULE codes        each number from -22 to 3, and its text as an error's code
 //
 // One instance makes all calls, the memory is doubled while it is too small, and a wrong byte behind it ends the script.
 import { readFileSync, writeSync } from "node:fs";
@@ -104,9 +110,51 @@ function merges(source) {
   writeSync(1, text);
 }
 
+// What a call writes as numbers of 32 bits: `room` of them at most, behind `end`, and no byte more.
+function numbers(end, room, call) {
+  const into = unit(end), behind = into + 4 * room;
+  reach(behind + 64);
+  new Uint8Array(exports.memory.buffer, into, 4 * room + 64).fill(SIGN);
+  const answer = within(unit(behind + 64), (memory) => call(memory, BigInt(into), BigInt(room)));
+  const from = answer < 0n ? into : into + 4 * Number(answer);
+  if (!new Uint8Array(exports.memory.buffer, from, behind + 64 - from).every((it) => it === SIGN)) throw new Error("a byte behind the numbers was written");
+  const found = answer < 0n ? [answer] : [...new Uint32Array(exports.memory.buffer, into, Number(answer))];
+  writeSync(1, found.map((it) => `${it}\n`).join(""));
+}
+
+// The links as three columns behind them; of no links they are at the address 0.
+function columns({ m }) {
+  const w = unit(links + 16 * m), u = unit(w + 8 * m), v = unit(u + 4 * m), end = v + 4 * m;
+  reach(end + 64);
+  const view = new DataView(exports.memory.buffer);
+  for (let i = 0; i < m; i++) {
+    view.setBigInt64(w + 8 * i, view.getBigInt64(links + 16 * i, true), true);
+    view.setUint32(u + 4 * i, view.getUint32(links + 16 * i + 8, true), true);
+    view.setUint32(v + 4 * i, view.getUint32(links + 16 * i + 12, true), true);
+  }
+  const [m64, ...starts] = [m, u, v, w].map((it) => BigInt(m && it));
+  return { end, passed: starts.flatMap((it) => [it, m64]), heads: [starts[1], m64] };
+}
+
+function places(source) {
+  const { n, m } = listed(source), { end, passed } = columns({ m });
+  numbers(end, Math.min(m, Math.max(n - 1, 0)), (memory, into, room) => exports.boruvka_places_within(memory, n, 1, ...passed, into, room));
+}
+
+function labels(source) {
+  const { n, m } = listed(source);
+  numbers(links + 16 * m, n, (memory, into, room) => exports.boruvka_labels_within(memory, BigInt(links), BigInt(m), into, room));
+}
+
+function bad(source) {
+  const { n, m } = listed(source), { heads } = columns({ m });
+  const found = [exports.boruvka_bad_link_within(n, BigInt(links), BigInt(m)), exports.boruvka_bad_end_within(n, 1, ...heads)];
+  writeSync(1, `${found.join(" ")} ${exports.boruvka_release_within()}\n`);
+}
+
 function codes() {
   reach(base + 32);
-  for (let code = -21n; code <= 3n; code++) {
+  for (let code = -22n; code <= 3n; code++) {
     const told = Number(exports.boruvka_fault_text_within(code, BigInt(base), 32n));
     writeSync(1, `${code} ${new TextDecoder().decode(new Uint8Array(exports.memory.buffer, base, told))}\n`);
   }
@@ -115,5 +163,8 @@ function codes() {
 const source = readFileSync(0);
 if (process.argv[3] === "text") text(source, Number(process.argv[4]));
 else if (process.argv[3] === "merges") merges(source);
+else if (process.argv[3] === "places") places(source);
+else if (process.argv[3] === "labels") labels(source);
+else if (process.argv[3] === "bad") bad(source);
 else if (process.argv[3] === "codes") codes();
 else list(source);

@@ -5,11 +5,12 @@ import re
 import shutil
 import subprocess
 
-from cases.embedding import ENVIRONMENT, FAULTY, INCLUDE, MINUTES, REFUSALS, TEXTS, compiler, libraries, listed, worked
+from cases.embedding import ENVIRONMENT, FAULTY, INCLUDE, MINUTES, NO_CODE, REFUSALS, TEXTS, compiler, libraries, listed, worked
 from cases.running import ROOT, SMALL_FOREST, SMALL_NET, Skipped, case, drawn_graph, expect, forest_text, ran, run
 
 BUILT = f"{ROOT}/crates/boruvka_within/out"
-NAMES = {"boruvka_fault_text_within", "boruvka_forest_text_within", "boruvka_forest_within", "boruvka_merges_within"}
+NAMES = {"boruvka_bad_end_within", "boruvka_bad_link_within", "boruvka_fault_text_within", "boruvka_forest_text_within", "boruvka_forest_within",
+         "boruvka_labels_within", "boruvka_merges_within", "boruvka_places_within", "boruvka_release_within"}
 CALLED = {"memcpy", "memmove", "memset"}
 
 
@@ -26,14 +27,28 @@ def module():
     return f"{BUILT}/boruvka.wasm"
 
 
-def enough():
-    """What include/boruvka.h calls enough, as words for a compiler."""
+# The calls of the table of include/boruvka.h, and what it counts for each.
+FIGURES = [
+    ("forest", "link", ("A_LINK", "A_VERTEX")), ("places", "arc", ("PLACED_LINK", "PLACED_VERTEX")), ("labels", "link", ("A_LINK", "A_VERTEX")),
+    ("merges", "link", ("MERGED_LINK", "MERGED_VERTEX")), ("forest_text", "byte of the text", ("A_BYTE", "A_VERTEX")),
+]
+
+
+def figures():
+    """What include/boruvka.h calls enough, by names."""
     with open(f"{ROOT}/include/boruvka.h", encoding="utf-8") as it:
         text = " ".join(it.read().replace("\n *", "\n").split())
-    shape = r"for a list, (\d+) bytes a link, (\d+) a vertex and (\d+) more; for a text, (\d+) times its length, \2 bytes a vertex and \3 more; "
-    shape += r"for merges, (\d+) bytes a link, (\d+) a vertex and \3 more"
-    names = ("A_LINK", "A_VERTEX", "MORE", "A_BYTE", "MERGED_LINK", "MERGED_VERTEX")
-    return [f"-D{name}={figure}" for name, figure in zip(names, re.search(shape, text).groups())]
+    found = {"MORE": int(re.search(r"These are enough, with (\d+) bytes more for each call", text)[1])}
+    for call, of, names in FIGURES:
+        told = re.search(rf"boruvka_{call}_within (\d+) bytes per {of} and (\d+) per vertex", text).groups()
+        for name, figure in zip(names, map(int, told)):
+            expect((found.setdefault(name, figure), b"", b""), figure, b"", b"")
+    return found
+
+
+def enough():
+    """The same, as words for a compiler."""
+    return [f"-D{name}={figure}" for name, figure in figures().items()]
 
 
 def caller(room):
@@ -61,7 +76,7 @@ def expect_answers(of):
         expect(ran(["--plain"], source), 0, forest, b"")
         expect(run(of("list"), listed(source)), 0, forest, b"")
         for size in {0, 1, len(forest) - 1, len(forest), len(forest) + 9}:
-            expect(run(of("text", str(size)), source), 0, forest[:size], b"%d 0 0 no refusal\n" % len(forest))
+            expect(run(of("text", str(size)), source), 0, forest[:size], f"{len(forest)} 0 0 {NO_CODE}\n".encode())
     for vertices, arcs, forest in worked():
         source = "".join(" ".join(map(str, it)) + "\n" for it in [(vertices, len(arcs)), *arcs]).encode()
         expect(run(of("list"), source), 0, forest_text(vertices, [(weight, low, high) for low, high, weight in forest]), b"")
@@ -95,7 +110,7 @@ def the_library_within_memory_calls_nothing_else(room):
 
 @case
 def the_example_without_malloc(room):
-    words = [compiler(), "-std=c11", "-pedantic", "-Wall", "-Wextra", "-Werror", INCLUDE, "-o", f"{room}/within", f"{ROOT}/examples/embed/within.c"]
+    words = [compiler(), "-std=c99", "-pedantic", "-Wall", "-Wextra", "-Werror", INCLUDE, "-o", f"{room}/within", f"{ROOT}/examples/embed/within.c"]
     expect(run([*words, library()]), 0, b"", b"")
     expect(run([f"{room}/within"]), 0, SMALL_FOREST, b"")
 
@@ -108,7 +123,7 @@ def each_size_of_memory(room):
 
 
 def least(room, shape, vertices, arcs):
-    """Of a graph's list, its text and its forest's merges: the least memory, and the peak by malloc; tests/cases/least.c, built once."""
+    """For each kind of call over a graph the least memory, and the peak by malloc; tests/cases/least.c, built once."""
     made = f"{room}/../least"
     if not os.path.exists(made):
         wrapped = [f"-Wl,--wrap={it}" for it in ("malloc", "realloc", "free")]
@@ -116,34 +131,42 @@ def least(room, shape, vertices, arcs):
         expect(run([*words, library(), libraries()[0]]), 0, b"", b"")
     status, output, errors = run([made, shape, str(vertices), str(arcs)], seconds=300)
     expect((status, b"", errors), 0, b"", b"")
-    figures = [int(it) for it in output.split()[3:]]
-    return list(zip(figures[::2], figures[1::2]))
+    found = [int(it) for it in output.split()[3:]]
+    return dict(zip(("list", "text", "merges", "places", "labels"), zip(found[::2], found[1::2]), strict=True))
 
 
 @case
 def the_least_memory_beside_that_of_malloc(room):
-    """It is at most half as much again, for these graphs of more than a few links."""
+    """It is at most half as much again, for these graphs of more than a few links; for indices 1.6 times as much."""
     for graph in [("grid", 10_000, 0), ("drawn", 1000, 20_000)]:
-        for found, peak in least(room, *graph):
-            if not 0 < 2 * found <= 3 * peak:
-                raise AssertionError(f"{graph}: {found} bytes are more than 1.5 times {peak}")
+        for call, (found, peak) in least(room, *graph).items():
+            most = 16 if call == "places" else 15
+            if not 0 < 10 * found <= most * peak:
+                raise AssertionError(f"{graph}, {call}: {found} bytes are more than {most / 10} times {peak}")
 
 
 @case
-def the_most_memory_that_lists_texts_and_merges_need(room):
+def the_most_memory_that_calls_need(room):
     """What the header calls enough is enough for these, and little more than they need."""
-    link, vertex, _, byte, merged_link, merged_vertex = (int(it.split("=")[1]) for it in enough())
+    of = figures()
     # (of more than 65,536 links a text keeps but some)
     for arcs in (1_025, 16_385, 32_769):
-        _, (of_text, _), _ = least(room, "pair", 9, arcs)
+        found, _ = least(room, "pair", 9, arcs)["text"]
         length = len(f"p sp 9 {arcs}\n") + 8 * arcs
-        expect((arcs, 10 * of_text >= 9 * byte * length, b""), arcs, True, b"")
-    for vertices, arcs, tenths in [(60_000, 80_004, 98), (30_000, 60_000, 97)]:
-        (of_list, _), _, _ = least(room, "late", vertices, arcs)
-        expect((arcs, 100 * of_list >= tenths * (link * arcs + vertex * vertices), b""), arcs, True, b"")
-    for shape, vertices, arcs in [("path", 60_000, 59_999), ("star", 60_000, 30_000), ("drawn", 60_000, 1)]:
-        *_, (of_merges, _) = least(room, shape, vertices, arcs)
-        expect((shape, 100 * of_merges >= 99 * (merged_link * arcs + merged_vertex * vertices), b""), shape, True, b"")
+        expect((arcs, 10 * found >= 9 * of["A_BYTE"] * length, b""), arcs, True, b"")
+    for call, shape, vertices, arcs, share, of_link, of_vertex in [
+        ("list", "late", 60_000, 80_004, 98, "A_LINK", "A_VERTEX"),
+        ("list", "late", 30_000, 60_000, 97, "A_LINK", "A_VERTEX"),
+        ("merges", "path", 60_000, 59_999, 99, "MERGED_LINK", "MERGED_VERTEX"),
+        ("merges", "star", 60_000, 30_000, 99, "MERGED_LINK", "MERGED_VERTEX"),
+        ("merges", "drawn", 60_000, 1, 99, "MERGED_LINK", "MERGED_VERTEX"),
+        ("places", "after", 60_000, 100_000, 99, "PLACED_LINK", "PLACED_VERTEX"),
+        ("places", "after", 100_000, 170_000, 99, "PLACED_LINK", "PLACED_VERTEX"),
+        ("labels", "path", 60_000, 59_999, 90, "A_LINK", "A_VERTEX"),
+        ("labels", "drawn", 60_000, 1, 99, "A_LINK", "A_VERTEX"),
+    ]:
+        found, _ = least(room, shape, vertices, arcs)[call]
+        expect((call, 100 * found >= share * (of[of_link] * arcs + of[of_vertex] * vertices), b""), call, True, b"")
     # just past, and just at, where a list and a text double; and numbers that part after part leaves apart
     for graph in [("ring", 23_740, 189_917), ("path", 16_386, 16_385), ("star", 16_384, 16_383), ("drawn", 90_000, 65_537), ("pair", 9, 16_384)]:
         least(room, *graph)
@@ -183,6 +206,41 @@ def threads_within_memory_of_their_own(room):
 def the_module_answers_as_the_program(room):
     words = by_node()
     expect_answers(lambda *more: [*words, *more])
+
+
+@case
+def the_module_tells_which_edges_were_chosen(room):
+    """The indices are those of the worked forests' links, whose first arcs are found here."""
+    words = [*by_node(), "places"]
+    for vertices, arcs, forest in worked():
+        links = [(min(u, v), max(u, v), weight) for u, v, weight in arcs]
+        source = "".join(" ".join(map(str, it)) + "\n" for it in [(vertices, len(arcs)), *arcs]).encode()
+        expect(run(words, source), 0, "".join(f"{links.index(it)}\n" for it in forest).encode(), b"")
+    for source, code in [(b"2 1\n1 3 0\n", -2), (b"67108865 1\n1 2 0\n", -3)]:
+        expect(run(words, source), 0, b"%d\n" % code, b"")
+
+
+@case
+def the_module_labels_components(room):
+    """The labels are the least vertices of components that are joined here as whole sets."""
+    words = [*by_node(), "labels"]
+    for vertices, _, forest in worked():
+        for part in (forest, forest[: len(forest) // 2]):
+            joined = {v: {v} for v in range(1, vertices + 1)}
+            for low, high, _ in part:
+                both = joined[low] | joined[high]
+                joined.update(dict.fromkeys(both, both))
+            source = "".join(" ".join(map(str, it)) + "\n" for it in [(vertices, len(part)), *part]).encode()
+            expect(run(words, source), 0, "".join(f"{min(joined[v])}\n" for v in range(1, vertices + 1)).encode(), b"")
+    for source, code in [(b"2 1\n1 3 0\n", -2), (b"2 2\n1 2 0\n2 1 1\n", -19)]:
+        expect(run(words, source), 0, b"%d\n" % code, b"")
+
+
+@case
+def the_module_finds_bad_ends(room):
+    words = [*by_node(), "bad"]
+    for source, found in [(b"3 2\n1 2 0\n2 3 0\n", b"2 2 10100\n"), (b"2 2\n1 2 0\n2 3 0\n", b"1 1 10100\n"), (b"0 1\n1 1 0\n", b"0 0 10100\n")]:
+        expect(run(words, source), 0, found, b"")
 
 
 @case

@@ -1,67 +1,18 @@
 //! Labels of vertices by the components that links in the caller's memory join.
-ghost use Rattle.std.specs.Prelude.{◌≡◌, ◌≤ℤ◌, pos, length, IfErr, OnOk, OnErr};
-ghost use Rattle.std.specs.Int.Signed.{◌<ℤ◌};
-ghost use Rattle.boruvka_c.specs.Labels.{AreLabelsBy, IsLabelsRefusal, RefusesLabels};
-ghost use Rattle.caller_forests.specs.Links.{AreRight};
+ghost use Rattle.caller_forests.specs.Labels.{AnswersLabels};
 
-use caller_forests::{CallRefusal, GivenLink, have_ends, have_no_loop, links_of};
-use limits::{MAX_ARCS, MAX_VERTICES};
-use link_key::components_of;
+use caller_forests::{GivenLink, put_labels};
 use std::alloc::Global;
 
-// Writes the labels of the vertices 1, 2, ..
-fn find_labels(alloc: Global, links: &[GivenLink], label: &mut [u32]) -> Result<(), CallRefusal>
-    ensures right { OnOk result (AreRight (length label.old) links.now) }
-    ensures labelled { OnOk result (AreLabelsBy (length label.old) links.now label.new) }
-    ensures refused { IfErr result (λ why. IsLabelsRefusal (length label.old) links.now why) }
-    ensures untouched { OnErr result (label.new ≡ label.old) }
-{
-    if label.len() > MAX_VERTICES as usize {
-        return Err(CallRefusal::TooManyVertices);
-    }
-    let n = label.len() as u32;
-    if links.len() > MAX_ARCS as usize {
-        return Err(CallRefusal::TooManyLinks);
-    }
-    if !have_ends(n, links) {
-        return Err(CallRefusal::BadEnd);
-    }
-    if !have_no_loop(links) {
-        return Err(CallRefusal::Cycle);
-    }
-    let Ok(list) = links_of(alloc, n, links) else {
-        return Err(CallRefusal::NoMemory);
-    };
-    let Ok(found) = components_of(alloc, n, list) else {
-        return Err(CallRefusal::NoMemory);
-    };
-    let Some(labels) = found else {
-        return Err(CallRefusal::Cycle);
-    };
-    label.copy_from_slice(labels.as_slice());
-    Ok(())
-}
-
 /// Writes the least vertex of each vertex's component under these links over `label`, that of vertex v at v - 1, and
-/// answers how many vertices these are, the length of `label`; or answers the code of a [`CallRefusal`], which is negative.
-/// The links may come in any order, with their ends in either order, but close no cycle, as a loop or a link that stands
-/// twice would.
+/// returns how many vertices these are, the length of `label`; or returns the code of a [`caller_forests::CallRefusal`],
+/// which is negative. The links may come in any order, with their ends in either order, but close no cycle, as a loop or a
+/// link that stands twice would.
 ///
-/// It takes the time and the memory of [`components_of`], two passes over the links and one over the labels beside, and 16
-/// bytes a link for the list that it works in.
+/// It takes the time and the memory of [`put_labels`].
 #[unsafe(no_mangle)]
 pub extern "C" fn boruvka_labels_in(alloc: Global, links: &[GivenLink], label: &mut [u32]) -> i64
-    ensures right { pos 0 ≤ℤ result → AreRight (length label.old) links.now }
-    ensures labelled { pos 0 ≤ℤ result → AreLabelsBy (length label.old) links.now label.new }
-    ensures counted { pos 0 ≤ℤ result → result ≡ pos (length label.old) }
-
-    // Too many vertices, or else too many links, or else an end that is no vertex, or else a loop, or else another cycle or want
-    // of memory.
-    ensures refused { result <ℤ pos 0 → RefusesLabels (length label.old) links.now result }
-    ensures untouched { result <ℤ pos 0 → label.new ≡ label.old }
+    ensures { AnswersLabels links.now label.old label.new result }
 {
-    match find_labels(alloc, links, label) {
-        Ok(()) => label.len() as i64,
-        Err(why) => why.code(),
-    }
+    put_labels(alloc, links, label)
 }

@@ -1,4 +1,9 @@
+pub mod Arcs
+pub mod Candidates
+pub mod Ends
+pub mod Labels
 pub mod Links
 pub mod Merges
+pub mod Places
 pub mod Refusals
 pub mod Texts

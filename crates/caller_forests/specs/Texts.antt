@@ -39,7 +39,7 @@ fault_of other = fault_at NoMemory 0
 -- this is the text of a refusal's code, or of a number that is none
 abbrev pub IsTextOfCode : ℤ → List ℕ → Type 0
 IsTextOfCode code text = ((why : CallRefusal) × (code ≡ code_of why) × (text ≡ refusal_text why))
-    ⊎ (((why : CallRefusal) → code ≢ code_of why) × (text ≡ codes "no refusal"))
+    ⊎ (((why : CallRefusal) → code ≢ code_of why) × (text ≡ codes "not an error code"))
 
 -- the code's text was put into the room with a 0 behind it, and the answer is how long the whole text is
 pub record GivesTextOf (code : ℤ) (before after : List ℕ) (answer : ℕ) : Type 0 where

@@ -47,13 +47,13 @@ fn text_of_number(code: i64) -> &'static [u8]
 {
     match CallRefusal::of_code(code) {
         Some(why) => why.text(),
-        None => b"no refusal",
+        None => b"not an error code",
     }
 }
 
 /// Puts the text of a refusal's code into the caller's room, as `snprintf` does: a 0 ends it, and what doesn't fit before
 /// the 0 is left out. An empty room stays as it is. The answer is how many bytes the whole text has, without the 0. A
-/// number that is no such code has the text `no refusal`. It takes no memory.
+/// number that is no such code has the text `not an error code`. It takes no memory.
 pub fn put_fault_text(kind: i64, into: &mut [u8]) -> usize
     ensures { GivesTextOf kind into.old into.new result }
 {

@@ -44,7 +44,7 @@ impl GivenLink {
 }
 
 // Whether both ends are vertices of such a graph.
-fn has_ends(n: u32, link: &GivenLink) -> bool
+pub(crate) fn has_ends(n: u32, link: &GivenLink) -> bool
     ensures { IsTrue result ↔ HasEnds n (arc_of link.now) }
 {
     1 <= link.low && link.low <= n && 1 <= link.high && link.high <= n

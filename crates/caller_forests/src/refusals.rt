@@ -28,6 +28,9 @@ pub enum CallRefusal {
     Cycle,
     /// A link weighs less than the one before it.
     Descending,
+    /// An output and an input lie in the same memory. No call here says so: a slice that is written overlaps no other. It
+    /// is what the inline calls of `include/boruvka.h` return.
+    Overlap,
 }
 
 impl CallRefusal {
@@ -38,10 +41,10 @@ impl CallRefusal {
     {
         match self {
             CallRefusal::NoMemory => (-1, b"no memory"),
-            CallRefusal::BadEnd => (-2, b"an end is no vertex"),
+            CallRefusal::BadEnd => (-2, b"an endpoint isn't a vertex"),
             CallRefusal::TooManyVertices => (-3, b"too many vertices"),
             CallRefusal::TooManyLinks => (-4, b"too many links"),
-            CallRefusal::TooLong => (-5, b"file is too long"),
+            CallRefusal::TooLong => (-5, b"the text is too long"),
             CallRefusal::Line(GrKind::UnknownLine) => (-6, b"UnknownLine"),
             CallRefusal::Line(GrKind::NoProblemYet) => (-7, b"NoProblemYet"),
             CallRefusal::Line(GrKind::SecondProblem) => (-8, b"SecondProblem"),
@@ -53,10 +56,11 @@ impl CallRefusal {
             CallRefusal::Line(GrKind::TooManyArcs) => (-14, b"TooManyArcs"),
             CallRefusal::Line(GrKind::MissingProblem) => (-15, b"MissingProblem"),
             CallRefusal::Line(GrKind::MissingArcs) => (-16, b"MissingArcs"),
-            CallRefusal::LengthsDiffer => (-17, b"lengths differ"),
-            CallRefusal::TooFewPlaces => (-18, b"too few places"),
-            CallRefusal::Cycle => (-19, b"a cycle"),
-            CallRefusal::Descending => (-20, b"links descend"),
+            CallRefusal::LengthsDiffer => (-17, b"array lengths differ"),
+            CallRefusal::TooFewPlaces => (-18, b"the output array is too small"),
+            CallRefusal::Cycle => (-19, b"links contain a cycle"),
+            CallRefusal::Descending => (-20, b"links aren't sorted by weight"),
+            CallRefusal::Overlap => (-21, b"an output overlaps an input"),
         }
     }
 
@@ -99,6 +103,7 @@ impl CallRefusal {
             -18 => CallRefusal::TooFewPlaces,
             -19 => CallRefusal::Cycle,
             -20 => CallRefusal::Descending,
+            -21 => CallRefusal::Overlap,
             _ => return None,
         })
     }

@@ -1,8 +1,11 @@
 mod codes;
+mod ends;
 mod forests;
 mod given;
 mod heaps;
+mod labels;
 mod merges;
+mod places;
 mod regions;
 mod same;
 mod texts;

@@ -5,12 +5,12 @@ use gr_text::GrKind;
 use std::alloc::Global;
 use std::process::Abort;
 
-const CODES: [(CallRefusal, i64, &[u8]); 20] = [
+const CODES: [(CallRefusal, i64, &[u8]); 21] = [
     (CallRefusal::NoMemory, -1, b"no memory"),
-    (CallRefusal::BadEnd, -2, b"an end is no vertex"),
+    (CallRefusal::BadEnd, -2, b"an endpoint isn't a vertex"),
     (CallRefusal::TooManyVertices, -3, b"too many vertices"),
     (CallRefusal::TooManyLinks, -4, b"too many links"),
-    (CallRefusal::TooLong, -5, b"file is too long"),
+    (CallRefusal::TooLong, -5, b"the text is too long"),
     (CallRefusal::Line(GrKind::UnknownLine), -6, b"UnknownLine"),
     (CallRefusal::Line(GrKind::NoProblemYet), -7, b"NoProblemYet"),
     (
@@ -38,10 +38,19 @@ const CODES: [(CallRefusal, i64, &[u8]); 20] = [
         b"MissingProblem",
     ),
     (CallRefusal::Line(GrKind::MissingArcs), -16, b"MissingArcs"),
-    (CallRefusal::LengthsDiffer, -17, b"lengths differ"),
-    (CallRefusal::TooFewPlaces, -18, b"too few places"),
-    (CallRefusal::Cycle, -19, b"a cycle"),
-    (CallRefusal::Descending, -20, b"links descend"),
+    (CallRefusal::LengthsDiffer, -17, b"array lengths differ"),
+    (
+        CallRefusal::TooFewPlaces,
+        -18,
+        b"the output array is too small",
+    ),
+    (CallRefusal::Cycle, -19, b"links contain a cycle"),
+    (
+        CallRefusal::Descending,
+        -20,
+        b"links aren't sorted by weight",
+    ),
+    (CallRefusal::Overlap, -21, b"an output overlaps an input"),
 ];
 
 // What is in a room of so many bytes, of `~` before, once the text of this code was put there.
@@ -77,26 +86,25 @@ fn codes_and_texts(rt: HostRuntime) {
 
 #[test]
 fn numbers_that_are_no_codes(rt: HostRuntime) {
-    for code in [0, 1, -21, i64::MIN, i64::MAX] {
-        expect_room(&rt, rt.alloc(), code, 12, 10, b"no refusal\0~");
+    for code in [0, 1, -22, i64::MIN, i64::MAX] {
+        expect_room(&rt, rt.alloc(), code, 19, 17, b"not an error code\0~");
     }
 }
 
-// `a cycle` has 7 bytes, and a 0 ends it.
+// `BadArc` has 6 bytes, and a 0 ends it.
 #[test]
 fn small_rooms(rt: HostRuntime) {
-    let rooms: [&[u8]; 9] = [
+    let rooms: [&[u8]; 8] = [
         b"",
         b"\0",
-        b"a\0",
-        b"a \0",
-        b"a c\0",
-        b"a cy\0",
-        b"a cyc\0",
-        b"a cycl\0",
-        b"a cycle\0",
+        b"B\0",
+        b"Ba\0",
+        b"Bad\0",
+        b"BadA\0",
+        b"BadAr\0",
+        b"BadArc\0",
     ];
     for wanted in rooms {
-        expect_room(&rt, rt.alloc(), -19, wanted.len(), 7, wanted);
+        expect_room(&rt, rt.alloc(), -11, wanted.len(), 6, wanted);
     }
 }

@@ -1,3 +1,0 @@
-mod Columns
-mod LeastPlaces
-mod FirstPlaces

@@ -1,7 +1,0 @@
-use Rattle.std.proofs.Common.{ℕ, ◌<◌, get_or}
-use Rattle.links.specs.declared.links.Link.{Link}
-use Rattle.boruvka_c.specs.Candidates.{IsMarked}
-use Rattle.boruvka_c.proofs.candidates.mark.Given as goal
-
-abbrev pub invariant-loop-i : goal.invariant-loop-i
-invariant-loop-i l = (k : ℕ) (d : Link) → k < l.i → IsMarked l.marks (get_or l.links k d)

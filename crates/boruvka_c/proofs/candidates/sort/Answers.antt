@@ -1,8 +1,0 @@
-use Rattle.std.proofs.Common.{rules}
-use Rattle.std.proofs.lemmas.List.Sorted.{answers_always}
-use Rattle.links.specs.WideKey.{wide_key}
-use Rattle.boruvka_c.specs.declared.candidates.Candidate.{Candidate}
-use Rattle.boruvka_c.proofs.candidates.sort.Goals as goal
-
-pub returns-clause-ordered : goal.returns-clause-ordered
-returns-clause-ordered c = c.sort_unstable_by_key.ensures.sorted (λ (x : Candidate). wide_key x.link) (answers_always _ _ _ (λ f a r h called. search rules))
