@@ -188,7 +188,7 @@ def inputs_of_more_than_4_GiB(_room):
 
 
 @case
-def reads_of_48_KiB_and_one_write_for_each_8_KiB(room):
+def reads_of_64_KiB_and_one_write_for_each_8_KiB(room):
     file, text = drawn_graph(18, 20_000, 40_000)
     name = written(f"{room}/net.gr", file)
     reads = -(-len(file) // READ_ROOM) + 1
