@@ -39,7 +39,7 @@ BASH_COMPLETIONS = $(call quoted,$(DESTDIR)$(BASHDIR))
 ZSH_COMPLETIONS = $(call quoted,$(DESTDIR)$(ZSHDIR))
 FISH_COMPLETIONS = $(call quoted,$(DESTDIR)$(FISHDIR))
 
-.PHONY: help try run lib wasm page test web-test wrong soak built install install-program install-libraries install-page install-documents uninstall dist may-pack bench clean
+.PHONY: help try run lib wasm page postgres test web-test wrong soak built install install-program install-libraries install-page install-documents uninstall dist may-pack bench clean
 
 # Each of them goes side by side by itself, as far as the machine holds.
 .NOTPARALLEL:
@@ -50,6 +50,8 @@ help:
 	@echo 'make lib        proves and builds libboruvka.a, libboruvka.so and libboruvka_within.a, beside it; needs a C compiler and binutils'
 	@echo 'make wasm       proves and builds the WebAssembly module boruvka.wasm, beside libboruvka_within.a'
 	@echo 'make page       packs the page of web/ with the module into dist/boruvka.html, which a browser opens'
+	@echo 'make postgres   builds the extension of postgres/ for PostgreSQL; needs the headers of its server and a C compiler;'
+	@echo '                `make -C postgres installcheck` tests it on a server of its own, `make -C postgres install` installs it'
 	@echo 'make test       the gate: all proofs, the wrong bodies of must-fail/, the tests, the program whole'
 	@echo 'make web-test   tries the page; needs Chromium, its driver, Node and the module'
 	@echo 'make wrong      tries the wrong bodies of wrong-bodies/, many at a time; SINCE=origin/main those of crates changed since'
@@ -77,6 +79,9 @@ wasm: $(WASM)
 
 page: $(WASM)
 	@python3 tools/page.py $(WASM) dist/boruvka.html
+
+postgres: $(LIBRARY).a
+	@$(MAKE) -s -C postgres
 
 test:
 	@python3 tests/gate.py
