@@ -31,8 +31,8 @@ static Datum put_members(FunctionCallInfo fcinfo, const Graph *graph, size_t n_e
     }
     for (uint32 i = 0; more(i, graph->n_vertices); i++) least[i] = graph->ids[i];
     for (uint32 i = 0; more(i, graph->n_vertices); i++)
-        least[batch->component[i]] = Min(least[batch->component[i]], graph->ids[i]);
-    for (uint32 i = 0; more(i, graph->n_vertices); i++) members[i] = (Edge) {0, least[batch->component[i]], i, i};
+        least[batch_find(batch, i)] = Min(least[batch_find(batch, i)], graph->ids[i]);
+    for (uint32 i = 0; more(i, graph->n_vertices); i++) members[i] = (Edge) {0, least[batch_find(batch, i)], i, i};
     sort_edges(members, graph->n_vertices, graph->ids);
     for (uint32 i = 0; i < graph->n_vertices; i++)
         put_row(fcinfo, (Datum[]) {Int64GetDatum((int64) i + 1), Int64GetDatum(members[i].key),
@@ -82,7 +82,7 @@ Datum boruvka_clusters(PG_FUNCTION_ARGS) {
 }
 
 /* Put (seq, cluster, joined, edge, height, size) for each edge of a batch: the cluster that keeps its name, and the other. */
-static void put_merges(FunctionCallInfo fcinfo, const Graph *graph, const Batch *batch, size_t start, Cluster *clusters) {
+static void put_merges(FunctionCallInfo fcinfo, const Graph *graph, Batch *batch, size_t start, Cluster *clusters) {
     const Edge *edges = graph->edges + start;
     uint32 count = Min(graph->n_edges - start, BATCH_EDGES);
     struct boruvka_merge *merges = allocate(count, sizeof(struct boruvka_merge));
@@ -97,7 +97,7 @@ static void put_merges(FunctionCallInfo fcinfo, const Graph *graph, const Batch 
         put_row(fcinfo, (Datum[]) {Int64GetDatum((int64) start + i + 1), Int64GetDatum(both.name),
                                    Int64GetDatum(Max(a.name, b.name)), Int64GetDatum(edges[i].id),
                                    Float8GetDatum(cost_of(graph, &edges[i])), Int64GetDatum(both.size)});
-        local[batch->n_names + i] = clusters[batch->component[edges[i].low]] = both;
+        local[batch->n_names + i] = clusters[batch_find(batch, edges[i].low)] = both;
     }
     pfree(merges);
     pfree(local);

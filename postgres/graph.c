@@ -60,7 +60,8 @@ bool graph_has_vertex(const Graph *graph, int64 vertex, uint32 *index) {
     return *index != PG_UINT32_MAX;
 }
 
-static void double_vertices(Graph *graph) {
+/* Makes room for as many vertices again, and returns the slot of a new one. */
+static uint32 *double_vertices(Graph *graph, int64 vertex) {
     size_t size = 2 * graph->n_slots * sizeof(uint32);
 
     graph->ids = repalloc_huge(graph->ids, graph->n_slots * sizeof(int64));
@@ -68,20 +69,21 @@ static void double_vertices(Graph *graph) {
     graph->slots = MemoryContextAllocExtended(graph->context, size, MCXT_ALLOC_HUGE | MCXT_ALLOC_ZERO);
     graph->n_slots *= 2;
     for (uint32 i = 0; more(i, graph->n_vertices); i++) *find_slot(graph, graph->ids[i]) = i + 1;
+    return find_slot(graph, vertex);
 }
 
 /* The index of a vertex of an edge: n_vertices so far, if it is new. */
 uint32 graph_add_vertex(Graph *graph, int64 vertex, int64 edge) {
-    uint32 index;
+    uint32 *slot = find_slot(graph, vertex);
 
-    if (graph_has_vertex(graph, vertex, &index)) return index;
+    if (*slot != 0) return *slot - 1;
     if (graph->n_vertices == MAX_VERTICES)
         ereport(ERROR, errcode(ERRCODE_PROGRAM_LIMIT_EXCEEDED),
                 errmsg("edge " INT64_FORMAT " brings more than %d vertices", edge, MAX_VERTICES),
                 errhint("Take fewer edges at once, for example those of one region."));
-    if (graph->n_vertices == graph->n_slots / 2) double_vertices(graph);
+    if (graph->n_vertices == graph->n_slots / 2) slot = double_vertices(graph, vertex);
     graph->ids[graph->n_vertices++] = vertex;
-    return (*find_slot(graph, vertex) = graph->n_vertices) - 1;
+    return (*slot = graph->n_vertices) - 1;
 }
 
 /* A loop is in no forest: it only brings its vertex. A full buffer keeps its forest alone, and grows if that is most of it. */
@@ -97,6 +99,22 @@ void graph_add_edge(Graph *graph, int64 id, int64 source, int64 target, int64 ke
     graph->edges[graph->n_edges++] = (Edge) {id, key, low, high};
 }
 
+/* Put the new edges in order, and merge them from the end on with the forest. */
+static void merge_forest(Graph *graph) {
+    size_t n_new = graph->n_edges - graph->n_forest, at = graph->n_edges, old = graph->n_forest;
+    Edge *new = allocate(n_new, sizeof(Edge));
+
+    sort_edges(graph->edges + old, n_new, graph->ids);
+    memcpy(new, graph->edges + old, n_new * sizeof(Edge));
+    while (n_new > 0) {
+        if (old > 0 && compare_edges(&graph->edges[old - 1], &new[n_new - 1], graph->ids) > 0)
+            graph->edges[--at] = graph->edges[--old];
+        else
+            graph->edges[--at] = new[--n_new];
+    }
+    pfree(new);
+}
+
 /* Keep the edges of the forest alone, in their order. The library gets batches of ascending edges, each between the
  * components that lighter edges left. */
 void graph_keep_forest(Graph *graph) {
@@ -106,7 +124,7 @@ void graph_keep_forest(Graph *graph) {
     size_t kept = 0;
 
     if (graph->n_forest == graph->n_edges) return;
-    sort_edges(graph->edges, graph->n_edges, graph->ids);
+    merge_forest(graph);
     scratch = AllocSetContextCreate(CurrentMemoryContext, "boruvka batches", ALLOCSET_SMALL_SIZES);
     caller = MemoryContextSwitchTo(scratch);
     batch = batch_create(graph);
@@ -127,30 +145,29 @@ Batch *batch_create(const Graph *graph) {
     size_t most_edges = Min(graph->n_edges, BATCH_EDGES), most_names = Min(graph->n_vertices, 2 * most_edges);
     Batch *batch = palloc0(sizeof(Batch));
 
-    batch->component = allocate(graph->n_vertices, sizeof(uint32));
+    batch->parent = allocate(graph->n_vertices, sizeof(uint32));
     batch->number = allocate(graph->n_vertices, sizeof(uint32));
     batch->names = allocate(most_names, sizeof(uint32));
     batch->labels = allocate(most_names, sizeof(uint32));
     batch->links = allocate(most_edges, sizeof(struct boruvka_link));
-    batch->n_vertices = graph->n_vertices;
-    for (uint32 i = 0; more(i, batch->n_vertices); i++) batch->component[i] = i;
+    for (uint32 i = 0; more(i, graph->n_vertices); i++) batch->parent[i] = i;
     return batch;
 }
 
-static inline bool has_number(const Batch *batch, uint32 component) {
-    uint32 number = batch->number[component];
-
-    return number < batch->n_names && batch->names[number] == component;
+/* The vertex that stands for a vertex's component. The way there gets shorter. */
+uint32 batch_find(Batch *batch, uint32 vertex) {
+    while (batch->parent[vertex] != vertex) vertex = batch->parent[vertex] = batch->parent[batch->parent[vertex]];
+    return vertex;
 }
 
 static uint32 number_of(Batch *batch, uint32 vertex) {
-    uint32 component = batch->component[vertex];
+    uint32 component = batch_find(batch, vertex), number = batch->number[component];
 
-    if (!has_number(batch, component)) {
-        batch->names[batch->n_names] = component;
-        batch->number[component] = batch->n_names++;
+    if (number >= batch->n_names || batch->names[number] != component) {
+        number = batch->number[component] = batch->n_names++;
+        batch->names[number] = component;
     }
-    return batch->number[component] + 1;
+    return number + 1;
 }
 
 /* Begin a batch with the first of these edges, which ascend, and return how many it has. */
@@ -166,9 +183,7 @@ uint32 batch_begin(Batch *batch, const Edge *edges, size_t left) {
 /* Join the components that the first links of the batch connect; these close no cycle. */
 void batch_join(Batch *batch, uint32 count) {
     checked(boruvka_labels(batch->n_names, batch->links, count, batch->labels));
-    for (uint32 i = 0; more(i, batch->n_vertices); i++)
-        if (has_number(batch, batch->component[i]))
-            batch->component[i] = batch->names[batch->labels[batch->number[batch->component[i]]] - 1];
+    for (uint32 i = 0; i < batch->n_names; i++) batch->parent[batch->names[i]] = batch->names[batch->labels[i] - 1];
 }
 
 /* What the library returned, if it isn't an error. */

@@ -10,9 +10,9 @@
 #include "fmgr.h"
 #include "miscadmin.h"
 
-/* The most edges of one call of the library, which takes about 30 ms and can't be canceled. Tests build with smaller limits. */
+/* The most edges of one call of the library, which takes about 10 ms and can't be canceled. Tests build with smaller limits. */
 #ifndef BATCH_EDGES
-#define BATCH_EDGES 262144
+#define BATCH_EDGES 65536
 #endif
 #ifndef MAX_VERTICES
 #define MAX_VERTICES BORUVKA_MAX_VERTICES
@@ -42,9 +42,9 @@ typedef struct Graph {
 
 /* The components that lighter edges left, and a batch of edges between them. */
 typedef struct Batch {
-    uint32 *component; /* of each vertex: a vertex that stands for all of its component */
-    uint32 *number;    /* of each component within the batch, if names[number] is the component */
-    uint32 *names, n_names, *labels, n_vertices;
+    uint32 *parent; /* of each vertex: another one of its component, or itself if it stands for the component */
+    uint32 *number; /* of each component within the batch, if names[number] is the component */
+    uint32 *names, n_names, *labels;
     struct boruvka_link *links; /* between numbers, which begin at 1; their weights are positions */
 } Batch;
 
@@ -64,6 +64,7 @@ extern void sort_edges(Edge *edges, size_t count, const int64 *ids);
 extern void graph_keep_forest(Graph *graph);
 extern Batch *batch_create(const Graph *graph);
 extern uint32 batch_begin(Batch *batch, const Edge *edges, size_t left);
+extern uint32 batch_find(Batch *batch, uint32 vertex);
 extern void batch_join(Batch *batch, uint32 count);
 extern int64 checked(int64 answer);
 
