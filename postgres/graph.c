@@ -104,14 +104,11 @@ static void merge_forest(Graph *graph) {
     size_t n_new = graph->n_edges - graph->n_forest, at = graph->n_edges, old = graph->n_forest;
     Edge *new = allocate(n_new, sizeof(Edge));
 
-    sort_edges(graph->edges + old, n_new, graph->ids);
-    memcpy(new, graph->edges + old, n_new * sizeof(Edge));
-    while (n_new > 0) {
-        if (old > 0 && compare_edges(&graph->edges[old - 1], &new[n_new - 1], graph->ids) > 0)
-            graph->edges[--at] = graph->edges[--old];
-        else
-            graph->edges[--at] = new[--n_new];
-    }
+    for (size_t i = 0; more(i, n_new); i++) new[i] = graph->edges[old + i];
+    sort_edges(new, n_new, graph->ids);
+    while (n_new > 0 && more(at, SIZE_MAX))
+        graph->edges[--at] = old > 0 && compare_edges(&graph->edges[old - 1], &new[n_new - 1], graph->ids) > 0
+                                 ? graph->edges[--old] : new[--n_new];
     pfree(new);
 }
 

@@ -42,9 +42,10 @@ static void put_visit(FunctionCallInfo fcinfo, Walk *walk, const Visit *here) {
     const Graph *graph = walk->graph;
     const Edge *edge = here->edge == NO_EDGE ? NULL : &graph->edges[here->edge];
 
-    put_row(fcinfo, (Datum[]) {Int64GetDatum(++walk->seq), Int64GetDatum(here->depth), Int64GetDatum(graph->ids[walk->queue->vertex]),
-                               Int64GetDatum(graph->ids[here->vertex]), Int64GetDatum(edge ? edge->id : -1),
-                               Float8GetDatum(edge ? cost_of(graph, edge) : 0), Float8GetDatum(here->sum)});
+    put_row(fcinfo, (Datum[]) {Int64GetDatum(++walk->seq), Int64GetDatum(here->depth),
+                               Int64GetDatum(graph->ids[walk->queue->vertex]), Int64GetDatum(graph->ids[here->vertex]),
+                               Int64GetDatum(edge ? edge->id : -1), Float8GetDatum(edge ? cost_of(graph, edge) : 0),
+                               Float8GetDatum(here->sum)});
 }
 
 static void put_tree(FunctionCallInfo fcinfo, Walk *walk, uint32 root) {

@@ -21,6 +21,7 @@ from installcheck import built
 from server import Server
 
 TEN_MILLION = 10_000_000
+FRACTIONS = [0.2, 0.35, 0.5, 0.65, 0.8, 0.9]  # of the time that a call takes without a timeout
 SHAPES = {
     "sparse": "SELECT i AS id, (i * 7919) % 5000011 AS source, (i * 104729 + i / 3) % 5000011 AS target, ((i * 2654435761) % 1000003)::float8 AS cost FROM generate_series(1::bigint, {}) i",
     "dense": "SELECT i AS id, (i * 7919) % 30011 AS source, (i * 104729 + i / 3) % 30011 AS target, ((i * 2654435761) % 1000003)::float8 AS cost FROM generate_series(1::bigint, {}) i",
@@ -33,7 +34,7 @@ def timeouts_of_ten_million_edges(room):
     with Server(settings=["shared_buffers=256MB", "max_wal_size=8GB"]) as server:
         for name, query in SHAPES.items():
             server.expect(f"CREATE UNLOGGED TABLE strip_{TEN_MILLION} AS {query.format(TEN_MILLION)}", seconds=3600)
-            worst = trouble.expect_timeouts(server, TEN_MILLION, [it / 20 for it in range(1, 20)], trouble.LATE + 0.1)
+            worst = trouble.expect_timeouts(server, TEN_MILLION, FRACTIONS, trouble.LATE + 0.1)
             print(f"stress: {name}: the latest end in seconds after the timeout: {worst}", flush=True)
             server.expect(f"DROP TABLE strip_{TEN_MILLION}")
 

@@ -5,7 +5,7 @@ import signal
 import subprocess
 import time
 
-EDGES = 200_000
+EDGES = 100_000
 LATE = 0.2  # seconds after which a cancel has to take effect
 STRIP = "SELECT i AS id, i AS source, i + 1 + (i % 3) AS target, (i * 7919) % 1000003 AS cost FROM generate_series(1::bigint, {}) i"
 
@@ -67,8 +67,8 @@ def timeouts(server):
 def a_cancel(server):
     table = filled(server, EDGES)
     for _, call in calls(table):
-        started = server.start(f"/* to cancel */ {call}; {call}; {call}; {call}")
-        time.sleep(0.3)
+        started = server.start(f"/* to cancel */ {'; '.join([call] * 20)}")
+        time.sleep(0.15)
         server.expect("SELECT pg_cancel_backend(pid) FROM pg_stat_activity WHERE query LIKE '/* to cancel%'")
         _, errors = started.communicate(timeout=30)
         if "canceling statement due to user request" not in errors:
@@ -83,7 +83,7 @@ def little_work_mem(server):
 
 
 def memory_after_errors(server):
-    """Five hundred errors and as many catches leave the session's memory as it was."""
+    """Errors that are caught leave the memory of a session as it was."""
     table = filled(server, EDGES)
     query = f"SELECT id, source, target, CASE WHEN id = 60000 THEN ''NaN'' ELSE cost::float8 END AS cost FROM {table} WHERE id <= 60000"
     server_side = f"""DO $$ BEGIN FOR i IN 1..ROUNDS LOOP
@@ -94,8 +94,8 @@ def memory_after_errors(server):
         PERFORM * FROM boruvka_linkage('SELECT * FROM {table} WHERE id <= 2000');
         END LOOP; END $$;"""
     status = "SELECT substring(pg_read_file('/proc/self/status') FROM 'VmRSS:\\s+(\\d+)');"
-    output = server.expect(server_side.replace("ROUNDS", "5") + status + server_side.replace("ROUNDS", "30") + status)
-    before, after = map(int, output.split())
+    output = server.expect(server_side.replace("ROUNDS", "5") + status + server_side.replace("ROUNDS", "15") + status)
+    before, after = map(int, output.split())  # kB
     if after > before + 4000:
         raise AssertionError(f"{before} kB before, {after} kB after")
 
@@ -105,7 +105,7 @@ def a_killed_process(server):
     table = filled(server, EDGES)
     call = dict(calls(table))["linkage"]
     wanted = server.expect(call)
-    started = server.start(f"/* to kill */ {call}; {call}; {call}")
+    started = server.start(f"/* to kill */ {'; '.join([call] * 20)}")
     time.sleep(0.3)
     pid = int(server.expect("SELECT pid FROM pg_stat_activity WHERE query LIKE '/* to kill%'"))
     if f"{server.folder}/" not in os.readlink(f"/proc/{pid}/exe"):
@@ -121,7 +121,7 @@ def a_killed_process(server):
 
 def many_clients(server):
     table = filled(server, EDGES)
-    script = "; ".join(call.replace(table, f"(SELECT * FROM {table} LIMIT 100000) it") for _, call in calls(table))
+    script = "; ".join(call.replace(table, f"(SELECT * FROM {table} LIMIT 50000) it") for _, call in calls(table))
     started = [server.start(script) for _ in range(20)]
     answers = {it.communicate(timeout=300) + (it.returncode,) for it in started}
     if len(answers) != 1 or next(iter(answers))[2]:
