@@ -39,7 +39,7 @@ BASH_COMPLETIONS = $(call quoted,$(DESTDIR)$(BASHDIR))
 ZSH_COMPLETIONS = $(call quoted,$(DESTDIR)$(ZSHDIR))
 FISH_COMPLETIONS = $(call quoted,$(DESTDIR)$(FISHDIR))
 
-.PHONY: help try run lib wasm page test web-test wrong soak built install install-program install-libraries install-page install-documents uninstall dist may-pack bench clean
+.PHONY: help try run lib wasm page postgres test web-test wrong soak built install install-program install-libraries install-page install-documents uninstall dist may-pack bench clean
 
 # Each of them goes side by side by itself, as far as the machine holds.
 .NOTPARALLEL:
@@ -51,6 +51,8 @@ help:
 	@echo 'make lib        prove and build libboruvka.a, libboruvka.so and libboruvka_within.a; needs a C compiler and binutils'
 	@echo 'make wasm       prove and build the WebAssembly module boruvka.wasm'
 	@echo 'make page       pack the web page with the module into dist/boruvka.html, which a browser opens'
+	@echo 'make postgres   build the extension of postgres/ for PostgreSQL; needs the headers of its server and a C compiler;'
+	@echo '                `make -C postgres installcheck` tests it on a server of its own, `make -C postgres install` installs it'
 	@echo 'make install    copy what is built, with header, manual page, completions, licence and documents, below PREFIX=$(PREFIX);'
 	@echo '                BINDIR, LIBDIR, INCLUDEDIR, MANDIR and DOCDIR name other folders, DESTDIR is put before each of them'
 	@echo 'make uninstall  remove what was installed; pass the same variables'
@@ -80,6 +82,9 @@ wasm: $(WASM)
 page: $(WASM)
 	@python3 tools/page.py $(WASM) dist/boruvka.html
 	@echo 'built dist/boruvka.html'
+
+postgres: $(LIBRARY).a
+	@$(MAKE) -s -C postgres
 
 test:
 	@python3 tests/gate.py

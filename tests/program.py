@@ -7,7 +7,7 @@ PROGRAM is crates/boruvka/out/boruvka if none is named. The cases stand in tests
 says how they run the program. Memory is refused, and calls of the system fail, by small libraries that are preloaded
 (tests/refusing.c and tests/failing.c, built by cc into a temporary folder). What README.md, docs/RECIPES.md and the
 manual page show is run as it stands; a picture is drawn only where `dot` is there. A case for a shell, for another
-command, or for a package of Python is skipped if that isn't there. The last cases try tests/wrong_bodies.py,
+command, for PostgreSQL, or for a package of Python is skipped if that isn't there. The last cases try tests/wrong_bodies.py,
 tests/gate.py and tools/prove.py, with small programs in the place of what these run. Else Python's standard library,
 make, a shell with its usual tools and a C compiler are all that it needs. The last line is `N passed, M failed`, without
 those that were skipped, and the status is 0 only where none failed.
@@ -20,7 +20,7 @@ import time
 
 sys.dont_write_bytecode = True
 
-from cases import words, progress, streams, threads, workers, sockets, calls, memory, joined, keeping, embedding, within, regions, release, python, peers, documents, tables, headline, machinery  # noqa: F401, I001 (they run in this order)
+from cases import words, progress, streams, threads, workers, sockets, calls, memory, joined, keeping, embedding, within, regions, release, python, peers, postgres, documents, tables, headline, machinery  # noqa: F401, I001 (they run in this order)
 from cases.running import CASES, Program, Skipped
 
 

@@ -1,10 +1,11 @@
 #!/usr/bin/env python3
-"""Packs what was built into a release: a .tar.gz, a wheel for Python, and a .deb if dpkg-deb is there.
+"""Packs what was built into a release: a .tar.gz, a wheel for Python, and with dpkg-deb a .deb. Another .deb has the
+extension of postgres/, if a server of PostgreSQL is there with its headers.
 
 usage: tools/dist.py [--program FILE] [--libraries FOLDER] [INTO]
        tools/dist.py --may
 
-It proves and builds nothing: `make dist` does that before it. FILE is the program, FOLDER has the libraries, and INTO
+It proves nothing, and builds the extension alone: `make dist` does all else before it. FILE is the program, FOLDER has the libraries, and INTO
 gets the packages: dist/, if none is named. What goes into them is what `make install` copies, without the symbols that
 only a debugger reads, with the sums of all files, and with PROVED.txt: the commit, the kit, and the last lines of the
 gate. The wheel has the package of python/boruvka and the shared library; no compiler made it.
@@ -92,7 +93,7 @@ License: Apache-2.0
  On Debian systems /usr/share/common-licenses/Apache-2.0 has the text.
 """
 CHANGELOG = """\
-boruvka ({version}) unstable; urgency=medium
+{name} ({version}) unstable; urgency=medium
 
   * CHANGELOG.md has the changes of this version.
 
@@ -102,6 +103,20 @@ OVERRIDES = """\
 # One small package has program, libraries and headers, all of one version.
 boruvka: package-name-doesnt-match-sonames libboruvka{major}
 boruvka: link-to-shared-library-in-wrong-package *
+"""
+FOR_POSTGRES = """\
+Package: postgresql-{server}-boruvka
+Version: {version}
+Architecture: amd64
+Maintainer: {maintainer}
+Installed-Size: {size}
+Depends: {depends}, postgresql-{server}
+Section: database
+Priority: optional
+Description: minimum spanning forests in PostgreSQL
+ The extension boruvka finds minimum spanning forests of edges in tables, by an
+ aggregate and by functions with the columns of pgRouting. It also finds their
+ components, clusters and trees.
 """
 # What any Linux of the wheel's tag has: the policy manylinux2014 (PEP 599).
 TAG = "py3-none-manylinux2014_x86_64"
@@ -339,25 +354,63 @@ def debian(release, room):
     # a shared library isn't run
     library = f"{root}{lib}/libboruvka.so.{release.version}"
     os.chmod(library, 0o644)
-    date = time.strftime("%a, %d %b %Y %H:%M:%S +0000", time.gmtime(release.seconds))
-    values = {"version": release.version, "major": release.version.split(".")[0], "date": date, "maintainer": MAINTAINER}
-    put(f"{share}/doc/boruvka/copyright", COPYRIGHT)
-    put(f"{share}/doc/boruvka/changelog.gz", gzipped(CHANGELOG.format(**values).encode()))
-    put(f"{share}/doc/boruvka/PROVED.txt", "\n".join(release.proved()) + "\n")
+    values = {"version": release.version, "major": release.version.split(".")[0]}
     put(f"{share}/lintian/overrides/boruvka", OVERRIDES.format(**values))
-    put(f"{root}/DEBIAN/md5sums", sums(root, "md5"))
     put(f"{root}/DEBIAN/triggers", "activate-noawait ldconfig\n")
     put(f"{root}/DEBIAN/shlibs", "libboruvka {major} boruvka (>= {version})\n".format(**values))
-    blocks = sum(-(-os.path.getsize(f"{root}/{it}") // 1024) for it in files_below(root))
-    needs = depends([f"{root}/usr/bin/boruvka", library])
-    put(f"{root}/DEBIAN/control", CONTROL.format(size=blocks, depends=needs, **values))
+    return packed_for_debian(release, room, "boruvka", CONTROL, [f"{root}/usr/bin/boruvka", library])
+
+
+def packed_for_debian(release, room, name, control, code, **more):
+    """The package of what lies below the folder root of a room, with what all packages have; it needs what this code needs."""
+    root, about = f"{room}/root", f"{room}/root/usr/share/doc/{name}"
+    date = time.strftime("%a, %d %b %Y %H:%M:%S +0000", time.gmtime(release.seconds))
+    values = {"name": name, "version": release.version, "date": date, "maintainer": MAINTAINER, **more}
+    put(f"{about}/copyright", COPYRIGHT)
+    put(f"{about}/changelog.gz", gzipped(CHANGELOG.format(**values).encode()))
+    put(f"{about}/PROVED.txt", "\n".join(release.proved()) + "\n")
+    blocks = sum(-(-os.path.getsize(f"{root}/{it}") // 1024) for it in files_below(root) if not it.startswith("DEBIAN/"))
+    put(f"{root}/DEBIAN/md5sums", "".join(it for it in sums(root, "md5").splitlines(keepends=True) if "  DEBIAN/" not in it))
+    put(f"{root}/DEBIAN/control", control.format(size=blocks, depends=depends(code), **values))
     release.settle(root)
     made = f"{room}/made.deb"
     words = ["dpkg-deb", "--root-owner-group", "--uniform-compression", "-Zgzip", "-z9", "--build", root, made]
     ended = subprocess.run(words, env={**os.environ, "SOURCE_DATE_EPOCH": str(release.seconds)}, capture_output=True, text=True, check=False)
     if ended.returncode or ended.stderr:
         raise NotPacked(ended.stderr.strip())
-    return f"boruvka_{release.version}_amd64.deb", read(made)
+    return f"{name}_{release.version}_amd64.deb", read(made)
+
+
+def server():
+    """The folders of PostgreSQL and its version, or None if its headers aren't there."""
+    try:
+        told = subprocess.run(["pg_config", "--pgxs", "--pkglibdir", "--sharedir", "--version"], capture_output=True, text=True, check=True).stdout
+    except (OSError, subprocess.CalledProcessError):
+        return None
+    rules, *folders, name = told.splitlines()
+    return (*folders, re.search(r"\d+", name)[0]) if os.path.exists(rules) else None
+
+
+def extension(release, room):
+    """The extension for PostgreSQL, which is compiled here, in a folder of its own."""
+    libraries, share, number = server()
+    root, source = f"{room}/root", f"{room}/source"
+    shutil.copytree(f"{ROOT}/postgres", source, ignore=shutil.ignore_patterns("*.o", "*.so", "__pycache__"))
+    env = {it: word for it, word in os.environ.items() if it not in ("MAKEFLAGS", "MAKELEVEL", "MFLAGS")}
+    # (no path and no time gets into the code)
+    words = [f"LIBBORUVKA={release.libraries}/libboruvka.a", f"HEADERS={ROOT}/include", "COPT=-g0", "PG_LDFLAGS=-Wl,--build-id=none"]
+    ended = subprocess.run(["make", "-s", "-C", source, *words], env=env, capture_output=True, text=True, check=False)
+    if ended.returncode:
+        raise NotPacked(ended.stderr.strip())
+    code = f"{root}{libraries}/boruvka.so"
+    put(code, read(f"{source}/boruvka.so"))
+    strip(code)
+    for name in os.listdir(source):
+        if name.endswith((".sql", ".control")):
+            put(f"{root}{share}/extension/{name}", read(f"{source}/{name}"))
+    name = f"postgresql-{number}-boruvka"
+    put(f"{root}/usr/share/doc/{name}/README.md.gz", gzipped(text_of("postgres/README.md").encode()))
+    return packed_for_debian(release, room, name, FOR_POSTGRES, [code], server=number)
 
 
 def main(words):
@@ -382,10 +435,13 @@ def main(words):
     folder = into[0] if into else f"{ROOT}/dist"
     try:
         release = Release(program, libraries)
-        for pack in [tarball, wheel, debian]:
-            if pack is debian and not shutil.which("dpkg-deb"):
+        for pack in [tarball, wheel, debian, extension]:
+            if pack in (debian, extension) and not shutil.which("dpkg-deb"):
                 print("dpkg-deb is not there, so no .deb was made", file=sys.stderr)
-                continue
+                break
+            if pack is extension and not server():
+                print("PostgreSQL's headers are not there, so no .deb of its extension was made", file=sys.stderr)
+                break
             with tempfile.TemporaryDirectory(prefix="boruvka-dist-") as room:
                 name, content = pack(release, room)
             put(f"{folder}/{name}", content)

@@ -523,18 +523,29 @@ def expect_page(room, share):
         is_so(bool(held) and zlib.decompress(base64.b64decode(held[1]), -15) == it.read(), True)
 
 
+def has_postgres():
+    """Whether the extension for PostgreSQL can be built."""
+    return bool(shutil.which("pg_config")) and os.path.exists(run(["pg_config", "--pgxs"], env=PLAIN)[1].decode().strip())
+
+
+def packages():
+    """How many packages are made: a .tar.gz, a wheel, a .deb, and a .deb of the extension."""
+    return 2 + bool(shutil.which("dpkg-deb")) + bool(shutil.which("dpkg-deb") and has_postgres())
+
+
 def packed(into, env=KIT, **more):
     """Makes the packages, and answers their bytes by their names."""
     libraries()
     module()
     words = [sys.executable, f"{ROOT}/tools/dist.py", "--program", Program.path, "--libraries", LIBRARIES, into]
     status, output, errors = run(words, env=env, **more)
-    expect((status, b"", errors), 0, b"", b"" if shutil.which("dpkg-deb") else b"dpkg-deb is not there, so no .deb was made\n")
+    said = {2: b"dpkg-deb is not there, so no .deb was made\n", 3: b"PostgreSQL's headers are not there, so no .deb of its extension was made\n", 4: b""}
+    expect((status, b"", errors), 0, b"", said[packages()])
     found = {}
     for name in os.listdir(into):
         with open(f"{into}/{name}", "rb") as it:
             found[name] = it.read()
-    made_in_turn = sorted(found, key=lambda it: [".gz", ".whl", ".deb"].index(os.path.splitext(it)[1]))
+    made_in_turn = sorted(found, key=lambda it: ([".gz", ".whl", ".deb"].index(os.path.splitext(it)[1]), it))
     is_so(output.decode(), "".join(f"{hashlib.sha256(found[it]).hexdigest()}  {it}\n" for it in made_in_turn))
     return found
 
@@ -551,7 +562,7 @@ def expect_proved(path):
 @case
 def the_same_files_make_the_same_packages(room):
     first = packed(f"{room}/first")
-    is_so(len(first), 3 if shutil.which("dpkg-deb") else 2)
+    is_so(len(first), packages())
     # other modes, another place and zone, another install's folders, and a second later
     time.sleep(1.1)
     other = {**KIT, "TZ": "Asia/Tokyo", "LC_ALL": "C", "LIBDIR": "/elsewhere", "TMPDIR": f"{room}/longer"}
@@ -684,7 +695,7 @@ def a_package_tells_what_the_gate_passed(room):
     libraries()
     built = module()
     top = f"{room}/top"
-    for name in ["Makefile", "README.md", "SECURITY.md", "CHANGELOG.md", "CONTRIBUTING.md", "LICENSE", "docs", "tools", "include", "man", "completions", "examples", "python", "web", VERSION]:
+    for name in ["Makefile", "README.md", "SECURITY.md", "CHANGELOG.md", "CONTRIBUTING.md", "LICENSE", "docs", "tools", "include", "man", "completions", "examples", "python", "postgres", "web", VERSION]:
         copy = shutil.copytree if os.path.isdir(f"{ROOT}/{name}") else shutil.copy
         os.makedirs(os.path.dirname(f"{top}/{name}"), exist_ok=True)
         copy(f"{ROOT}/{name}", f"{top}/{name}")
@@ -739,7 +750,7 @@ def a_package_tells_what_the_gate_passed(room):
     expect(run(words, env=env), 1, b"", b"tools/dist.py: The page has no module yet: `make wasm` proves and builds it.\n")
     shutil.copy(built, f"{top}/crates/boruvka_within/out")
     status, output, _ = run(words, env=env)
-    is_so((status, output.count(b"\n")), (0, 3 if shutil.which("dpkg-deb") else 2))
+    is_so((status, output.count(b"\n")), (0, packages()))
     name = f"boruvka-{version()}-x86_64-linux"
     with tarfile.open(f"{top}/dist/{name}.tar.gz") as tar:
         member = tar.getmember(f"{name}/PROVED.txt")

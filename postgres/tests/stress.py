@@ -1,0 +1,111 @@
+#!/usr/bin/env python3
+"""What takes too long for `make installcheck`: each function over ten million edges, where timeouts have to end it in time;
+a server whose processes may use little memory; and each function under valgrind, and under gcc's sanitizers.
+
+usage: tests/stress.py [NAME..]
+
+Names choose among the steps, which are those of STEPS. The last line is `N passed, M failed`.
+"""
+import os
+import re
+import subprocess
+import sys
+import tempfile
+import time
+
+sys.dont_write_bytecode = True
+
+import drawn
+import trouble
+from installcheck import built
+from server import Server
+
+TEN_MILLION = 10_000_000
+FRACTIONS = [0.2, 0.35, 0.5, 0.65, 0.8, 0.9]  # of the time that a call takes without a timeout
+SHAPES = {
+    "sparse": "SELECT i AS id, (i * 7919) % 5000011 AS source, (i * 104729 + i / 3) % 5000011 AS target, ((i * 2654435761) % 1000003)::float8 AS cost FROM generate_series(1::bigint, {}) i",
+    "dense": "SELECT i AS id, (i * 7919) % 30011 AS source, (i * 104729 + i / 3) % 30011 AS target, ((i * 2654435761) % 1000003)::float8 AS cost FROM generate_series(1::bigint, {}) i",
+    "a line": "SELECT i AS id, i AS source, i + 1 AS target, 1::float8 AS cost FROM generate_series(1::bigint, {}) i",
+}
+
+
+def timeouts_of_ten_million_edges(room):
+    """A cancel is a timeout that another session asks for: the process notices both at the same places."""
+    with Server(settings=["shared_buffers=256MB", "max_wal_size=8GB"]) as server:
+        for name, query in SHAPES.items():
+            server.expect(f"CREATE UNLOGGED TABLE strip_{TEN_MILLION} AS {query.format(TEN_MILLION)}", seconds=3600)
+            worst = trouble.expect_timeouts(server, TEN_MILLION, FRACTIONS, trouble.LATE + 0.1)
+            print(f"stress: {name}: the latest end in seconds after the timeout: {worst}", flush=True)
+            server.expect(f"DROP TABLE strip_{TEN_MILLION}")
+
+
+def little_address_space(room):
+    """Queries fail for want of memory, each with an error, and the server goes on."""
+    with Server(limits="-v 600000") as server:
+        server.expect(f"CREATE UNLOGGED TABLE strip_3000000 AS {SHAPES['sparse'].format(3_000_000)}")
+        found = {}
+        for name, call in trouble.calls("strip_3000000"):
+            status, _, errors = server.psql(f"\\set VERBOSITY verbose\n{call}")
+            if status and not re.search(r"ERROR:  53200: out of memory", errors):
+                raise AssertionError(f"{name}: {errors}")
+            found[name] = "out of memory" if status else "ended"
+        if "out of memory" not in found.values():
+            raise AssertionError(f"no call was short of memory: {found}")
+        server.expect("SELECT 1")
+
+
+def every_function(server):
+    drawn.expect_drawn(server, first=1000, count=30)
+    for _, call in trouble.calls(f"({trouble.STRIP.format(3000)}) it"):
+        server.expect(call)
+    server.psql("SELECT * FROM boruvka_kruskal('SELECT 1 AS id, 2 AS source, 3 AS target, ''NaN''::float8 AS cost')")
+
+
+def under_valgrind(room):
+    os.chmod(room, 0o777)
+    words = ["valgrind", "--quiet", "--trace-children=yes", f"--log-file={room}/valgrind.%p", "--num-callers=20"]
+    with Server(library=built(f"{room}/small", COPT="-g -DBATCH_EDGES=50"), wrapper=words) as server:
+        every_function(server)
+    reports = []
+    for name in os.listdir(room):
+        if name.startswith("valgrind."):
+            with open(f"{room}/{name}", encoding="utf-8", errors="replace") as it:
+                reports += [block for block in re.split(r"\n==\d+== \n", it.read()) if "boruvka.so" in block or re.search(r"\((graph|aggregate|query|clusters|tree|cost)\.c:", block)]
+    if reports:
+        raise AssertionError("\n".join(reports[:5]))
+
+
+def under_sanitizers(room):
+    preload = subprocess.run(["gcc", "-print-file-name=libasan.so"], check=True, capture_output=True, text=True).stdout.strip()
+    flags = "-g -DBATCH_EDGES=50 -fsanitize=address,undefined -fno-sanitize-recover=all"
+    words = ["env", f"LD_PRELOAD={os.path.realpath(preload)}", "ASAN_OPTIONS=detect_leaks=0:detect_stack_use_after_return=0"]
+    with Server(library=built(f"{room}/sanitized", COPT=flags), wrapper=words) as server:
+        every_function(server)
+        if re.search(r"Sanitizer|runtime error", server.logged()):
+            raise AssertionError(server.logged()[-3000:])
+
+
+STEPS = [timeouts_of_ten_million_edges, little_address_space, under_valgrind, under_sanitizers]
+
+
+def main(names):
+    passed = failed = 0
+    for step in STEPS:
+        name = step.__name__.replace("_", " ")
+        if names and name not in names:
+            continue
+        begun = time.monotonic()
+        try:
+            with tempfile.TemporaryDirectory(prefix="boruvka-stress-") as room:
+                step(room)
+            passed += 1
+            print(f"stress: {name}: ok, {time.monotonic() - begun:.0f} s", flush=True)
+        except (AssertionError, OSError, RuntimeError, subprocess.SubprocessError) as error:
+            failed += 1
+            print(f"stress: {name}: FAILED: {error}", flush=True)
+    print(f"{passed} passed, {failed} failed")
+    return 1 if failed else 0
+
+
+if __name__ == "__main__":
+    sys.exit(main(sys.argv[1:]))
