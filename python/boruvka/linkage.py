@@ -2,7 +2,7 @@
 
 `spanning_tree` finds the tree of points, and `labels` cuts it into clusters. The edges of the tree, in ascending order,
 are the merges of single linkage, which `single_linkage` and `merges` list. Numpy is all that they need; scipy makes
-points in up to eleven dimensions faster.
+most points faster.
 """
 
 from __future__ import annotations
@@ -10,6 +10,7 @@ from __future__ import annotations
 import numbers
 import sys
 import warnings
+from functools import lru_cache
 from typing import Any, Protocol, SupportsIndex, overload
 
 import numpy as np
@@ -19,8 +20,8 @@ from boruvka import _library
 from boruvka._entries import expect_no_filling
 from boruvka._forest import Forest, Real, held, is_array, is_masked, minimum_spanning_forest, of_each, vertices, whole
 from boruvka._metrics import Metric, metric_of
-from boruvka._points import tree_of_points
-from boruvka._weights import why_none
+from boruvka._points import FEW, all_pairs, tree_of_points
+from boruvka._weights import ordered, why_none
 
 __all__ = ["labels", "merges", "single_linkage", "spanning_tree"]
 
@@ -113,13 +114,14 @@ def spanning_tree(y: ArrayLike | SparseMatrix, *, metric: str = "euclidean", p: 
     Notes
     -----
     Heights are those of all pairs but for rounding, whatever the points are. Those of haversine are rounded by up to
-    1e-15, and near the antipode by 1e-7.
+    1e-15, and near the antipode by 1e-7. Every length that is compared with another is computed by one function, in
+    which coordinates are added in their order, and so are core distances: equal pairs have equal lengths.
 
-    Cost: points in up to eleven dimensions take time about n log n if scipy is there, and 200 bytes a point. Others take
-    n^2 d steps, of which a processor does a thousand million a second, and memory of 5 times their own. So do all points
-    but those of one dimension if p (53 + b) is 950 or more, where sizes of coordinates other than 0 differ up to 2^b
-    times, and an infinite p counts as 1. For p = 2 they are 1e127 times, for p = 10 4e12 times, and from p = 18 on any:
-    set tiny coordinates to 0 first.
+    Cost: if scipy is there, points in few dimensions, and clustered points in up to 32, take time about n log n, and 200
+    bytes a point. A sample of the points decides: others take n^2 d steps, of which a processor does a thousand million
+    a second, and memory of 5 times their own. So do all points but those of one dimension if p (53 + b) is 950 or more,
+    where sizes of coordinates other than 0 differ up to 2^b times, and an infinite p counts as 1. For p = 2 they are
+    1e127 times, for p = 10 4e12 times, and from p = 18 on any: set tiny coordinates to 0 first.
     Distances take about 40 bytes and 100 nanoseconds a pair: scipy's own linkage is several times as fast.
 
     Examples
@@ -336,8 +338,8 @@ def expect_no_rounding(y: Any, given: NDArray[Any], numbers: NDArray[np.float64]
         return
     if is_frame:
         # (its columns may have other dtypes than they have side by side)
-        for place in range(given.shape[1]):
-            of_each(y.iloc[:, place].tolist(), numbers[:, place], f"{name}.iloc[:, {place}]")
+        for column in range(given.shape[1]):
+            of_each(y.iloc[:, column].tolist(), numbers[:, column], f"{name}.iloc[:, {column}]")
     elif given.ndim == 2:
         for row, each in enumerate(y):
             of_each(list(each), numbers[row], f"{name}[{row}]")
@@ -409,18 +411,35 @@ def _of_points(points: NDArray[np.float64], metric: Metric, min_samples: int | N
     n = len(points)
     if min_samples is not None and not 1 <= whole(min_samples, "min_samples") <= n:
         raise ValueError(f"min_samples is {min_samples}, and has to be from 1 to {n}, the number of points")
-    one, other, lengths = tree_of_points(metric.placed(points), metric.p, min_samples)
-    lengths = metric.told(lengths)
-    if not np.isfinite(lengths).all():
-        place = np.flatnonzero(~np.isfinite(lengths))[0]
-        raise ValueError(f"points {one[place]} and {other[place]} are so far apart that doubles don't hold their distance")
-    tree = minimum_spanning_forest(n, one, other, lengths)
-    return tree._replace(index=_place_of_pair(n, tree.u, tree.v))
+    placed = metric.placed(points)
+    if n <= FEW:
+        pairs = _few_pairs(n)
+        tree = _tree_of_pairs(n, *pairs, metric.told(all_pairs(placed, metric.p, min_samples, *pairs)))
+    else:
+        one, other, lengths = tree_of_points(placed, metric.p, min_samples)
+        tree = minimum_spanning_forest(n, one, other, metric.told(lengths))
+        tree = tree._replace(index=_place_of_pair(n, tree.u, tree.v))
+    if len(tree) and not np.isfinite(tree.w[-1]):
+        place = np.flatnonzero(~np.isfinite(tree.w))[0]
+        raise ValueError(f"points {tree.u[place]} and {tree.v[place]} are so far apart that doubles don't hold their distance")
+    return tree
+
+
+def _tree_of_pairs(n: int, low: NDArray[np.int32], high: NDArray[np.int32], lengths: NDArray[np.float64]) -> Forest:
+    """The tree of all pairs, which are in ascending order."""
+    index = _library.places(n, low.view(np.uint32), high.view(np.uint32), ordered(lengths)).astype(np.intp)
+    return Forest(low[index].astype(np.intp), high[index].astype(np.intp), lengths[index], index, n)
 
 
 def _place_of_pair(n: int, u: NDArray[np.intp], v: NDArray[np.intp]) -> NDArray[np.intp]:
     """Where the distance of u < v stands among those between all pairs."""
     return u * n - u * (u + 1) // 2 + v - u - 1
+
+
+@lru_cache(maxsize=8)
+def _few_pairs(n: int) -> tuple[NDArray[np.int32], NDArray[np.int32]]:
+    """The same of few points; at most 100 KB, kept as they take longer than the rest."""
+    return _pairs(n)
 
 
 def _pairs(n: int) -> tuple[NDArray[np.int32], NDArray[np.int32]]:

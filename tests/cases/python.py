@@ -262,6 +262,11 @@ def exact_trees_of_points(room):
 
 
 @case
+def trees_of_clustered_points_and_their_lengths(room):
+    expect_tests(room, "test_linkage.Clustered", "test_linkage.Lengths")
+
+
+@case
 def ctrl_c_ends_a_long_call(room):
     expect_tests(room, "test_interrupt")
 
