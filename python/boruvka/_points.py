@@ -10,7 +10,7 @@ additions, so they differ in their last bits: they only decide which pairs are l
 
 from __future__ import annotations
 
-from collections.abc import Callable, Iterator
+from collections.abc import Callable, Iterable, Iterator
 from typing import Any
 
 import numpy as np
@@ -22,7 +22,7 @@ Ends = tuple[Places, Places]
 Trees = Callable[[Numbers], Any]
 
 # up to so many points, all pairs are compared
-FEW = 160
+FEW = 200
 # numbers in one piece of work
 PIECE = 1 << 20
 # in more dimensions a k-d tree's cells tell too little
@@ -71,23 +71,35 @@ class Space:
 
         A length depends on its vector alone: neither on how many there are nor on how they lie in memory.
         """
+        return self.roots(self.powers(steps, steps.shape[1:]))
+
+    def square(self) -> Numbers:
+        """What `roots` makes the lengths between all points of, those of each in a row, in the order of lengths."""
+        steps = (np.subtract.outer(it, it) for it in self.columns)
+        return self.powers(steps, (len(self), len(self)))
+
+    def roots(self, powers: Numbers) -> Numbers:
+        """The lengths of what `powers` returned, which is overwritten."""
+        return np.sqrt(powers, out=powers) if self.p == 2 and self.is_tame else powers
+
+    def powers(self, rows: Iterable[Numbers], shape: tuple[int, ...]) -> Numbers:
+        """What `roots` makes lengths of vectors of this shape of, one coordinate after another. The rows are overwritten."""
         if self.p == 2 and self.is_tame:
-            squares = added(np.multiply(steps, steps, out=steps))
-            return np.sqrt(squares, out=squares)
-        np.abs(steps, out=steps)
+            return added((np.multiply(it, it, out=it) for it in rows), shape)
         if self.p == 1:
-            return added(steps)
-        greatest: Numbers = steps.max(axis=0, initial=0.0)
+            return added((np.abs(it, out=it) for it in rows), shape)
+        steps = [np.abs(it, out=it) for it in rows]
+        greatest: Numbers = np.max(steps, axis=0) if steps else np.zeros(shape)
         if self.p == np.inf:
             return greatest
         with np.errstate(over="ignore", invalid="ignore"):
-            np.divide(steps, greatest, out=steps, where=greatest > 0)
-            return np.where(np.isfinite(greatest), greatest * added(steps**self.p) ** (1 / self.p), np.inf)
+            parts = (np.divide(it, greatest, out=it, where=greatest > 0) ** self.p for it in steps)
+            return np.where(np.isfinite(greatest), greatest * added(parts, shape) ** (1 / self.p), np.inf)
 
 
-def added(rows: Numbers) -> Numbers:
+def added(rows: Iterable[Numbers], shape: tuple[int, ...]) -> Numbers:
     """The sum of rows, each added in its turn. (`sum` groups them by how they lie in memory, and so rounds otherwise.)"""
-    total: Numbers = np.zeros(rows.shape[1])
+    total: Numbers = np.zeros(shape)
     for row in rows:
         total += row
     return total
@@ -125,17 +137,17 @@ def tree_of_points(points: Numbers, p: float, nearest: int | None) -> tuple[Plac
         return one, other, space.heights(one, other)
 
 
-def all_pairs(points: Numbers, p: float, nearest: int | None, one: Places, other: Places) -> Numbers:
-    """The heights of all pairs of few points; `one` and `other` are the pairs in ascending order."""
+def heights_of_pairs(points: Numbers, p: float, nearest: int | None, places: Places) -> Numbers:
+    """The heights at which a few points reach each other in pairs, by the places of these in a square of all."""
     with np.errstate(over="ignore"):
         space = Space(points, p)
-        lengths = space.lengths(one, other)
+        square = space.square()
         if nearest and nearest > 1:
-            square = np.zeros((len(points), len(points)))
-            square[one, other] = square[other, one] = lengths
             core = np.partition(square, nearest - 1, axis=1)[:, nearest - 1]
-            lengths = reached(lengths, core, one, other)
-        return np.ldexp(lengths, -space.scale)
+            np.maximum(square, core, out=square)
+            np.maximum(square, core[:, None], out=square)
+        heights = space.roots(square.take(places))
+        return np.ldexp(heights, -space.scale) if space.scale else heights
 
 
 def trees_for(space: Space) -> Trees | None:

@@ -25,6 +25,31 @@ def by_rows(space: Space, nearest: int | None) -> Ends:
     return one, other
 
 
+def tree_of_distances(square: Numbers, nearest: int | None) -> tuple[Places, Places, Numbers]:
+    """The edges of a tree of all points and their heights, by distances that are symmetric and 0 on the diagonal.
+
+    The heights of `nearest` are those of `tree_of_points`. The matrix is overwritten.
+    """
+    n = len(square)
+    if nearest:
+        core = np.partition(square, nearest - 1, axis=1)[:, nearest - 1]
+        np.maximum(square, core, out=square)
+        np.maximum(square, core[:, None], out=square)
+    best, ends = np.full(n, np.inf), np.zeros(n, np.intp)
+    is_left = np.ones(n, bool)
+    one, other = np.zeros((2, n - 1), np.intp)
+    here = 0
+    for place in range(n - 1):
+        is_left[here], best[here] = False, np.inf
+        is_nearer = is_left & (square[here] < best)
+        np.copyto(best, square[here], where=is_nearer)
+        ends[is_nearer] = here
+        # (a distance is finite)
+        here = int(best.argmin())
+        one[place], other[place] = ends[here], here
+    return one, other, square[one, other]
+
+
 def core_by_rows(space: Space, nearest: int) -> Numbers:
     """How far each point is from its `nearest` nearest points, itself counted."""
     if not has_products(space):

@@ -149,6 +149,58 @@ class Refused(unittest.TestCase):
             single_linkage([[0, 1], [2, 0]])
             single_linkage([[0]])
 
+    def test_a_matrix_of_distances_that_is_symmetric_up_to_rounding(self):
+        """What scikit-learn's pairwise_distances returns: scipy warns of it, by the same rule."""
+        draw = np.random.default_rng(30)
+        points = draw.random((40, 3))
+        square = np.sqrt(((points[:, None] - points[None]) ** 2).sum(axis=2))
+        rounded = square * (1 + 1e-15 * draw.integers(-4, 5, square.shape))
+        self.assertFalse((rounded == rounded.T).all())
+        for given in (rounded, rounded + np.diag(np.full(40, 1e-12))):
+            with self.assertWarnsRegex(UserWarning, 'its rows are taken as points, not as distances, which metric="precomputed" takes$'):
+                spanning_tree(given)
+            if hierarchy:
+                with self.assertWarns(hierarchy.ClusterWarning):
+                    hierarchy.linkage(given, "single")
+        with warnings.catch_warnings():
+            warnings.simplefilter("error")
+            for given in (square + np.triu(square), -square, square + np.eye(40)):
+                spanning_tree(given)
+                if hierarchy:
+                    hierarchy.linkage(given, "single")
+
+    def test_distances_that_are_none(self):
+        square = np.array([[0.0, 1, 2], [1, 0, 3], [2, 3, 0]])
+        for change, words in [
+            ((0, 1, 1.1), r"^y\[0, 1\] is 1\.1, and y\[1, 0\] is 1\.0: a distance is the same both ways, as numpy\.minimum\(y, y\.T\) makes it$"),
+            ((2, 1, 2.9), r"^y\[1, 2\] is 3\.0, and y\[2, 1\] is 2\.9: "),
+            ((1, 1, 0.5), r"^y\[1, 1\] is 0\.5, and the distance of a point to itself is 0: "),
+            ((0, 2, -2), r"^y\[0, 2\] is -2\.0: a distance isn't finite, or is negative$"),
+            ((0, 2, np.inf), r"^y\[0, 2\] is inf: "),
+            ((0, 2, np.nan), r"^y\[0, 2\] is nan: "),
+        ]:
+            wrong = square.copy()
+            wrong[change[:2]] = change[2]
+            with self.assertRaisesRegex(ValueError, words):
+                spanning_tree(wrong, metric="precomputed")
+        for wrong in (square[:, :2], square[None], np.empty((0, 0))):
+            with self.assertRaisesRegex(ValueError, "^y has the shape .* takes a square matrix of distances"):
+                spanning_tree(wrong, metric="precomputed")
+        with self.assertRaisesRegex(ValueError, "^p is 3, and only"):
+            spanning_tree(square, metric="precomputed", p=3)
+        with self.assertRaisesRegex(ValueError, "^min_samples is 4, "):
+            spanning_tree(square, metric="precomputed", min_samples=4)
+        with self.assertRaisesRegex(ValueError, "^2 distances aren't"):
+            spanning_tree([1.0, 2.0], metric="precomputed", min_samples=2)
+        with self.assertRaisesRegex(TypeError, "^y has the dtype"):
+            spanning_tree([["a", "b"], ["c", "d"]], metric="precomputed")
+
+    def test_clusters_of_a_negative_size(self):
+        for call in (lambda it: labels(10, ROADS, clusters=4, min_size=it), lambda it: ROADS.labels(height=3, min_size=it)):
+            with self.assertRaisesRegex(ValueError, "^min_size is -1, and a cluster has at least 0 vertices: "):
+                call(-1)
+            self.assertEqual(call(0).tolist(), call(1).tolist())
+
     def test_clusters_that_cannot_be(self):
         for clusters in (-1, 0, 1, 11):
             with self.assertRaisesRegex(ValueError, f"^{clusters} clusters .* 2 to 10$"):
@@ -524,6 +576,56 @@ class Metrics(unittest.TestCase):
                     found = spanning_tree(points, min_samples=4).w
                     np.testing.assert_allclose(found, self.heights(np.asarray(points, float), "euclidean", 4), rtol=1e-13)
 
+    def test_distances_of_all_pairs(self):
+        """As a square, up to rounding, and as a row, with mutual reachability too."""
+        draw = np.random.default_rng(31)
+        for n in (2, 3, 30):
+            points = draw.normal(size=(n, 4))
+            square = np.array([[math.dist(a, b) for b in points] for a in points])
+            rounded = square * (1 + 1e-14 * draw.integers(0, 9, square.shape)) + np.diag(1e-9 * draw.random(n))
+            low, high = np.triu_indices(n, 1)
+            for nearest in (None, 1, 2, n):
+                wanted = self.heights(points, "euclidean", nearest or 1)
+                for given in (square, rounded, square[low, high], square.tolist()):
+                    with self.subTest(n=n, nearest=nearest):
+                        tree = spanning_tree(given, metric="precomputed", min_samples=nearest)
+                        np.testing.assert_allclose(tree.w, wanted, rtol=1e-12)
+                        self.assertEqual((low[tree.index].tolist(), high[tree.index].tolist()), (tree.u.tolist(), tree.v.tolist()))
+            self.assertEqual(single_linkage(square, metric="precomputed").tolist(), single_linkage(square[low, high]).tolist())
+        self.assertEqual(len(spanning_tree([[0.0]], metric="precomputed")), 0)
+        # (of (i, j) and (j, i) the lesser, and what is given stays)
+        given = np.array([[0, 1 + 1e-7], [1.0, 1e-9]])
+        self.assertEqual(spanning_tree(given, metric="precomputed").w.tolist(), [1.0])
+        self.assertEqual(given.tolist(), [[0, 1 + 1e-7], [1.0, 1e-9]])
+
+    def test_latitudes_and_longitudes(self):
+        """Munich, Paris and London, by a table of air distances in kilometres."""
+        latitude, longitude = np.radians([48.137, 48.857, 51.507]), np.radians([11.575, 2.351, -0.128])
+        wanted = [344, 685]
+        rows = np.column_stack([latitude, longitude])
+        np.testing.assert_allclose(spanning_tree(rows, metric="haversine").w * 6371, wanted, rtol=0.01)
+
+    @unittest.skipUnless(there("pandas"), "there is no pandas")
+    def test_names_of_columns_say_which_is_the_latitude(self):
+        import pandas
+
+        latitude, longitude = np.radians([48.137, 48.857, 51.507]), np.radians([11.575, 2.351, -0.128])
+        for north, east in [("lat", "lon"), ("Latitude", "Longitude"), ("lat", "lng"), (" lat", "long ")]:
+            for columns in ({north: latitude, east: longitude}, {east: longitude, north: latitude}):
+                with warnings.catch_warnings():
+                    warnings.simplefilter("error")
+                    tree = spanning_tree(pandas.DataFrame(columns), metric="haversine")
+                np.testing.assert_allclose(tree.w * 6371, [344, 685], rtol=0.01)
+        for names in (("x", "y"), ("X", "Y"), ("east", "north"), ("easting", "northing")):
+            with self.assertWarnsRegex(UserWarning, f"^the columns '{names[0]}' and '{names[1]}' are taken as latitude and longitude: ") as told:
+                spanning_tree(pandas.DataFrame(dict(zip(names, (longitude, latitude)))), metric="haversine")
+            self.assertEqual(told.filename, __file__)
+        with warnings.catch_warnings():
+            warnings.simplefilter("error")
+            spanning_tree(pandas.DataFrame({"y": latitude, "x": longitude}), metric="haversine")
+            spanning_tree(pandas.DataFrame({"x": latitude, "y": longitude}))
+            spanning_tree(pandas.DataFrame({"a": latitude, "b": longitude}), metric="haversine")
+
     def test_refused(self):
         points = np.zeros((4, 3))
         for words, given in [
@@ -542,6 +644,8 @@ class Metrics(unittest.TestCase):
             spanning_tree([[0, 0], [51.5, 0.1]], metric="haversine")
         with self.assertRaisesRegex(ValueError, "^the latitude of the point 0 is 1.6, past a right angle"):
             spanning_tree([[1.6, 0], [0, 0]], metric="haversine")
+        with self.assertRaisesRegex(ValueError, r"^the latitude of the point 1 is -2.5, past a right angle: y\[:, ::-1\] puts latitudes before longitudes$"):
+            spanning_tree([[0.5, 0.7], [-2.5, 0.6]], metric="haversine")
         poles = spanning_tree([[np.pi / 2, 0], [-np.pi / 2, 0]], metric="haversine")
         self.assertEqual(poles.w.tolist(), [np.pi])
         for given in ({"metric": "cosine"}, {"min_samples": 2}, {"p": 3}, {"p": "2"}):
