@@ -167,7 +167,7 @@ def spanning_tree(y: ArrayLike | SparseMatrix, *, metric: str = "euclidean", p: 
         row, column = np.unravel_index(are_finite.argmin(), given.shape)
         raise ValueError(f"a coordinate of the point {row} isn't finite: y[{row}, {column}] is {given[row, column]}")
     if _are_distances(given):
-        _warn('y is square, symmetric and 0 on its diagonal: its rows are taken as points, not as distances, which metric="precomputed" takes')
+        warn('y is square, symmetric and 0 on its diagonal: its rows are taken as points, not as distances, which metric="precomputed" takes')
     if metric == "haversine":
         given = _latitudes_first(y, given)
     return _of_points(given, metric_of(metric, p), min_samples)
@@ -178,10 +178,10 @@ def _latitudes_first(y: Any, given: NDArray[np.float64]) -> NDArray[np.float64]:
     given = given[:, ::-1] if has_longitude_first(y) else given
     why = why_perhaps_swapped(y)
     if why:
-        _warn(why)
+        warn(why)
     if given.shape[1] == 2 and (np.abs(given[:, 1]) > 2 * np.pi).any() and not (np.abs(given[:, 0]) > np.pi / 2 + 1e-9).any():
         row = np.abs(given[:, 1]).argmax()
-        _warn(f"the longitude of the point {row} is {given[row, 1]}, past a full turn: it is taken as radians, and numpy.radians makes them of degrees")
+        warn(f"the longitude of the point {row} is {given[row, 1]}, past a full turn: it is taken as radians, and numpy.radians makes them of degrees")
     return given
 
 
@@ -399,7 +399,7 @@ def _are_distances(points: NDArray[np.float64]) -> bool:
     return bool((points >= 0).all() and np.allclose(points, points.T))
 
 
-def _warn(words: str) -> None:
+def warn(words: str) -> None:
     """Warns as scipy does, at the line that called this package, by way of scikit-learn or not."""
     level, frame = 1, sys._getframe()
     while frame.f_back and frame.f_globals["__name__"].partition(".")[0] in ("boruvka", "sklearn"):
