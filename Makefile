@@ -53,7 +53,8 @@ help:
 	@echo 'make test       the gate: all proofs, the wrong bodies of must-fail/, the tests, the program whole'
 	@echo 'make web-test   tries the page; needs Chromium, its driver, Node and the module'
 	@echo 'make wrong      tries the wrong bodies of wrong-bodies/, many at a time; SINCE=origin/main those of crates changed since'
-	@echo 'make soak       tries the program on drawn cases, MINUTES=$(MINUTES) long; needs Python 3 and a C compiler'
+	@echo 'make soak       tries the program on drawn cases, MINUTES=$(MINUTES) long, and as long the package for Python, if numpy is there;'
+	@echo '                needs Python 3 and a C compiler'
 	@echo 'make install    copies what is built, with header, manual page, completions, licence and documents, below PREFIX=$(PREFIX);'
 	@echo '                BINDIR, LIBDIR, INCLUDEDIR, MANDIR and DOCDIR name other folders, DESTDIR a root that stands before all'
 	@echo 'make uninstall  takes them away; it wants the same words'
@@ -87,8 +88,9 @@ web-test: $(PROGRAM) $(WASM)
 wrong:
 	@python3 tests/wrong_bodies.py $(if $(SINCE),--since '$(SINCE)')
 
-soak: $(PROGRAM)
+soak: $(PROGRAM) $(LIBRARY).so
 	@python3 tests/soak.py --minutes $(MINUTES) $(PROGRAM)
+	@python3 tests/soak_python.py --minutes $(MINUTES) $(LIBRARY).so
 
 # `install` proves and builds nothing: it often runs as another user. It copies what was built, and says what wasn't.
 PARTS := $(if $(wildcard $(PROGRAM)),install-program)
