@@ -15,6 +15,8 @@ from boruvka._points import Numbers, Places, Space, pieces, reached
 
 # with how many others a point may be compared, for each dimension, before trees are worth it
 _PAIRS = 256
+# with how many others a group may be compared, on average
+_PAIRS_OF_GROUPS = 32
 # so many points at each of two ends are compared first
 _ENDS = 32
 # pairs of points that are looked at at a time
@@ -81,6 +83,9 @@ class Across:
         asks = np.where(wide, heights, -np.inf)[component]
         lacks = (component[:, None] != component) & (self.gaps < np.maximum(asks[:, None], asks))
         one, other = np.nonzero(np.triu(lacks, 1))
+        if len(one) > _PAIRS_OF_GROUPS * self.count:
+            is_open[:] = True
+            return heights, is_open
         for place in np.argsort(self.gaps[one, other], kind="stable"):
             groups = int(one[place]), int(other[place])
             pair = component[list(groups)]

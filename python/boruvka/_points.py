@@ -11,6 +11,7 @@ additions, so they differ in their last bits: they only decide which pairs are l
 from __future__ import annotations
 
 from collections.abc import Callable, Iterable, Iterator
+from copy import copy
 from typing import Any
 
 import numpy as np
@@ -52,6 +53,14 @@ class Space:
 
     def __len__(self) -> int:
         return self.columns.shape[1]
+
+    def chosen(self, points: Places) -> Space:
+        """Some of the points, in this order."""
+        found = copy(self)
+        # (`take` makes whole columns, and from others it would copy all of them at each call)
+        found.columns = self.columns.take(points, axis=1)
+        found.core = None if self.core is None else self.core[points]
+        return found
 
     def lengths(self, one: Places, other: Places) -> Numbers:
         """How far points are apart, in the unit of the columns."""

@@ -30,7 +30,7 @@ _NEAR = 1 << 15
 # points that share a first coordinate, if copies are looked for: a few in a leaf of a tree do no harm
 _COPIES = 16
 # among more components, bounds between all pairs of them take too long
-_COMPONENTS = 256
+_COMPONENTS = 1024
 # lengths from a tree and from `Space.norms` differ by less than this part of them: each of d terms and sums, and each of
 # two powers, is rounded by a few units of 2^-53, and the logarithm of a sum that is taken to 1/p is at most 2^10
 _ROOM = 2.0**-40
@@ -102,10 +102,8 @@ class Rounds:
     """
 
     def __init__(self, space: Space, chosen: Places, trees: Trees) -> None:
-        self.points = Space.__new__(Space)
-        self.points.__dict__.update(space.__dict__)
-        self.points.columns = space.columns.take(chosen, axis=1)
-        self.core = None if space.core is None else space.core[chosen]
+        self.points = space.chosen(chosen)
+        self.core = self.points.core
         self.trees, self.p = trees, space.p
         self.rows = self.points.columns.T.copy()
         self.whole = trees(self.rows)

@@ -20,7 +20,7 @@ from boruvka import _library
 from boruvka._entries import expect_no_filling
 from boruvka._forest import Forest, Real, held, is_array, is_masked, minimum_spanning_forest, of_each, vertices, whole
 from boruvka._metrics import Metric, expect_metric, has_longitude_first, metric_of, why_perhaps_swapped
-from boruvka._points import FEW, heights_of_pairs, tree_of_points
+from boruvka._points import FEW, heights_of_pairs, pieces, tree_of_points
 from boruvka._rows import tree_of_distances
 from boruvka._weights import ordered, why_none
 
@@ -456,21 +456,30 @@ def expect_distances(given: NDArray[np.float64]) -> NDArray[np.float64]:
     """The distances of a square matrix, of (i, j) and (j, i) the lesser. A ValueError if it isn't symmetric up to rounding."""
     if given.ndim != 2 or given.shape[0] != given.shape[1] or not len(given):
         raise ValueError(f'y has the shape {given.shape}, and metric="precomputed" takes a square matrix of distances, or those of all pairs in one dimension')
-    is_wrong = ~np.isfinite(given) | (given < 0)
-    if is_wrong.any():
-        row, column = np.unravel_index(is_wrong.argmax(), given.shape)
-        raise ValueError(f"y[{row}, {column}] is {given[row, column]}: a distance isn't finite, or is negative")
-    room = _ROUNDING * given.max()
-    if (given.diagonal() > room).any():
-        row = (given.diagonal() > room).argmax()
+    least, greatest = np.empty_like(given), given.max()
+    if (given.diagonal() > _ROUNDING * greatest).any():
+        row = int((given.diagonal() > _ROUNDING * greatest).argmax())
         raise ValueError(f'y[{row}, {row}] is {given[row, row]}, and the distance of a point to itself is 0: metric="precomputed" takes distances, not points or similarities')
-    least = np.minimum(given, given.T)
-    is_wrong = given - least > room + _NEARLY * least
-    if is_wrong.any():
-        row, column = np.unravel_index(is_wrong.argmax(), given.shape)
-        raise ValueError(f"y[{row}, {column}] is {given[row, column]}, and y[{column}, {row}] is {given[column, row]}: a distance is the same both ways, as numpy.minimum(y, y.T) makes it")
+    for some in pieces(np.arange(len(given)), len(given)):
+        part = least[some[0] : some[-1] + 1]
+        np.minimum(given[some], given[:, some].T, out=part)
+        _expect_same_both_ways(given, some, part, greatest)
     np.fill_diagonal(least, 0)
     return least
+
+
+def _expect_same_both_ways(given: NDArray[np.float64], some: NDArray[np.intp], least: NDArray[np.float64], greatest: float) -> None:
+    """A ValueError if a distance in some rows isn't the lesser of both ways, up to rounding, or is none."""
+    rows = given[some]
+    is_wrong = ~np.isfinite(rows) | (rows < 0)
+    if is_wrong.any():
+        row, column = np.unravel_index(is_wrong.argmax(), rows.shape)
+        raise ValueError(f"y[{some[row]}, {column}] is {rows[row, column]}: a distance isn't finite, or is negative")
+    is_wrong = rows - least > _ROUNDING * greatest + _NEARLY * least
+    if is_wrong.any():
+        row, column = np.unravel_index(is_wrong.argmax(), rows.shape)
+        row = some[row]
+        raise ValueError(f"y[{row}, {column}] is {given[row, column]}, and y[{column}, {row}] is {given[column, row]}: a distance is the same both ways, as numpy.minimum(y, y.T) makes it")
 
 
 def _nearest(min_samples: int | None, n: int) -> int | None:
