@@ -80,6 +80,8 @@ class Space:
 
         A length depends on its vector alone: neither on how many there are nor on how they lie in memory.
         """
+        if self.p == 2 and self.is_tame:
+            return self.roots(added(np.multiply(steps, steps, out=steps), steps.shape[1:]))
         return self.roots(self.powers(steps, steps.shape[1:]))
 
     def square(self) -> Numbers:

@@ -455,6 +455,32 @@ class Estimators(unittest.TestCase):
                 theirs = AgglomerativeClustering(clusters, linkage="single", **{word: metric}).fit_predict(points)
                 self.assertEqual((len({*zip(ours, theirs)}), len(set(ours))), (clusters, clusters))
 
+    def test_thresholds_and_numbers_of_clusters_as_others_have_them(self):
+        """What COMING_FROM.md says of equal heights."""
+        from scipy.cluster.hierarchy import fcluster, linkage
+        from sklearn.cluster import AgglomerativeClustering
+
+        points = [[0.0], [1.0], [3.0], [4.0]]
+        ours = SingleLinkage(None, distance_threshold=1.0).fit(points)
+        self.assertEqual((ours.labels_.tolist(), ours.n_clusters_), ([0, 0, 1, 1], 2))
+        self.assertEqual(AgglomerativeClustering(None, distance_threshold=1.0, linkage="single").fit(points).n_clusters_, 4)
+        merges = linkage(points, "single")
+        self.assertEqual(fcluster(merges, 1.0, "distance").max(), 2)
+        self.assertEqual((ours.tree_.labels(clusters=3).max() + 1, fcluster(merges, 3, "maxclust").max()), (3, 2))
+
+    def test_the_order_of_points_does_not_choose_the_clusters(self):
+        draw = np.random.default_rng(12)
+        for least, nearest in [(3, 2), (5, 4), (4, 1)]:
+            # (with many equal heights)
+            points = np.unique(draw.integers(0, 14, (70, 2)), axis=0).astype(float)
+            wanted = HDBSCAN(least, min_samples=nearest, cluster_selection_method="leaf").fit(points)
+            self.assertLess(len(np.unique(wanted.tree_.w)), 12)
+            for _ in range(20):
+                order = draw.permutation(len(points))
+                found = HDBSCAN(least, min_samples=nearest, cluster_selection_method="leaf").fit(points[order])
+                self.assertEqual(len({*zip(found.labels_, wanted.labels_[order])}), len({*wanted.labels_}))
+                self.assertEqual(found.outlier_scores_.tolist(), wanted.outlier_scores_[order].tolist())
+
     def test_numbers_that_are_none(self):
         points = np.random.default_rng(0).random((10, 2))
         for words, made in [
