@@ -1,14 +1,15 @@
 #!/usr/bin/env python3
 """Tries the package for Python on drawn cases until some minutes are over, each against a reference in python/tests.
 
-usage: tests/soak_python.py [--minutes M] [--seed N] [--sort NAME --case I] [LIBRARY]
+usage: tests/soak_python.py [--minutes M] [--seed N] [--sort NAME --case I] [--drawn FOLDER] [LIBRARY]
 
-The sorts of cases are those that the files python/tests/drawn_*.py have in `SORTS`: functions that draw a case by a
+The sorts of cases are those that the files drawn_*.py of python/tests have in `SORTS`: functions that draw a case by a
 generator of numpy, and raise an error if the package isn't right.
 
   --minutes M   how long (if not set: 5); a fraction will do
   --seed N      what cases are drawn by (if not set: drawn, and printed first)
   --sort NAME   only this sort, and with --case I only that case: it depends on the seed, the sort and its number alone
+  --drawn FOLDER  where else such files are
 
 LIBRARY is crates/boruvka_c/out/libboruvka.so if none is named. Of each mismatch the words that repeat it and the error
 are printed. The last line is `N cases, M mismatches`, and the status is 0 only where M is 0. Without a Python that has
@@ -30,11 +31,11 @@ INSIDE = "BORUVKA_SOAK"
 sys.dont_write_bytecode = True
 
 
-def sorts():
+def sorts(folders):
     """The functions of all sorts, by their names."""
-    sys.path.insert(0, f"{ROOT}/python/tests")
+    sys.path[:0] = folders
     found = {}
-    for path in sorted(glob.glob(f"{ROOT}/python/tests/drawn_*.py")):
+    for path in sorted(it for folder in folders for it in glob.glob(f"{glob.escape(folder)}/drawn_*.py")):
         found.update(importlib.import_module(os.path.basename(path).removesuffix(".py")).SORTS)
     return found
 
@@ -52,7 +53,7 @@ def why_wrong(function, seed, name, number):
 
 def tried(given, seed):
     """Tries cases of each sort in turn, prints the mismatches, and returns how many cases and mismatches there were."""
-    found = {name: it for name, it in sorts().items() if given.sort in (None, name)}
+    found = {name: it for name, it in sorts([f"{ROOT}/python/tests", *given.drawn]).items() if given.sort in (None, name)}
     if not found:
         raise SystemExit(f"there is no sort {given.sort!r}")
     end, counts, mismatches, number = time.monotonic() + 60 * given.minutes, dict.fromkeys(found, 0), 0, given.case or 0
@@ -75,6 +76,7 @@ def main():
     parser.add_argument("--seed", type=int)
     parser.add_argument("--sort")
     parser.add_argument("--case", type=int)
+    parser.add_argument("--drawn", action="append", default=[])
     parser.add_argument("library", nargs="?", default=f"{ROOT}/crates/boruvka_c/out/libboruvka.so")
     given = parser.parse_args()
     if INSIDE not in os.environ:

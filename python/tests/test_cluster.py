@@ -146,7 +146,8 @@ class Reference:
                 part = [it for it in part if leaves[it] <= last]
             for it in part:
                 strengths[it] = min(1, node.end() / leaves[it])
-            parts.append(sorted(part))
+            # (all points may be farther from the whole than epsilon)
+            parts += [sorted(part)] if part else []
         return sorted(parts), strengths
 
     def outlier_scores(self):

@@ -278,10 +278,8 @@ def drawn_cases_at_length_tell_what_is_wrong(room):
     status, told, errors = run(words, env=PLAIN)
     last = re.fullmatch(r"(\d+) cases, 0 mismatches", told.decode().splitlines()[-1])
     is_so((status, bool(last) and int(last[1]) > 1, errors), (0, True, b""))
-    copy = shutil.copytree(f"{ROOT}/tests", f"{room}/tests", ignore=shutil.ignore_patterns("__pycache__"))
-    shutil.copytree(PACKAGE, f"{room}/python", ignore=shutil.ignore_patterns("__pycache__"))
-    written(f"{room}/python/tests/drawn_wrong.py", b"def wrong(draw):\n    raise AssertionError(int(draw.integers(100)))\n\n\nSORTS = {'planted': wrong}\n")
-    words[1] = f"{copy}/soak_python.py"
+    written(f"{room}/drawn_wrong.py", b"def wrong(draw):\n    raise AssertionError(int(draw.integers(100)))\n\n\nSORTS = {'planted': wrong}\n")
+    words += ["--drawn", room]
     status, told, _ = run(words, env=PLAIN)
     first = re.search(r"^soak: --seed 7 --sort 'planted' --case 0\n(?s:.*?)AssertionError: (\d+)$", told.decode(), re.M)
     is_so((status, bool(first)), (1, True))
