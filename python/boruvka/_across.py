@@ -13,8 +13,9 @@ from numpy.typing import NDArray
 from boruvka._grid import pairs_of
 from boruvka._points import Numbers, Places, Space, pieces, reached
 
-# with how many others a point may be compared, and a group on average, or in all: if bounds separate fewer, trees are faster
-_PAIRS, _PAIRS_OF_GROUPS, _FEW_PAIRS_OF_GROUPS = 64, 8, 512
+# if bounds separate fewer, trees are faster, the more so in fewer dimensions: with how many others a point may be compared
+# for the square of the dimensions, and how many points and dimensions each comparison of two groups is worth
+_PAIRS, _WORTH = 4, 32
 # so many points at each of two ends are compared first
 _ENDS = 32
 # pairs of points that are looked at at a time
@@ -81,7 +82,7 @@ class Across:
         asks = np.where(wide, heights, -np.inf)[component]
         lacks = (component[:, None] != component) & (self.gaps < np.maximum(asks[:, None], asks))
         one, other = np.nonzero(np.triu(lacks, 1))
-        if len(one) > max(_PAIRS_OF_GROUPS * self.count, _FEW_PAIRS_OF_GROUPS):
+        if len(one) * _WORTH > self.columns.size:
             is_open[:] = True
             return heights, is_open
         for place in np.argsort(self.gaps[one, other], kind="stable"):
@@ -110,7 +111,7 @@ class Across:
         mine, here, others, there = mine[near], here[near], others[beside], there[beside]
         order = np.argsort(there)
         others, counts = others[order], np.searchsorted(there[order], here + height + self.slack)
-        if counts.sum() > _PAIRS * (len(mine) + len(others)):
+        if counts.sum() > _PAIRS * len(self.columns) ** 2 * (len(mine) + len(others)):
             is_open[mine] = is_open[others] = True
             return best
         for some, their in pairs_of(np.zeros(len(counts), np.intp), counts, _NEAR):

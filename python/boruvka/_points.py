@@ -10,6 +10,7 @@ additions, so they differ in their last bits: they only decide which pairs are l
 
 from __future__ import annotations
 
+import math
 from collections.abc import Callable, Iterable, Iterator
 from copy import copy
 from typing import Any
@@ -42,12 +43,13 @@ class Space:
 
     def __init__(self, points: Numbers, p: float) -> None:
         sizes = np.abs(points)
-        most = int(np.frexp(sizes.max(initial=0.0))[1])
-        least = int(np.frexp(sizes.min(initial=np.inf, where=sizes > 0))[1])
+        most = math.frexp(sizes.max(initial=0.0))[1]
+        least = math.frexp(sizes.min(initial=np.inf, where=sizes > 0))[1]
         # two numbers that differ do so by the last bit of the smaller, or more
         self.is_tame = (least - most - 53) * (p if np.isfinite(p) else 1) > -950
         self.scale = -most if self.is_tame else 0
-        self.columns = np.ldexp(np.ascontiguousarray(points.T), self.scale)
+        columns: Numbers = np.ascontiguousarray(points.T)
+        self.columns = np.ldexp(columns, self.scale) if self.scale else columns
         self.p = p
         self.core: Numbers | None = None
 

@@ -88,7 +88,8 @@ def ways_patched(draw):
         "_points._NEIGHBOURS": [1],
         "_points._MOST_DIMENSIONS": [0, 32, 64, 64],
         "_rounds._COMPONENTS": [2, 256],
-        "_across._PAIRS": [0, 4, 256],
+        "_across._PAIRS": [0, 1, 256],
+        "_across._WORTH": [0, 0, 32],
         "_across._ENDS": [1, 32],
         "_across._NEAR": [20, 1 << 15],
     }.items():

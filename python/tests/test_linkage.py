@@ -415,7 +415,7 @@ class Clustered(unittest.TestCase):
             return compared[-1]
 
         own = Across.lightest
-        with mock.patch.object(Across, "lightest", lightest):
+        with mock.patch.object(Across, "lightest", lightest), mock.patch("boruvka._across._WORTH", 0):
             for dimensions in (2, 3, 6, 9):
                 for kind, points in enumerate(self.groups(draw, 500, dimensions)):
                     for words in ({}, {"metric": "cityblock"}, {"metric": "chebyshev"}, {"metric": "minkowski", "p": 1.5}):
@@ -428,7 +428,7 @@ class Clustered(unittest.TestCase):
     def test_where_few_pairs_are_compared_or_all(self):
         draw = np.random.default_rng(24)
         for pairs, ends in [(0, 1), (0, 32), (1 << 40, 1), (4, 3)]:
-            with mock.patch("boruvka._across._PAIRS", pairs), mock.patch("boruvka._across._ENDS", ends), mock.patch("boruvka._across._NEAR", 50):
+            with mock.patch.multiple("boruvka._across", _PAIRS=pairs, _ENDS=ends, _NEAR=50, _WORTH=0):
                 for dimensions in (2, 8):
                     for kind, points in enumerate(self.groups(draw, 400, dimensions)):
                         for nearest in (None, 4):
