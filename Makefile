@@ -60,7 +60,8 @@ help:
 	@echo '                it needs `make test` to have passed on this commit, or UNPROVED=1'
 	@echo 'make wrong      try the wrong bodies of wrong-bodies/; SINCE=origin/main tries those of the crates that changed since'
 	@echo 'make web-test   test only the page; needs Chromium with its driver, Node and the module'
-	@echo 'make soak       compare the program with a reference on random cases for MINUTES=$(MINUTES); needs Python 3 and a C compiler'
+	@echo 'make soak       compare the program with a reference on random cases for MINUTES=$(MINUTES), and for as long the Python package,'
+	@echo '                if numpy is there; needs Python 3 and a C compiler'
 	@echo 'make bench      compare its speed with a C++ program; needs Python 3, a C++17 compiler and GNU time'
 	@echo 'make clean      remove what was built, what was proved (out/ of each crate) and dist/'
 
@@ -95,8 +96,9 @@ web-test: $(PROGRAM) $(WASM)
 wrong:
 	@python3 tests/wrong_bodies.py $(if $(SINCE),--since '$(SINCE)')
 
-soak: $(PROGRAM)
+soak: $(PROGRAM) $(LIBRARY).so
 	@python3 tests/soak.py --minutes $(MINUTES) $(PROGRAM)
+	@python3 tests/soak_python.py --minutes $(MINUTES) $(LIBRARY).so
 
 # `install` proves and builds nothing: it often runs as another user. It copies what was built, and says what wasn't.
 PARTS := $(if $(wildcard $(PROGRAM)),install-program)

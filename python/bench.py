@@ -1,17 +1,22 @@
-"""Times the package beside scipy, scikit-learn and networkx, and prints the table of README.md.
+"""Times the package and other libraries on the same data, and prints the tables of README.md.
 
 usage: python3 bench.py
 
-Each time is processor time of this process, the least of five calls in turns with the other's. The machine should do
-nothing else. Below the table stand the seconds and the peak of memory of larger trees, each in a process of its own. It
-takes two minutes and 1 GB, and needs scipy, scikit-learn and networkx.
+Each time is processor time of this process, the least of five calls, interleaved with the other library's, by one thread.
+The machine should do nothing else. Below the table are the seconds and the peak of memory of larger trees, each in a
+process of its own. It takes about four minutes and 1 GB, and needs scipy, scikit-learn, fastcluster and networkx.
 """
 
 import gc
+import os
 import subprocess
 import sys
 import time
 
+# (numpy reads these when it is imported: processor time of one thread is compared with that of one thread)
+os.environ.update(OPENBLAS_NUM_THREADS="1", OMP_NUM_THREADS="1", MKL_NUM_THREADS="1")
+
+import fastcluster
 import networkx as nx
 import numpy as np
 from scipy.cluster.hierarchy import linkage
@@ -20,7 +25,7 @@ from scipy.spatial.distance import pdist
 from sklearn.cluster import AgglomerativeClustering
 
 from boruvka import minimum_spanning_forest, networkx_backend
-from boruvka.linkage import single_linkage
+from boruvka.linkage import single_linkage, spanning_tree
 from boruvka.sparse import minimum_spanning_tree
 
 EDGES = 1_000_000
@@ -44,15 +49,16 @@ print(time.process_time() - begun, peak() - before)
 """
 
 
-def least(*calls):
-    """The least milliseconds of each of these calls, in turns."""
+def least(*calls, times=1):
+    """The least milliseconds of each of these calls, interleaved; of short ones so many are timed together."""
     found = [[] for _ in calls]
     for _ in range(TURNS):
-        for call, times in zip(calls, found):
+        for call, their in zip(calls, found):
             gc.collect()
             begun = time.process_time()
-            call()
-            times.append(1000 * (time.process_time() - begun))
+            for _ in range(times):
+                call()
+            their.append(1000 * (time.process_time() - begun) / times)
     return [min(it) for it in found]
 
 
@@ -102,10 +108,33 @@ def graphs(m):
     row(["networkx, first call", "networkx, later"], f"{m:,}", "its own Kruskal", times)
 
 
-def points(n, dimensions):
-    given = np.random.default_rng(n).random((n, dimensions))
-    times = least(lambda: single_linkage(given), lambda: AgglomerativeClustering(2, linkage="single").fit(given))
-    row([f"points in {dimensions} dimensions"], f"{n:,}", "scikit-learn, single linkage", times)
+def uniform(n, dimensions):
+    return np.random.default_rng(n).random((n, dimensions))
+
+
+def clustered(n, dimensions):
+    """Points in 20 normal clusters of the deviation 1, whose centres are uniform in a cube of the side 10."""
+    draw = np.random.default_rng(n)
+    return 10 * draw.random((20, dimensions))[draw.integers(20, size=n)] + draw.normal(size=(n, dimensions))
+
+
+def points(kind, n, dimensions):
+    """A line for each of the two libraries that find single linkage of points without all their distances, and of core distances."""
+    given, what = kind(n, dimensions), f"{kind.__name__} points, {dimensions}-D"
+    ours, core, fast, theirs = least(
+        lambda: spanning_tree(given),
+        lambda: spanning_tree(given, min_samples=5),
+        lambda: fastcluster.linkage_vector(given, "single"),
+        lambda: AgglomerativeClustering(2, linkage="single").fit(given),
+    )
+    row([what], f"{n:,}", "fastcluster", [ours, fast])
+    row([what], f"{n:,}", "scikit-learn", [ours, theirs])
+    row([f"{what}, `min_samples=5`"], f"{n:,}", "scikit-learn, plain", [core, theirs])
+
+
+def few(n, dimensions):
+    given = uniform(n, dimensions)
+    row([f"points, {dimensions}-D"], f"{n:,}", "scipy's linkage", least(lambda: spanning_tree(given), lambda: linkage(given, "single"), times=20_000 // n))
 
 
 def alone(n, dimensions):
@@ -121,12 +150,16 @@ def distances(n):
 
 
 def main():
-    print("| What | Size | ms | Beside | ms | Ratio |")
+    print("| Input | Size | ms | Other library | Its ms | Ratio |")
     print("|---|---|---|---|---|---|")
     arrays(EDGES)
     graphs(100_000)
     for dimensions in (2, 5, 10):
-        points(10_000, dimensions)
+        points(uniform, 10_000, dimensions)
+    for dimensions in (2, 5, 8, 10, 11, 20):
+        points(clustered, 10_000, dimensions)
+    for n in (10, 100, 1000):
+        few(n, 2)
     distances(2_000)
     print()
     for n, dimensions in [(1_000_000, 2), (1_000_000, 3), (100_000, 5), (10_000, 100)]:

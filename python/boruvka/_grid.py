@@ -54,13 +54,18 @@ class Grid:
     def pairs(self, most: int) -> Iterator[tuple[Places, Places]]:
         """The places of near points, in the order of cells; about so many at a time at most."""
         for start, end in self.runs():
-            counts = end - start
-            before = np.append(0, np.cumsum(counts))
-            cuts = [*np.searchsorted(before, np.arange(0, before[-1], most)).tolist(), len(counts)]
-            for low, high in zip(cuts, cuts[1:]):
-                here = counts[low:high]
-                one = np.repeat(np.arange(low, high), here)
-                yield one, np.arange(before[low], before[high]) + np.repeat(start[low:high] - before[low:high], here)
+            yield from pairs_of(start, end, most)
+
+
+def pairs_of(start: Places, end: Places, most: int) -> Iterator[tuple[Places, Places]]:
+    """Each place i with all from start[i] to end[i], which isn't counted; about so many pairs at a time at most."""
+    counts = end - start
+    before = np.append(0, np.cumsum(counts))
+    cuts = [*np.searchsorted(before, np.arange(0, before[-1], most)).tolist(), len(counts)]
+    for low, high in zip(cuts, cuts[1:]):
+        here = counts[low:high]
+        one = np.repeat(np.arange(low, high), here)
+        yield one, np.arange(before[low], before[high]) + np.repeat(start[low:high] - before[low:high], here)
 
 
 def fitting_grid(columns: Numbers) -> Grid | None:

@@ -5,7 +5,7 @@ from __future__ import annotations
 import sys
 from collections.abc import Callable
 from numbers import Real
-from typing import NamedTuple
+from typing import Any, NamedTuple
 
 import numpy as np
 from numpy.typing import NDArray
@@ -23,8 +23,7 @@ class Metric(NamedTuple):
 
 def metric_of(name: str, p: float) -> Metric:
     """The metric of this name; p is the exponent of "minkowski"."""
-    if not isinstance(name, str) or name not in [*_METRICS, "minkowski"]:
-        raise ValueError(f"there is no metric {name!r}: it is one of {', '.join([*_METRICS, 'minkowski'])}")
+    expect_metric(name)
     if not isinstance(p, Real) or isinstance(p, bool):
         raise TypeError(f"p is {p!r}, and has to be a number")
     if name == "minkowski":
@@ -39,6 +38,31 @@ def metric_of(name: str, p: float) -> Metric:
     return _METRICS[name]
 
 
+def expect_metric(name: object) -> None:
+    """A ValueError if there is no metric of this name."""
+    names = [*_METRICS, "minkowski", "precomputed"]
+    if not isinstance(name, str) or name not in names:
+        raise ValueError(f"there is no metric {name!r}: it is one of {', '.join(names)}")
+
+
+def has_longitude_first(y: Any) -> bool:
+    """Whether the names of a frame's two columns say that longitudes come before latitudes."""
+    names = [str(it).strip().lower() for it in getattr(y, "columns", ())]
+    return len(names) == 2 and names[0] in _LONGITUDES and names[1] in _LATITUDES
+
+
+def why_perhaps_swapped(y: Any) -> str | None:
+    """What a warning says of a frame whose columns are named as those of a plane are: there the first leads to the east."""
+    names = [str(it) for it in getattr(y, "columns", ())]
+    if len(names) != 2 or tuple(it.strip().lower() for it in names) not in _EAST_AND_NORTH:
+        return None
+    one, other = names
+    return (
+        f"the columns {one!r} and {other!r} are taken as latitude and longitude: if {one!r} is the longitude, "
+        f"give y[[{other!r}, {one!r}]], or call them 'lon' and 'lat'"
+    )
+
+
 def _on_sphere(points: Numbers) -> Numbers:
     """Latitudes and longitudes in radians as points of the sphere."""
     if points.shape[1] != 2:
@@ -47,7 +71,10 @@ def _on_sphere(points: Numbers) -> Numbers:
     is_beyond = np.abs(latitude) > np.pi / 2 + 1e-9
     if is_beyond.any():
         row = is_beyond.argmax()
-        raise ValueError(f"the latitude of the point {row} is {latitude[row]}, past a right angle: numpy.radians makes radians of degrees")
+        # (which is how longitudes and latitudes in radians look if they are swapped)
+        are_swapped = (np.abs(latitude) <= np.pi * (1 + 1e-9)).all() and (np.abs(longitude) <= np.pi / 2 + 1e-9).all()
+        how = "y[:, ::-1] puts latitudes before longitudes" if are_swapped else "numpy.radians makes radians of degrees"
+        raise ValueError(f"the latitude of the point {row} is {latitude[row]}, past a right angle: {how}")
     found: Numbers = np.column_stack([np.cos(latitude) * np.cos(longitude), np.cos(latitude) * np.sin(longitude), np.sin(latitude)])
     return found
 
@@ -67,6 +94,10 @@ def _directions(points: Numbers) -> Numbers:
     found: Numbers = points / np.sqrt((points * points).sum(axis=1, keepdims=True))
     return found
 
+
+_LATITUDES = ("lat", "latitude", "lats", "latitudes")
+_LONGITUDES = ("lon", "lng", "long", "longitude", "lons", "lngs", "longs", "longitudes")
+_EAST_AND_NORTH = (("x", "y"), ("east", "north"), ("easting", "northing"))
 
 _METRICS = {
     "euclidean": Metric(2.0),

@@ -2,15 +2,18 @@
 
 from __future__ import annotations
 
+import numbers
 from typing import TYPE_CHECKING, Any, TypeVar
 
 import numpy as np
 from numpy.typing import ArrayLike, NDArray
 
-from boruvka._density import Condensed
-from boruvka._forest import Forest, expect_no_masks, whole
+from boruvka._condensed import CondensedTree
+from boruvka._density import Condensed, Selection
+from boruvka._forest import Forest, expect_no_masks, truth, whole
+from boruvka._metrics import has_longitude_first, why_perhaps_swapped
 from boruvka._weights import why_none
-from boruvka.linkage import cut, expect_no_rounding, spanning_tree
+from boruvka.linkage import cut, expect_no_rounding, spanning_tree, warn
 
 if TYPE_CHECKING:
     Self = TypeVar("Self", bound="_Estimator")
@@ -21,6 +24,7 @@ if TYPE_CHECKING:
         def fit_predict(self, X: ArrayLike, y: Any = None) -> NDArray[np.intp]: ...
         def get_params(self, deep: bool = True) -> dict[str, Any]: ...
         def set_params(self: Self, **params: Any) -> Self: ...
+        def __sklearn_tags__(self) -> Any: ...
         def _validate_data(self, X: ArrayLike, **words: Any) -> NDArray[np.float64]: ...
 
 else:
@@ -39,7 +43,8 @@ class _OverTree(_Estimator):
     metric: str
     p: float
 
-    def _tree_of(self, X: ArrayLike, min_samples: int | None) -> Forest:
+    def _points_of(self, X: ArrayLike) -> NDArray[np.float64]:
+        """The points, or for metric="precomputed" the distances."""
         try:
             from sklearn.utils.validation import validate_data
         except ImportError:
@@ -52,8 +57,22 @@ class _OverTree(_Estimator):
         if given.dtype.kind not in "biufO" or given.dtype.itemsize > 8:
             raise TypeError(f"{why_none(given, 'X', 'biuf')}, and has to be real numbers of up to 64 bits")
         expect_no_rounding(X, given, points, "X")
-        self.tree_ = spanning_tree(points, metric=self.metric, p=self.p, min_samples=min_samples)
-        return self.tree_
+        if self.metric == "haversine":
+            why = why_perhaps_swapped(X)
+            if why:
+                warn(why)
+            points = points[:, ::-1] if has_longitude_first(X) else points
+        return points
+
+    def _more_tags(self) -> dict[str, bool]:
+        """What scikit-learn up to 1.5 is told: that rows and columns of distances go together."""
+        return {"pairwise": self.metric == "precomputed"}
+
+    def __sklearn_tags__(self) -> Any:
+        """The same for scikit-learn from 1.6 on."""
+        tags = super().__sklearn_tags__()
+        tags.input_tags.pairwise = self.metric == "precomputed"
+        return tags
 
 
 class SingleLinkage(_OverTree):
@@ -76,6 +95,13 @@ class SingleLinkage(_OverTree):
         The cluster of each point, from 0, or -1 for noise. Clusters are numbered by their first points.
     tree_ : Forest
         The minimum spanning tree of the points.
+    children_ : ndarray of intp, shape (n_samples - 1, 2)
+        Which two clusters each merge joins, as scikit-learn's AgglomerativeClustering has them: the points are the
+        clusters 0 to n_samples - 1, and merge i makes the cluster n_samples + i.
+    distances_ : ndarray of doubles, shape (n_samples - 1,)
+        How far these two are apart.
+    n_clusters_ : int
+        How many clusters there are, without noise.
 
     Examples
     --------
@@ -107,8 +133,11 @@ class SingleLinkage(_OverTree):
             raise ValueError("give either n_clusters or distance_threshold, and None for the other")
         if self.n_clusters is not None:
             whole(self.n_clusters, "n_clusters")
-        tree = self._tree_of(X, self.min_samples)
-        self.labels_ = cut(tree.n, tree, self.n_clusters, self.distance_threshold, self.min_size)
+        self.tree_ = spanning_tree(self._points_of(X), metric=self.metric, p=self.p, min_samples=self.min_samples)
+        self.labels_ = cut(self.tree_.n, self.tree_, self.n_clusters, self.distance_threshold, self.min_size)
+        merges = self.tree_.linkage()
+        self.children_, self.distances_ = merges[:, :2].astype(np.intp), merges[:, 2].copy()
+        self.n_clusters_ = int(self.labels_.max()) + 1
         return self
 
 
@@ -126,6 +155,14 @@ class HDBSCAN(_OverTree):
         As `boruvka.linkage.spanning_tree` takes them.
     cluster_selection_method : {"eom", "leaf"}, optional
         Whether those clusters are taken that last longest together, or all that fall apart into no others.
+    cluster_selection_epsilon : float, optional
+        A cluster that fell out of another below this distance is replaced by the one it came from, and so on, but not by
+        the whole unless that may be a cluster (Malzer and Baum, 2020).
+    allow_single_cluster : bool, optional
+        Whether all points may be one cluster. Those that leave it before it ends, or, if it is given, are farther from
+        it than cluster_selection_epsilon, are noise.
+    max_cluster_size : int, optional
+        Larger clusters aren't taken by "eom". A cluster that cluster_selection_epsilon leads to may be larger.
 
     Attributes
     ----------
@@ -133,6 +170,11 @@ class HDBSCAN(_OverTree):
         The cluster of each point, from 0, or -1 for noise. Clusters are numbered by their first points.
     probabilities_ : ndarray of doubles, shape (n_samples,)
         How strongly each point belongs to its cluster: the density at which it leaves, over that at which the last does.
+    outlier_scores_ : ndarray of doubles, shape (n_samples,)
+        How much of an outlier each point is, from 0 to 1: 1 less the density at which it leaves its last cluster, over
+        that at which the last point leaves this or a cluster within it (GLOSH, Campello and others, 2015).
+    condensed_tree_ : CondensedTree
+        The tree of clusters that these are chosen from: `to_frame()` lists it, `plot()` draws it.
     tree_ : Forest
         The minimum spanning tree of mutual reachability.
 
@@ -151,22 +193,48 @@ class HDBSCAN(_OverTree):
         metric: str = "euclidean",
         p: float = 2,
         cluster_selection_method: str = "eom",
+        cluster_selection_epsilon: float = 0.0,
+        allow_single_cluster: bool = False,
+        max_cluster_size: int | None = None,
     ) -> None:
         self.min_cluster_size = min_cluster_size
         self.min_samples = min_samples
         self.metric = metric
         self.p = p
         self.cluster_selection_method = cluster_selection_method
+        self.cluster_selection_epsilon = cluster_selection_epsilon
+        self.allow_single_cluster = allow_single_cluster
+        self.max_cluster_size = max_cluster_size
 
     def fit(self, X: ArrayLike, y: Any = None) -> HDBSCAN:
         """Find the clusters of points, a row each."""
         least = whole(self.min_cluster_size, "min_cluster_size")
         if least < 2:
             raise ValueError(f"min_cluster_size is {least}, and has to be at least 2")
+        selection = self._selection(least)
+        points = self._points_of(X)
+        if self.min_samples is None and least > len(points):
+            raise ValueError(f"min_cluster_size is {least}, and X has {len(points)} points: give min_cluster_size, or min_samples, of at most so many")
+        self.tree_ = spanning_tree(points, metric=self.metric, p=self.p, min_samples=least if self.min_samples is None else self.min_samples)
+        condensed = Condensed(self.tree_.linkage(), least)
+        self.labels_, self.probabilities_, numbers = condensed.labels(condensed.chosen(selection), selection.epsilon)
+        self.outlier_scores_ = condensed.outlier_scores()
+        self.condensed_tree_ = CondensedTree(condensed, numbers)
+        return self
+
+    def _selection(self, least: int) -> Selection:
+        """How clusters are chosen, if that is given well."""
         if self.cluster_selection_method not in ("eom", "leaf"):
             raise ValueError(f"cluster_selection_method is {self.cluster_selection_method!r}, and has to be 'eom' or 'leaf'")
-        tree = self._tree_of(X, least if self.min_samples is None else self.min_samples)
-        condensed = Condensed(tree.linkage(), least)
-        taken = condensed.leaves() if self.cluster_selection_method == "leaf" else condensed.longest_lasting()
-        self.labels_, self.probabilities_ = condensed.told(taken)
-        return self
+        epsilon = self.cluster_selection_epsilon
+        if not isinstance(epsilon, numbers.Real) or isinstance(epsilon, bool):
+            raise TypeError(f"cluster_selection_epsilon is {epsilon!r}, and has to be a distance, a real number")
+        if not epsilon >= 0:
+            raise ValueError(f"cluster_selection_epsilon is {epsilon}, and a distance is at least 0")
+        most = np.inf
+        if self.max_cluster_size is not None:
+            most = whole(self.max_cluster_size, "max_cluster_size")
+            if most < least:
+                raise ValueError(f"max_cluster_size is {most}, and has to be at least min_cluster_size, which is {least}: None sets no limit")
+        may_be_whole = truth(self.allow_single_cluster, "allow_single_cluster")
+        return Selection(self.cluster_selection_method, float(epsilon), may_be_whole, most)

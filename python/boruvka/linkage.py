@@ -2,7 +2,7 @@
 
 `spanning_tree` finds the tree of points, and `labels` cuts it into clusters. The edges of the tree, in ascending order,
 are the merges of single linkage, which `single_linkage` and `merges` list. Numpy is all that they need; scipy makes
-points in up to eleven dimensions faster.
+most points faster.
 """
 
 from __future__ import annotations
@@ -10,6 +10,7 @@ from __future__ import annotations
 import numbers
 import sys
 import warnings
+from functools import lru_cache
 from typing import Any, Protocol, SupportsIndex, overload
 
 import numpy as np
@@ -18,14 +19,17 @@ from numpy.typing import ArrayLike, NDArray
 from boruvka import _library
 from boruvka._entries import expect_no_filling
 from boruvka._forest import Forest, Real, held, is_array, is_masked, minimum_spanning_forest, of_each, vertices, whole
-from boruvka._metrics import Metric, metric_of
-from boruvka._points import tree_of_points
-from boruvka._weights import why_none
+from boruvka._metrics import Metric, expect_metric, has_longitude_first, metric_of, why_perhaps_swapped
+from boruvka._points import FEW, heights_of_pairs, pieces, tree_of_points
+from boruvka._rows import tree_of_distances
+from boruvka._weights import ordered, why_none
 
 __all__ = ["labels", "merges", "single_linkage", "spanning_tree"]
 
 # up to this, each whole number is a double
 _EXACT = 1 << 53
+# by how much a distance may differ both ways: of the greatest of all, as products of matrices round, and of itself
+_ROUNDING, _NEARLY = 1e-7, 1e-5
 
 
 class SparseMatrix(Protocol):
@@ -87,7 +91,15 @@ def spanning_tree(y: ArrayLike | SparseMatrix, *, metric: str = "euclidean", p: 
         counts.
     metric : str, optional
         How far points are apart: "euclidean" ("l2"), "manhattan" ("cityblock", "l1"), "chebyshev", "minkowski",
-        "haversine" (rows are latitude and longitude in radians, lengths are radians) or "cosine".
+        "haversine", "cosine", or "precomputed".
+
+        For "haversine" each row is a latitude and then a longitude, both in radians, as in scikit-learn. Lengths are
+        radians: times 6371 they are kilometres on the earth. If y is a frame whose columns are called "lon" and "lat",
+        or likewise, their names decide, whatever their order.
+
+        For "precomputed" y has distances: a square matrix of those of all pairs, or any that needs no metric. The matrix
+        has to be symmetric and 0 on its diagonal up to rounding: 1e-5 of an entry and 1e-7 of the greatest. Of (i, j)
+        and (j, i) the lesser counts.
     p : float, optional
         The exponent of "minkowski", at least 1.
     min_samples : int, optional
@@ -100,26 +112,34 @@ def spanning_tree(y: ArrayLike | SparseMatrix, *, metric: str = "euclidean", p: 
         n - 1 edges between the vertices 0 to n - 1, in ascending order of their lengths. `index` is the place of each
         among the distances between all pairs; of a sparse matrix, among its entries.
 
+    Warns
+    -----
+    ClusterWarning of scipy, or UserWarning
+        If points look like a square matrix of distances, as scipy warns; or if points for "haversine" look like degrees,
+        or like those of a plane, whose first column leads to the east.
+
     Raises
     ------
     ValueError
         As `single_linkage` does; or if the metric isn't one of these, p is less than 1, past all doubles, or given with
-        another metric, min_samples isn't from 1 to n, a row has no place in the metric, a sparse matrix has two entries
-        in one place, or a bsr_matrix or dia_matrix stores a 0 that may fill it.
+        another metric, min_samples isn't from 1 to n, a row has no place in the metric, such as a latitude past a right
+        angle, a matrix of "precomputed" isn't square, symmetric and 0 on its diagonal, a sparse matrix has two entries in
+        one place, or a bsr_matrix or dia_matrix stores a 0 that may fill it.
     TypeError
-        As `single_linkage` does; or if p is no number, min_samples no whole number, or min_samples, p or a metric is given
-        with distances.
+        As `single_linkage` does; or if p is no number, min_samples no whole number, or min_samples, p or another metric
+        than "precomputed" is given with distances.
 
     Notes
     -----
     Heights are those of all pairs but for rounding, whatever the points are. Those of haversine are rounded by up to
-    1e-15, and near the antipode by 1e-7.
+    1e-15, and near the antipode by 1e-7. Every length that is compared with another is computed by one function, in
+    which coordinates are added in their order, and so are core distances: equal pairs have equal lengths.
 
-    Cost: points in up to eleven dimensions take time about n log n if scipy is there, and 200 bytes a point. Others take
-    n^2 d steps, of which a processor does a thousand million a second, and memory of 5 times their own. So do all points
-    but those of one dimension if p (53 + b) is 950 or more, where sizes of coordinates other than 0 differ up to 2^b
-    times, and an infinite p counts as 1. For p = 2 they are 1e127 times, for p = 10 4e12 times, and from p = 18 on any:
-    set tiny coordinates to 0 first.
+    Cost: if scipy is there, points in few dimensions, and clustered points in up to 32, take time about n log n, and 200
+    bytes a point. A sample of the points decides: others take n^2 d steps, of which a processor does a thousand million
+    a second, and memory of 5 times their own. So do all points but those of one dimension if p (53 + b) is 950 or more,
+    where sizes of coordinates other than 0 differ up to 2^b times, and an infinite p counts as 1. For p = 2 they are
+    1e127 times, for p = 10 4e12 times, and from p = 18 on any: set tiny coordinates to 0 first.
     Distances take about 40 bytes and 100 nanoseconds a pair: scipy's own linkage is several times as fast.
 
     Examples
@@ -128,6 +148,9 @@ def spanning_tree(y: ArrayLike | SparseMatrix, *, metric: str = "euclidean", p: 
     >>> spanning_tree([[0, 0], [3, 4], [0, 1]]).w
     array([1.        , 4.24264069])
     """
+    expect_metric(metric)
+    if metric == "precomputed":
+        return _of_precomputed(y, p, min_samples)
     if hasattr(y, "tocoo"):
         _expect_points(metric, p, min_samples, "a sparse matrix")
         return _of_entries(y)
@@ -144,12 +167,22 @@ def spanning_tree(y: ArrayLike | SparseMatrix, *, metric: str = "euclidean", p: 
         row, column = np.unravel_index(are_finite.argmin(), given.shape)
         raise ValueError(f"a coordinate of the point {row} isn't finite: y[{row}, {column}] is {given[row, column]}")
     if _are_distances(given):
-        _warn("y is square, symmetric and 0 on its diagonal: its rows are taken as points, not as distances")
-    tree = _of_points(given, metric_of(metric, p), min_samples)
-    if metric == "haversine" and (np.abs(given[:, 1]) > 2 * np.pi).any():
+        warn('y is square, symmetric and 0 on its diagonal: its rows are taken as points, not as distances, which metric="precomputed" takes')
+    if metric == "haversine":
+        given = _latitudes_first(y, given)
+    return _of_points(given, metric_of(metric, p), min_samples)
+
+
+def _latitudes_first(y: Any, given: NDArray[np.float64]) -> NDArray[np.float64]:
+    """Latitudes and longitudes in this order, if the names of a frame's columns say which they are; with a warning if they may be others."""
+    given = given[:, ::-1] if has_longitude_first(y) else given
+    why = why_perhaps_swapped(y)
+    if why:
+        warn(why)
+    if given.shape[1] == 2 and (np.abs(given[:, 1]) > 2 * np.pi).any() and not (np.abs(given[:, 0]) > np.pi / 2 + 1e-9).any():
         row = np.abs(given[:, 1]).argmax()
-        _warn(f"the longitude of the point {row} is {given[row, 1]}, past a full turn: it is taken as radians, and numpy.radians makes them of degrees")
-    return tree
+        warn(f"the longitude of the point {row} is {given[row, 1]}, past a full turn: it is taken as radians, and numpy.radians makes them of degrees")
+    return given
 
 
 def merges(n: SupportsIndex, forest: Forest) -> NDArray[np.float64]:
@@ -226,7 +259,7 @@ def labels(
     height : float, optional
         Edges count for which numpy says `forest.w <= height`, or `>=` of a maximum forest. Give either this or `clusters`.
     min_size : int, optional
-        Clusters of fewer vertices are noise.
+        Clusters of fewer vertices are noise. It is at least 0.
 
     Returns
     -------
@@ -236,7 +269,7 @@ def labels(
     Raises
     ------
     ValueError
-        If there can't be so many clusters, the height is NaN, the forest has n edges or more or another vertex, or edges
+        If there can't be so many clusters, min_size is negative, the height is NaN, the forest has n edges or more or another vertex, or edges
         that count close a cycle.
     TypeError
         If not just one of `clusters` and `height` is given, n, `clusters` or `min_size` is no whole number, `height` is no
@@ -267,6 +300,8 @@ def cut(n: SupportsIndex, forest: Forest, clusters: SupportsIndex | None, height
     """As `labels`, of which just one of `clusters` and `height` is wanted."""
     forest = _best_first(forest)
     count, least_size = whole(n, "n"), whole(min_size, "min_size")
+    if least_size < 0:
+        raise ValueError(f"min_size is {least_size}, and a cluster has at least 0 vertices: 1 leaves all clusters")
     if not forest.n <= count <= _library.MAX_VERTICES:
         raise ValueError(f"n is {count}, and has to be from {forest.n}, the number of the forest's vertices, to 2^26")
     low, high = vertices(count, forest.u, "forest.u", forest.v), vertices(count, forest.v, "forest.v", forest.u)
@@ -336,8 +371,8 @@ def expect_no_rounding(y: Any, given: NDArray[Any], numbers: NDArray[np.float64]
         return
     if is_frame:
         # (its columns may have other dtypes than they have side by side)
-        for place in range(given.shape[1]):
-            of_each(y.iloc[:, place].tolist(), numbers[:, place], f"{name}.iloc[:, {place}]")
+        for column in range(given.shape[1]):
+            of_each(y.iloc[:, column].tolist(), numbers[:, column], f"{name}.iloc[:, {column}]")
     elif given.ndim == 2:
         for row, each in enumerate(y):
             of_each(list(each), numbers[row], f"{name}[{row}]")
@@ -355,14 +390,19 @@ def _first_rounded(given: NDArray[Any], numbers: NDArray[np.float64]) -> tuple[i
 
 
 def _are_distances(points: NDArray[np.float64]) -> bool:
-    """Whether it looks like a square matrix of distances, which is a mistake that is easily made."""
-    return points.shape[0] == points.shape[1] > 1 and not points.diagonal().any() and bool((points == points.T).all())
+    """Whether it looks like a square matrix of distances, which is a mistake that is easily made.
+
+    Scipy's rule is taken over: such a matrix may be symmetric up to rounding.
+    """
+    if not points.shape[0] == points.shape[1] > 1 or not np.allclose(points.diagonal(), 0):
+        return False
+    return bool((points >= 0).all() and np.allclose(points, points.T))
 
 
-def _warn(words: str) -> None:
-    """Warns as scipy does, at the line that called this module."""
+def warn(words: str) -> None:
+    """Warns as scipy does, at the line that called this package, by way of scikit-learn or not."""
     level, frame = 1, sys._getframe()
-    while frame.f_back and frame.f_globals["__name__"] == __name__:
+    while frame.f_back and frame.f_globals["__name__"].partition(".")[0] in ("boruvka", "sklearn"):
         level, frame = level + 1, frame.f_back
     try:
         from scipy.cluster.hierarchy import ClusterWarning as category
@@ -372,20 +412,89 @@ def _warn(words: str) -> None:
 
 
 def _of_distances(distances: NDArray[np.float64]) -> Forest:
+    n = _points_of_pairs(distances)
+    return minimum_spanning_forest(n, *_pairs(n), distances)
+
+
+def _points_of_pairs(distances: NDArray[np.float64]) -> int:
+    """How many points have these distances between all pairs. A ValueError if they are none."""
     if not len(distances):
         raise ValueError("there is no point and no distance: one point is a row, [[x, y]]")
     if not np.isfinite(distances).all() or (distances < 0).any():
         place = (~np.isfinite(distances) | (distances < 0)).argmax()
         raise ValueError(f"y[{place}] is {distances[place]}: a distance isn't finite, or is negative")
-    n = (1 + round((1 + 8 * len(distances)) ** 0.5)) // 2
+    n = (1 + int(round((1 + 8 * len(distances)) ** 0.5))) // 2
     if n * (n - 1) // 2 != len(distances):
         raise ValueError(f"{len(distances)} distances aren't those between all pairs of any number of points: points in one dimension are y[:, None]")
-    return minimum_spanning_forest(n, *_pairs(n), distances)
+    return n
+
+
+def _of_precomputed(y: Any, p: float, min_samples: int | None) -> Forest:
+    """The tree of distances, which are the entries of a square or a sparse matrix, or those of all pairs in a row."""
+    if p != 2:
+        raise ValueError(f"p is {p}, and only the metric 'minkowski' has an exponent")
+    if hasattr(y, "tocoo"):
+        if min_samples is not None:
+            raise TypeError("y is a sparse matrix of distances, and min_samples is for those of all pairs: give a square array of them")
+        return _of_entries(y)
+    given = _numbers(y)
+    if given.ndim == 1 and min_samples is None:
+        return _of_distances(given)
+    if given.ndim == 1:
+        n = _points_of_pairs(given)
+        square, (low, high) = np.zeros((n, n)), _pairs(n)
+        square[low, high] = square[high, low] = given
+    else:
+        square = expect_distances(given)
+    n = len(square)
+    one, other, lengths = tree_of_distances(square, _nearest(min_samples, n))
+    tree = minimum_spanning_forest(n, one, other, lengths)
+    return tree._replace(index=_place_of_pair(n, tree.u, tree.v))
+
+
+def expect_distances(given: NDArray[np.float64]) -> NDArray[np.float64]:
+    """The distances of a square matrix, of (i, j) and (j, i) the lesser. A ValueError if it isn't symmetric up to rounding."""
+    if given.ndim != 2 or given.shape[0] != given.shape[1] or not len(given):
+        raise ValueError(f'y has the shape {given.shape}, and metric="precomputed" takes a square matrix of distances, or those of all pairs in one dimension')
+    least, greatest = np.empty_like(given), given.max()
+    if (given.diagonal() > _ROUNDING * greatest).any():
+        row = int((given.diagonal() > _ROUNDING * greatest).argmax())
+        raise ValueError(f'y[{row}, {row}] is {given[row, row]}, and the distance of a point to itself is 0: metric="precomputed" takes distances, not points or similarities')
+    for some in pieces(np.arange(len(given)), len(given)):
+        part = least[some[0] : some[-1] + 1]
+        np.minimum(given[some], given[:, some].T, out=part)
+        _expect_same_both_ways(given, some, part, greatest)
+    np.fill_diagonal(least, 0)
+    return least
+
+
+def _expect_same_both_ways(given: NDArray[np.float64], some: NDArray[np.intp], least: NDArray[np.float64], greatest: float) -> None:
+    """A ValueError if a distance in some rows isn't the lesser of both ways, up to rounding, or is none."""
+    rows = given[some]
+    is_wrong = ~np.isfinite(rows) | (rows < 0)
+    if is_wrong.any():
+        row, column = np.unravel_index(is_wrong.argmax(), rows.shape)
+        raise ValueError(f"y[{some[row]}, {column}] is {rows[row, column]}: a distance isn't finite, or is negative")
+    is_wrong = rows - least > _ROUNDING * greatest + _NEARLY * least
+    if is_wrong.any():
+        row, column = np.unravel_index(is_wrong.argmax(), rows.shape)
+        row = some[row]
+        raise ValueError(f"y[{row}, {column}] is {given[row, column]}, and y[{column}, {row}] is {given[column, row]}: a distance is the same both ways, as numpy.minimum(y, y.T) makes it")
+
+
+def _nearest(min_samples: int | None, n: int) -> int | None:
+    """How many of n points tell how far a point reaches, itself counted, if that was given."""
+    if min_samples is not None and not 1 <= whole(min_samples, "min_samples") <= n:
+        raise ValueError(f"min_samples is {min_samples}, and has to be from 1 to {n}, the number of points")
+    return min_samples
 
 
 def _expect_points(metric: str, p: float, min_samples: int | None, given: str) -> None:
     if metric != "euclidean" or p != 2 or min_samples is not None:
-        raise TypeError(f"y is distances, as {given} says: a metric, p and min_samples want points, a row each; of one dimension y[:, None]")
+        raise TypeError(
+            f'y is distances, as {given} says: metric="precomputed" takes these, with min_samples if those of all pairs are there; '
+            "other metrics, p and min_samples are for points, a row each; of one dimension y[:, None]"
+        )
 
 
 def _of_entries(matrix: Any) -> Forest:
@@ -406,21 +515,33 @@ def _of_entries(matrix: Any) -> Forest:
 
 
 def _of_points(points: NDArray[np.float64], metric: Metric, min_samples: int | None) -> Forest:
-    n = len(points)
-    if min_samples is not None and not 1 <= whole(min_samples, "min_samples") <= n:
-        raise ValueError(f"min_samples is {min_samples}, and has to be from 1 to {n}, the number of points")
-    one, other, lengths = tree_of_points(metric.placed(points), metric.p, min_samples)
-    lengths = metric.told(lengths)
-    if not np.isfinite(lengths).all():
-        place = np.flatnonzero(~np.isfinite(lengths))[0]
-        raise ValueError(f"points {one[place]} and {other[place]} are so far apart that doubles don't hold their distance")
-    tree = minimum_spanning_forest(n, one, other, lengths)
-    return tree._replace(index=_place_of_pair(n, tree.u, tree.v))
+    n, min_samples = len(points), _nearest(min_samples, len(points))
+    placed = metric.placed(points)
+    if n <= FEW:
+        low, high, places = _few_pairs(n)
+        heights = metric.told(heights_of_pairs(placed, metric.p, min_samples, places))
+        index = _library.places(n, low, high, ordered(heights))
+        tree = Forest(low[index].astype(np.intp), high[index].astype(np.intp), heights[index], index.astype(np.intp), n)
+    else:
+        one, other, lengths = tree_of_points(placed, metric.p, min_samples)
+        tree = minimum_spanning_forest(n, one, other, metric.told(lengths))
+        tree = tree._replace(index=_place_of_pair(n, tree.u, tree.v))
+    if len(tree) and not np.isfinite(tree.w[-1]):
+        place = np.flatnonzero(~np.isfinite(tree.w))[0]
+        raise ValueError(f"points {tree.u[place]} and {tree.v[place]} are so far apart that doubles don't hold their distance")
+    return tree
 
 
 def _place_of_pair(n: int, u: NDArray[np.intp], v: NDArray[np.intp]) -> NDArray[np.intp]:
     """Where the distance of u < v stands among those between all pairs."""
     return u * n - u * (u + 1) // 2 + v - u - 1
+
+
+@lru_cache(maxsize=8)
+def _few_pairs(n: int) -> tuple[NDArray[np.uint32], NDArray[np.uint32], NDArray[np.intp]]:
+    """The same of a few points, with their places in a square; 200 KB at most, kept as they take longer than the rest."""
+    low, high = _pairs(n)
+    return low.view(np.uint32), high.view(np.uint32), low * np.intp(n) + high
 
 
 def _pairs(n: int) -> tuple[NDArray[np.int32], NDArray[np.int32]]:

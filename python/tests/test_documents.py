@@ -87,7 +87,7 @@ class Readme(unittest.TestCase):
         with open(f"{TOP}/README.md", encoding="utf-8") as it:
             blocks = it.read().split("```")[1::2]
         shown = [it.removeprefix("pycon\n") for it in blocks if it.startswith("pycon\n")]
-        kept = "\n".join(it for it in shown if "boruvka.sparse" not in it or there("scipy"))
+        kept = "\n".join(it for it in shown if ("boruvka.sparse" not in it or there("scipy")) and ("boruvka.cluster" not in it or there("sklearn")))
         (points,) = [it.removeprefix("text\n") for it in blocks if it.startswith("text\n")]
         self.assertGreaterEqual(len(shown), 3)
         test = doctest.DocTestParser().get_doctest(kept, {}, "README.md", "README.md", 0)
@@ -98,6 +98,16 @@ class Readme(unittest.TestCase):
             doctest.DocTestRunner(verbose=False).run(test, out=told.write)
         self.assertEqual(told.getvalue(), "")
         self.assertGreaterEqual(len(test.examples), 5)
+
+
+class ComingFrom(unittest.TestCase):
+    @unittest.skipUnless(there("sklearn", "pandas"), "there is no scikit-learn, or no pandas")
+    def test_what_it_shows(self):
+        with open(f"{TOP}/COMING_FROM.md", encoding="utf-8") as it:
+            shown = [block.removeprefix("pycon\n") for block in it.read().split("```")[1::2]]
+        test, told = doctest.DocTestParser().get_doctest("\n".join(shown), {}, "COMING_FROM.md", "COMING_FROM.md", 0), io.StringIO()
+        doctest.DocTestRunner(verbose=False, optionflags=doctest.NORMALIZE_WHITESPACE).run(test, out=told.write)
+        self.assertEqual((told.getvalue(), len(test.examples) >= 6), ("", True))
 
 
 class Examples(unittest.TestCase):

@@ -9,7 +9,8 @@ from unittest import mock
 import numpy as np
 from graphs import Components, Graph, kruskal
 
-from boruvka import Forest, _points, minimum_spanning_forest
+from boruvka import Forest, _points, _rounds, minimum_spanning_forest
+from boruvka._across import Across
 from boruvka.linkage import labels, merges, single_linkage, spanning_tree
 
 
@@ -24,7 +25,7 @@ def there(name):
 
 try:
     from scipy.cluster import hierarchy
-    from scipy.spatial.distance import pdist
+    from scipy.spatial.distance import pdist, squareform
 except ImportError:
     hierarchy = None
 
@@ -148,6 +149,58 @@ class Refused(unittest.TestCase):
             single_linkage([[0, 1], [2, 0]])
             single_linkage([[0]])
 
+    def test_a_matrix_of_distances_that_is_symmetric_up_to_rounding(self):
+        """What scikit-learn's pairwise_distances returns: scipy warns of it, by the same rule."""
+        draw = np.random.default_rng(30)
+        points = draw.random((40, 3))
+        square = np.sqrt(((points[:, None] - points[None]) ** 2).sum(axis=2))
+        rounded = square * (1 + 1e-15 * draw.integers(-4, 5, square.shape))
+        self.assertFalse((rounded == rounded.T).all())
+        for given in (rounded, rounded + np.diag(np.full(40, 1e-12))):
+            with self.assertWarnsRegex(UserWarning, 'its rows are taken as points, not as distances, which metric="precomputed" takes$'):
+                spanning_tree(given)
+            if hierarchy:
+                with self.assertWarns(hierarchy.ClusterWarning):
+                    hierarchy.linkage(given, "single")
+        with warnings.catch_warnings():
+            warnings.simplefilter("error")
+            for given in (square + np.triu(square), -square, square + np.eye(40)):
+                spanning_tree(given)
+                if hierarchy:
+                    hierarchy.linkage(given, "single")
+
+    def test_distances_that_are_none(self):
+        square = np.array([[0.0, 1, 2], [1, 0, 3], [2, 3, 0]])
+        for change, words in [
+            ((0, 1, 1.1), r"^y\[0, 1\] is 1\.1, and y\[1, 0\] is 1\.0: a distance is the same both ways, as numpy\.minimum\(y, y\.T\) makes it$"),
+            ((2, 1, 2.9), r"^y\[1, 2\] is 3\.0, and y\[2, 1\] is 2\.9: "),
+            ((1, 1, 0.5), r"^y\[1, 1\] is 0\.5, and the distance of a point to itself is 0: "),
+            ((0, 2, -2), r"^y\[0, 2\] is -2\.0: a distance isn't finite, or is negative$"),
+            ((0, 2, np.inf), r"^y\[0, 2\] is inf: "),
+            ((0, 2, np.nan), r"^y\[0, 2\] is nan: "),
+        ]:
+            wrong = square.copy()
+            wrong[change[:2]] = change[2]
+            with self.assertRaisesRegex(ValueError, words):
+                spanning_tree(wrong, metric="precomputed")
+        for wrong in (square[:, :2], square[None], np.empty((0, 0))):
+            with self.assertRaisesRegex(ValueError, "^y has the shape .* takes a square matrix of distances"):
+                spanning_tree(wrong, metric="precomputed")
+        with self.assertRaisesRegex(ValueError, "^p is 3, and only"):
+            spanning_tree(square, metric="precomputed", p=3)
+        with self.assertRaisesRegex(ValueError, "^min_samples is 4, "):
+            spanning_tree(square, metric="precomputed", min_samples=4)
+        with self.assertRaisesRegex(ValueError, "^2 distances aren't"):
+            spanning_tree([1.0, 2.0], metric="precomputed", min_samples=2)
+        with self.assertRaisesRegex(TypeError, "^y has the dtype"):
+            spanning_tree([["a", "b"], ["c", "d"]], metric="precomputed")
+
+    def test_clusters_of_a_negative_size(self):
+        for call in (lambda it: labels(10, ROADS, clusters=4, min_size=it), lambda it: ROADS.labels(height=3, min_size=it)):
+            with self.assertRaisesRegex(ValueError, "^min_size is -1, and a cluster has at least 0 vertices: "):
+                call(-1)
+            self.assertEqual(call(0).tolist(), call(1).tolist())
+
     def test_clusters_that_cannot_be(self):
         for clusters in (-1, 0, 1, 11):
             with self.assertRaisesRegex(ValueError, f"^{clusters} clusters .* 2 to 10$"):
@@ -194,14 +247,18 @@ class Refused(unittest.TestCase):
 
 class Exact(unittest.TestCase):
     def expect_all_pairs(self, points):
-        """The tree connects all points, by edges of just the lengths of the tree of all pairs but for rounding."""
-        with warnings.catch_warnings():
-            # (two equal points of a plane look like distances)
-            warnings.simplefilter("ignore", UserWarning)
-            tree = spanning_tree(points)
-        self.assertEqual(len(np.unique(labels(len(points), tree, height=np.inf))), 1)
-        np.testing.assert_allclose(tree.w, heights_of_all_pairs(points), rtol=1e-13, atol=0)
-        return tree
+        """The tree connects all points, by edges of just the lengths of the tree of all pairs but for rounding.
+
+        It does both if few points are compared pair by pair and if they aren't.
+        """
+        wanted = heights_of_all_pairs(points)
+        for few in (_points.FEW, 0):
+            with warnings.catch_warnings(), mock.patch("boruvka.linkage.FEW", few):
+                # (two equal points of a plane look like distances)
+                warnings.simplefilter("ignore", UserWarning)
+                tree = spanning_tree(points)
+            self.assertEqual(len(np.unique(labels(len(points), tree, height=np.inf))), 1)
+            np.testing.assert_allclose(tree.w, wanted, rtol=1e-13, atol=0)
 
     def test_points_of_all_kinds_in_1_to_50_dimensions(self):
         draw = np.random.default_rng(8)
@@ -219,8 +276,8 @@ class Exact(unittest.TestCase):
             fitting.append(own(columns))
             return fitting[-1]
 
-        own = _points.fitting_grid
-        with mock.patch("boruvka._grid._FEW", 2), mock.patch("boruvka._points.fitting_grid", fitting_grid):
+        own = _rounds.fitting_grid
+        with mock.patch("boruvka._grid._FEW", 2), mock.patch("boruvka._rounds.fitting_grid", fitting_grid):
             for dimensions in (2, 3):
                 for n in (3, 50, 200):
                     for kind, points in enumerate(clouds(draw, n, dimensions)):
@@ -235,10 +292,10 @@ class Exact(unittest.TestCase):
         draw = np.random.default_rng(11)
         for points in (draw.random((5000, 2)), draw.normal(size=(5000, 3)), np.round(draw.random((5000, 2)), 2)):
             if there("scipy"):
-                self.assertIsNotNone(_points.fitting_grid(points.T))
+                self.assertIsNotNone(_rounds.fitting_grid(points.T))
             for words in WORDS:
                 found = spanning_tree(points, **words).w
-                with mock.patch("boruvka._points.fitting_grid", lambda _: None):
+                with mock.patch("boruvka._rounds.fitting_grid", lambda _: None):
                     np.testing.assert_allclose(found, spanning_tree(points, **words).w, rtol=1e-13, atol=0)
             if hierarchy:
                 wanted = hierarchy.linkage(points, "single")[:, 2]
@@ -247,13 +304,13 @@ class Exact(unittest.TestCase):
     def test_pieces_of_work_are_all_points_in_their_order(self):
         points = np.arange(3000)
         for width in (1, 8, 1 << 15, 1 << 16, 1 << 20, 1 << 22):
-            found = list(islice(_points._paced(points, width), 4000))
+            found = list(islice(_rounds.paced(points, width), 4000))
             self.assertEqual(np.concatenate(found).tolist(), points.tolist())
-            self.assertLessEqual(max(map(len, found)), max(_points._PIECE // width, 1))
+            self.assertLessEqual(max(map(len, found)), max(_points.PIECE // width, 1))
 
     def test_by_rows_too(self):
         draw = np.random.default_rng(9)
-        with mock.patch("boruvka._points._trees_for", lambda _: None):
+        with mock.patch("boruvka._points.trees_for", lambda _: None):
             for dimensions in (2, 3, 9):
                 for points in clouds(draw, 60, dimensions):
                     self.expect_all_pairs(points)
@@ -293,9 +350,17 @@ class Exact(unittest.TestCase):
         ]:  # fmt: skip
             points = np.array([[1.0, 2.0**-bits], [0.0, 1.0]])
             with self.subTest(p=p, bits=bits):
-                self.assertEqual(_points._trees_for(_points.Space(points, p)) is not None, is_fast)
-        for dimensions, is_fast in [(1, True), (11, True), (12, False), (50, False)]:
-            self.assertEqual(_points._trees_for(_points.Space(np.ones((3, dimensions)), 2)) is not None, is_fast)
+                self.assertEqual(_points.trees_for(_points.Space(points, p)) is not None, is_fast)
+        draw = np.random.default_rng(22)
+        even, centres = draw.random((4000, 33)), draw.random((20, 33)) * 10
+        apart = centres[draw.integers(20, size=4000)] + draw.normal(size=(4000, 33))
+        for points, dimensions, is_fast in [
+            (even, 1, True), (even, 6, True), (even, 10, True), (even, 24, False), (even[:2000], 24, True), (even, 33, False),
+            (apart, 1, True), (apart, 10, True), (apart, 24, True), (apart, 33, False),
+        ]:  # fmt: skip
+            with self.subTest(dimensions=dimensions, n=len(points)):
+                space = _points.Space(points[:, :dimensions], 2)
+                self.assertEqual(_points.trees_for(space) is not None, is_fast)
 
     def test_many_copies(self):
         draw = np.random.default_rng(16)
@@ -314,6 +379,154 @@ class Exact(unittest.TestCase):
                     scale = 2.0 ** np.frexp(np.abs(points).max())[1]
                     wanted = hierarchy.linkage(points / scale, "single")[:, 2] * scale
                     np.testing.assert_allclose(spanning_tree(points).w, wanted, rtol=1e-12, atol=0)
+
+
+@unittest.skipUnless(hierarchy, "there is no scipy")
+class Clustered(unittest.TestCase):
+    """Points in clusters that lie apart, in a few groups: bounds between these tell which pairs are compared."""
+
+    def heights(self, points, nearest=None, **words):
+        """By scipy's distances and its single linkage."""
+        distances = pdist(points, **words)
+        if nearest:
+            square = squareform(distances)
+            core = np.sort(square, axis=1)[:, nearest - 1]
+            distances = squareform(np.maximum(np.maximum(square, core[:, None]), core[None]) * (1 - np.eye(len(points))))
+        return hierarchy.linkage(distances, "single")[:, 2]
+
+    def groups(self, draw, n, dimensions):
+        """Points in groups of several kinds, which lie apart but for the last."""
+        centres, which = draw.random((7, dimensions)) * 30, draw.integers(0, 7, n)
+        apart = draw.normal(size=(n, dimensions))
+        yield centres[which] + apart
+        yield centres[which] + 1e-6 * apart
+        yield 1e9 + centres[which] + apart
+        yield np.round(centres[which] + apart)
+        yield np.where(which[:, None] < 3, centres[which] + apart, 100 * apart)
+        # rings within rings, whose centres are in one place
+        yield (1 + which[:, None] // 2 * 3) * apart / np.linalg.norm(apart, axis=1)[:, None]
+        yield apart * [9] + which[:, None] / 2
+
+    def test_each_metric_and_mutual_reachability(self):
+        draw, compared = np.random.default_rng(23), []
+
+        def lightest(self, *given):
+            compared.append(own(self, *given))
+            return compared[-1]
+
+        own = Across.lightest
+        with mock.patch.object(Across, "lightest", lightest), mock.patch("boruvka._across._WORTH", 0):
+            for dimensions in (2, 3, 6, 9):
+                for kind, points in enumerate(self.groups(draw, 500, dimensions)):
+                    for words in ({}, {"metric": "cityblock"}, {"metric": "chebyshev"}, {"metric": "minkowski", "p": 1.5}):
+                        for nearest in (None, 6):
+                            with self.subTest(dimensions=dimensions, kind=kind, nearest=nearest, **words):
+                                found = spanning_tree(points, **words, min_samples=nearest).w
+                                np.testing.assert_allclose(found, self.heights(points, nearest, **words), rtol=1e-9 if kind == 2 else 1e-12, atol=0)
+        self.assertGreater(len(compared), 100)
+
+    def test_where_few_pairs_are_compared_or_all(self):
+        draw = np.random.default_rng(24)
+        for pairs, ends in [(0, 1), (0, 32), (1 << 40, 1), (4, 3)]:
+            with mock.patch.multiple("boruvka._across", _PAIRS=pairs, _ENDS=ends, _NEAR=50, _WORTH=0):
+                for dimensions in (2, 8):
+                    for kind, points in enumerate(self.groups(draw, 400, dimensions)):
+                        for nearest in (None, 4):
+                            with self.subTest(pairs=pairs, ends=ends, dimensions=dimensions, kind=kind, nearest=nearest):
+                                found = spanning_tree(points, min_samples=nearest).w
+                                np.testing.assert_allclose(found, self.heights(points, nearest), rtol=1e-9 if kind == 2 else 1e-12, atol=0)
+
+    def test_bounds_are_below_all_distances(self):
+        draw = np.random.default_rng(25)
+        for p in (1.0, 1.1, 2.0, 3.5, np.inf):
+            for dimensions in (2, 5, 20):
+                for kind, points in enumerate(self.groups(draw, 90, dimensions)):
+                    space, group = _points.Space(points, p), draw.integers(0, 5, 90).astype(np.int32)
+                    gaps = Across(space, None, group, 5).gaps
+                    one, other = np.triu_indices(90, 1)
+                    with self.subTest(p=p, dimensions=dimensions, kind=kind):
+                        self.assertTrue((gaps[group[one], group[other]] <= space.lengths(one, other)).all())
+                        # (two groups of a point each are as far apart as these)
+                        two = _points.Space(points[:2], p)
+                        alone = Across(two, None, np.array([0, 1], np.int32), 2).gaps[0, 1]
+                        self.assertGreater(alone, two.lengths(np.array([0]), np.array([1]))[0] * (1 - 1e-6) - 1e-9)
+
+
+class Lengths(unittest.TestCase):
+    """A length depends on its two points alone, and lengths from two sources are compared with room."""
+
+    def test_a_length_depends_on_its_two_points_alone(self):
+        draw = np.random.default_rng(26)
+        for dimensions in (1, 2, 7, 8, 9, 16, 20, 33, 130):
+            points = draw.normal(size=(40, dimensions))
+            for p in (1.0, 2.0, 2.5, np.inf):
+                space = _points.Space(points, p)
+                steps = space.columns[:, 1:] - space.columns[:, :1]
+                wanted = space.norms(steps.copy()).tolist()
+                with self.subTest(dimensions=dimensions, p=p):
+                    self.assertEqual(space.norms(steps.copy(order="F")).tolist(), wanted)
+                    self.assertEqual([space.norms(steps[:, it : it + 1].copy())[0] for it in range(39)], wanted)
+                    self.assertEqual([space.norms(steps[:, it - 1 : it + 1].copy())[-1] for it in range(1, 39)], wanted[1:])
+                    self.assertEqual(space.norms(-steps).tolist(), wanted)
+
+    def test_heights_are_lengths_of_the_pairs_to_the_last_bit(self):
+        """Those of trees, of a grid and of rows too; and so are core distances."""
+        draw = np.random.default_rng(27)
+        for dimensions, n in [(2, 5000), (3, 5000), (5, 400), (9, 400), (40, 400)]:
+            points = draw.normal(size=(n, dimensions))
+            space = _points.Space(points, 2)
+            tree = spanning_tree(points)
+            self.assertEqual(tree.w.tolist(), space.heights(tree.u, tree.v).tolist())
+            if n < 1000:
+                one, other = np.triu_indices(n, 1)
+                square = np.zeros((n, n))
+                square[one, other] = square[other, one] = space.heights(one, other)
+                core = np.sort(square, axis=1)[:, 4]
+                tree = spanning_tree(points, min_samples=5)
+                self.assertEqual(tree.w.tolist(), np.maximum(square, np.maximum(core[:, None], core))[tree.u, tree.v].tolist())
+
+    @unittest.skipUnless(hierarchy, "there is no scipy")
+    def test_lengths_that_differ_by_the_last_bit_around_the_reach_of_a_grid(self):
+        """Two clouds, and a way between them that numpy finds as long as the grid's reach, and a k-d tree a bit shorter."""
+        for seed in (1, 3, 4):
+            points = self.beside_the_reach(seed, 2.5)
+            self.assertIsNotNone(points)
+            # (turned round too, as the way is noted by one of its ends)
+            for given in (points, [2.04, 0] + points * [-1, 1]):
+                wanted = hierarchy.linkage(pdist(given, "minkowski", p=2.5), "single")[:, 2]
+                found = spanning_tree(given, metric="minkowski", p=2.5).w
+                np.testing.assert_allclose(found, wanted, rtol=1e-12, atol=0)
+
+    def beside_the_reach(self, seed, p):
+        """About 5,000 points in two clouds, of which one near each other's edge are so far apart; or None."""
+        from scipy.spatial import cKDTree
+
+        draw = np.random.default_rng(seed)
+        left, right = draw.random((2600, 2)), draw.random((2400, 2)) + [1.04, 0]
+        left = left[(left[:, 0] < 0.97) | (left[:, 0] < 0.985) & (abs(left[:, 1] - 0.5) < 0.1)]
+        right = right[(right[:, 0] > 1.06) | (right[:, 0] > 1.045) & (abs(right[:, 1] - 0.5) < 0.1)]
+        # (so that the grid doesn't depend on the last two)
+        left[0], right[0] = (0, 0), (2.04, 1)
+        one = np.array([1.0, 0.5])
+        made = [np.concatenate([left, right, [one, [1.03, 0.5]]])]
+        space, reach = self.reach_of(made[0], p)
+        unit, heights = 2.0**space.scale, 0.5 + draw.random(50_000) * 0.01
+        steps = (reach**p - ((heights - 0.5) * unit) ** p) ** (1 / p) / unit
+        for bits in range(-3, 4):
+            places = 1.0 + steps + bits * np.spacing(1.0 + steps)
+            lengths = space.norms(np.stack([(1.0 - places) * unit, (0.5 - heights) * unit]))
+            for it in np.flatnonzero(np.abs(lengths - reach) <= 3 * np.spacing(reach)):
+                other = np.array([places[it], heights[it]])
+                shorter = cKDTree([one * unit]).query(other[None] * unit, [1], p=p)[0][0, 0]
+                if lengths[it] >= reach > shorter:
+                    made.append(np.concatenate([left, right, [one, other]]))
+                    return made[1] if self.reach_of(made[1], p)[1] == reach else None
+        return None
+
+    def reach_of(self, points, p):
+        space = _points.Space(points, p)
+        grid = _rounds.fitting_grid(space.columns)
+        return space, 0.0 if grid is None else grid.reach
 
 
 WORDS = [{}, {"metric": "manhattan"}, {"metric": "chebyshev"}, {"metric": "minkowski", "p": 2.5}, {"min_samples": 6}]
@@ -363,6 +576,56 @@ class Metrics(unittest.TestCase):
                     found = spanning_tree(points, min_samples=4).w
                     np.testing.assert_allclose(found, self.heights(np.asarray(points, float), "euclidean", 4), rtol=1e-13)
 
+    def test_distances_of_all_pairs(self):
+        """As a square, up to rounding, and as a row, with mutual reachability too."""
+        draw = np.random.default_rng(31)
+        for n in (2, 3, 30):
+            points = draw.normal(size=(n, 4))
+            square = np.array([[math.dist(a, b) for b in points] for a in points])
+            rounded = square * (1 + 1e-14 * draw.integers(0, 9, square.shape)) + np.diag(1e-9 * draw.random(n))
+            low, high = np.triu_indices(n, 1)
+            for nearest in (None, 1, 2, n):
+                wanted = self.heights(points, "euclidean", nearest or 1)
+                for given in (square, rounded, square[low, high], square.tolist()):
+                    with self.subTest(n=n, nearest=nearest):
+                        tree = spanning_tree(given, metric="precomputed", min_samples=nearest)
+                        np.testing.assert_allclose(tree.w, wanted, rtol=1e-12)
+                        self.assertEqual((low[tree.index].tolist(), high[tree.index].tolist()), (tree.u.tolist(), tree.v.tolist()))
+            self.assertEqual(single_linkage(square, metric="precomputed").tolist(), single_linkage(square[low, high]).tolist())
+        self.assertEqual(len(spanning_tree([[0.0]], metric="precomputed")), 0)
+        # (of (i, j) and (j, i) the lesser, and what is given stays)
+        given = np.array([[0, 1 + 1e-7], [1.0, 1e-9]])
+        self.assertEqual(spanning_tree(given, metric="precomputed").w.tolist(), [1.0])
+        self.assertEqual(given.tolist(), [[0, 1 + 1e-7], [1.0, 1e-9]])
+
+    def test_latitudes_and_longitudes(self):
+        """Munich, Paris and London, by a table of air distances in kilometres."""
+        latitude, longitude = np.radians([48.137, 48.857, 51.507]), np.radians([11.575, 2.351, -0.128])
+        wanted = [344, 685]
+        rows = np.column_stack([latitude, longitude])
+        np.testing.assert_allclose(spanning_tree(rows, metric="haversine").w * 6371, wanted, rtol=0.01)
+
+    @unittest.skipUnless(there("pandas"), "there is no pandas")
+    def test_names_of_columns_say_which_is_the_latitude(self):
+        import pandas
+
+        latitude, longitude = np.radians([48.137, 48.857, 51.507]), np.radians([11.575, 2.351, -0.128])
+        for north, east in [("lat", "lon"), ("Latitude", "Longitude"), ("lat", "lng"), (" lat", "long ")]:
+            for columns in ({north: latitude, east: longitude}, {east: longitude, north: latitude}):
+                with warnings.catch_warnings():
+                    warnings.simplefilter("error")
+                    tree = spanning_tree(pandas.DataFrame(columns), metric="haversine")
+                np.testing.assert_allclose(tree.w * 6371, [344, 685], rtol=0.01)
+        for names in (("x", "y"), ("X", "Y"), ("east", "north"), ("easting", "northing")):
+            with self.assertWarnsRegex(UserWarning, f"^the columns '{names[0]}' and '{names[1]}' are taken as latitude and longitude: ") as told:
+                spanning_tree(pandas.DataFrame(dict(zip(names, (longitude, latitude)))), metric="haversine")
+            self.assertEqual(told.filename, __file__)
+        with warnings.catch_warnings():
+            warnings.simplefilter("error")
+            spanning_tree(pandas.DataFrame({"y": latitude, "x": longitude}), metric="haversine")
+            spanning_tree(pandas.DataFrame({"x": latitude, "y": longitude}))
+            spanning_tree(pandas.DataFrame({"a": latitude, "b": longitude}), metric="haversine")
+
     def test_refused(self):
         points = np.zeros((4, 3))
         for words, given in [
@@ -381,6 +644,8 @@ class Metrics(unittest.TestCase):
             spanning_tree([[0, 0], [51.5, 0.1]], metric="haversine")
         with self.assertRaisesRegex(ValueError, "^the latitude of the point 0 is 1.6, past a right angle"):
             spanning_tree([[1.6, 0], [0, 0]], metric="haversine")
+        with self.assertRaisesRegex(ValueError, r"^the latitude of the point 1 is -2.5, past a right angle: y\[:, ::-1\] puts latitudes before longitudes$"):
+            spanning_tree([[0.5, 0.7], [-2.5, 0.6]], metric="haversine")
         poles = spanning_tree([[np.pi / 2, 0], [-np.pi / 2, 0]], metric="haversine")
         self.assertEqual(poles.w.tolist(), [np.pi])
         for given in ({"metric": "cosine"}, {"min_samples": 2}, {"p": 3}, {"p": "2"}):

@@ -262,6 +262,32 @@ def exact_trees_of_points(room):
 
 
 @case
+def trees_of_clustered_points_and_their_lengths(room):
+    expect_tests(room, "test_linkage.Clustered", "test_linkage.Lengths")
+
+
+@case
+def drawn_points_and_clusters(room):
+    expect_tests(room, "test_drawn_points")
+
+
+@case
+def drawn_cases_at_length_tell_what_is_wrong(room):
+    """`make soak` over the wheel's library: right cases pass, and one that is planted is told with the words that repeat it."""
+    words = [sys.executable, f"{ROOT}/tests/soak_python.py", "--minutes", "0.05", "--seed", "7", f"{LIBRARIES}/libboruvka.so"]
+    status, told, errors = run(words, env=PLAIN)
+    last = re.fullmatch(r"(\d+) cases, 0 mismatches", told.decode().splitlines()[-1])
+    is_so((status, bool(last) and int(last[1]) > 1, errors), (0, True, b""))
+    written(f"{room}/drawn_wrong.py", b"def wrong(draw):\n    raise AssertionError(int(draw.integers(100)))\n\n\nSORTS = {'planted': wrong}\n")
+    words += ["--drawn", room]
+    status, told, _ = run(words, env=PLAIN)
+    first = re.search(r"^soak: --seed 7 --sort 'planted' --case 0\n(?s:.*?)AssertionError: (\d+)$", told.decode(), re.M)
+    is_so((status, bool(first)), (1, True))
+    again = run([*words, "--sort", "planted", "--case", "0"], env=PLAIN)[1].decode()
+    is_so((f"AssertionError: {first[1]}\n" in again, again.splitlines()[-1]), (True, "1 cases, 1 mismatches"))
+
+
+@case
 def ctrl_c_ends_a_long_call(room):
     expect_tests(room, "test_interrupt")
 
