@@ -516,7 +516,7 @@ def packed(into, env=KIT, **more):
     for name in os.listdir(into):
         with open(f"{into}/{name}", "rb") as it:
             found[name] = it.read()
-    made_in_turn = sorted(found, key=lambda it: [".gz", ".whl", ".deb"].index(os.path.splitext(it)[1]))
+    made_in_turn = sorted(found, key=lambda it: ([".gz", ".whl", ".deb"].index(os.path.splitext(it)[1]), it))
     is_so(output.decode(), "".join(f"{hashlib.sha256(found[it]).hexdigest()}  {it}\n" for it in made_in_turn))
     return found
 
@@ -533,7 +533,7 @@ def expect_proved(path):
 @case
 def the_same_files_make_the_same_packages(room):
     first = packed(f"{room}/first")
-    is_so(len(first), 3 if shutil.which("dpkg-deb") else 2)
+    is_so(len(first), 4 if shutil.which("dpkg-deb") else 2)
     # other modes, another place and zone, another install's folders, and a second later
     time.sleep(1.1)
     other = {**KIT, "TZ": "Asia/Tokyo", "LC_ALL": "C", "LIBDIR": "/elsewhere", "TMPDIR": f"{room}/longer"}
@@ -720,7 +720,7 @@ def a_package_tells_what_the_gate_passed(room):
     expect(run(words, env=env), 1, b"", b"tools/dist.py: The page has no module yet: `make wasm` proves and builds it.\n")
     shutil.copy(built, f"{top}/crates/boruvka_within/out")
     status, output, _ = run(words, env=env)
-    is_so((status, output.count(b"\n")), (0, 3 if shutil.which("dpkg-deb") else 2))
+    is_so((status, output.count(b"\n")), (0, 4 if shutil.which("dpkg-deb") else 2))
     name = f"boruvka-{version()}-x86_64-linux"
     with tarfile.open(f"{top}/dist/{name}.tar.gz") as tar:
         member = tar.getmember(f"{name}/PROVED.txt")
