@@ -73,7 +73,8 @@ def from_edges(frame: Any, u: Hashable = "u", v: Hashable = "v", *, weight: Hash
     """
     for what, name in (("u", u), ("v", v), ("weight", weight)):
         if isinstance(name, (list, np.ndarray)) or hasattr(name, "iloc"):
-            raise TypeError(f"{what} is {name!r:.80}, and has to be the name of one column of the frame")
+            given = " ".join(f"{name!r:.80}".split())
+            raise TypeError(f"{what} is {given}, and has to be the name of one column of the frame")
     if u == v:
         raise ValueError(f"u and v are both the column {u!r}: each edge would be a loop")
     one, other, weights = (_column(frame, it) for it in (u, v, weight))

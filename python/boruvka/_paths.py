@@ -37,10 +37,9 @@ class Rooted:
         child = np.where(above[v] == u, v, u)
         if not np.array_equal(np.where(child == u, v, u), above[child]) or np.count_nonzero(above < n) != len(u):
             raise ValueError("the edges of the forest close a cycle")
-        edge = np.full(n + 1, -1, np.intp)
-        edge[number[child]] = np.arange(len(u))
+        self.number, self.edge = number, np.full(n + 1, -1, np.intp)
+        self.edge[number[child]] = np.arange(len(u))
         # (Python is faster with lists, one by one)
-        self.number, self.edge = number, edge.tolist()
         self.parent, self.vertex = [0, *number[above[order]].tolist()], [-1, *order.tolist()]
 
     def path(self, a: int, b: int) -> list[int]:
@@ -110,19 +109,20 @@ class Merged:
         links = np.zeros(k, _library.LINK)
         links["low"], links["high"] = forest.u[self.order] + 1, forest.v[self.order] + 1
         merges = _library.merges(n, links)
-        one, other = merges["first"].astype(np.intp), merges["second"].astype(np.intp)
-        sizes = np.ones(n + k, np.int64)
+        # (fewer than 2^27 clusters: half the bytes of the usual numbers are faster to go through)
+        one, other = merges["first"].astype(np.int32), merges["second"].astype(np.int32)
+        sizes = np.ones(n + k, np.int32)
         sizes[n:] = merges["size"]
         is_one = sizes[one] >= sizes[other]
         large, small = np.where(is_one, one, other), np.where(is_one, other, one)
-        first = np.concatenate([np.arange(n), large])
-        waiting = np.arange(n, n + k)
+        first = np.concatenate([np.arange(n, dtype=np.int32), large])
+        waiting = np.arange(n, n + k, dtype=np.int32)
         while len(waiting):
             first[waiting] = first[first[waiting]]
             waiting = waiting[first[waiting] >= n]
-        above, when = np.full(n, -1, np.intp), np.full(n, k, np.intp)
-        above[first[small]] = first[large]
-        when[first[small]] = np.arange(k)
+        above, when = np.full(n, -1, np.int32), np.full(n, k, np.int32)
+        below = first[small]
+        above[below], when[below] = first[large], np.arange(k, dtype=np.int32)
         self.above, self.when = above.tolist(), when.tolist()
 
     def heaviest(self, a: int, b: int) -> int:
@@ -155,7 +155,7 @@ def replacements(rooted: Rooted, u: NDArray[np.intp], v: NDArray[np.intp], order
 
     The edges of a path that have a replacement are contracted, so that each is met once.
     """
-    parent, edge = rooted.parent, rooted.edge
+    parent, edge = rooted.parent, rooted.edge.tolist()
     top = list(range(len(parent)))
     found = [-1] * (len(edge) - edge.count(-1))
 
