@@ -23,8 +23,8 @@ if TYPE_CHECKING:
     import pandas
     import scipy.sparse
 
-# (the last six are for the modules of points)
-__all__ = ["Forest", "Real", "minimum_spanning_forest", "expect_no_masks", "held", "is_array", "is_masked", "of_each", "places", "vertices", "whole"]
+# (after the first three, these are for the modules of points)
+__all__ = ["Forest", "Real", "minimum_spanning_forest", "expect_no_masks", "held", "is_array", "is_masked", "of_each", "places", "truth", "vertices", "whole"]
 
 Real = Union[float, "np.floating[Any]", "np.integer[Any]"]
 
