@@ -57,7 +57,7 @@ help:
 	@echo 'make install    copies what is built, with header, manual page, completions, licence and documents, below PREFIX=$(PREFIX);'
 	@echo '                BINDIR, LIBDIR, INCLUDEDIR, MANDIR and DOCDIR name other folders, DESTDIR a root that stands before all'
 	@echo 'make uninstall  takes them away; it wants the same words'
-	@echo 'make dist       proves, builds and packs version $(VERSION) into dist/: a .tar.gz, a wheel for Python, and a .deb where dpkg-deb is;'
+	@echo 'make dist       proves, builds and packs version $(VERSION) into dist/: a .tar.gz, a wheel for Python, and .deb packages where dpkg-deb is;'
 	@echo '                refused before `make test` has passed on the commit, unless UNPROVED=1 stands behind it'
 	@echo 'make bench      times it beside a C++ program; needs Python 3, a C++17 compiler and GNU time'
 	@echo 'make clean      removes what was built and what checks kept (out/ of each crate), and dist/: the next run proves all anew'
