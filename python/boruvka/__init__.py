@@ -16,10 +16,11 @@ These modules are loaded when they are first used:
 from typing import TYPE_CHECKING
 
 from boruvka._chunks import forest_of_chunks
-from boruvka._forest import Forest, minimum_spanning_forest
+from boruvka._forest import minimum_spanning_forest
 from boruvka._frames import from_edges
 from boruvka._gr import read_gr, write_gr
 from boruvka._page import show
+from boruvka._result import Forest
 
 __all__ = ["Forest", "forest_of_chunks", "from_edges", "minimum_spanning_forest", "read_gr", "show", "write_gr"]
 

@@ -17,7 +17,7 @@ from numpy.typing import ArrayLike, NDArray
 
 from boruvka._arrays import truth
 from boruvka._edges import columns, number_of_vertices, pairs_of_vertices, places_of_own
-from boruvka._forest import Forest
+from boruvka._result import Forest
 from boruvka._weights import ordered
 
 # how many edges are kept at most: so many a vertex, or of a small graph so many

@@ -15,7 +15,7 @@ if TYPE_CHECKING:
     import networkx
     import pandas
 
-    from boruvka._forest import Forest
+    from boruvka._result import Forest
 
 # how many edges a notebook shows
 _SHOWN = 10

@@ -11,9 +11,10 @@ import numpy as np
 from numpy.typing import NDArray
 
 from boruvka._arrays import expect_one_index
-from boruvka._forest import Forest, minimum_spanning_forest
+from boruvka._forest import minimum_spanning_forest
 from boruvka._interchange import column_of, names_of
 from boruvka._names import numbered
+from boruvka._result import Forest
 
 # how many names of columns an error lists
 _SHOWN = 10

@@ -18,7 +18,7 @@ from numpy.typing import ArrayLike, NDArray
 
 from boruvka import _library
 from boruvka._edges import Column, edges_of, pairs_of_vertices
-from boruvka._forest import Forest
+from boruvka._result import Forest
 from boruvka._weights import ordered
 
 # bytes that are read, and lines that are written, in one piece of work; Ctrl-C is heard between two

@@ -124,7 +124,7 @@ def _coded(lists: list[tuple[Hashable, list[Any]]]) -> tuple[list[Any], list[NDA
     number: dict[Any, int] = defaultdict(count().__next__)
     try:
         codes = [np.fromiter(map(number.__getitem__, each), np.intp, len(each)) for _, each in lists]
-    except (TypeError, ValueError):
+    except (TypeError, ValueError, ArithmeticError):
         _expect_names(lists, ())
         raise
     names = list(number)
@@ -189,8 +189,10 @@ def _why_none(it: Any) -> str:
         if it is None or type(it).__name__ in _MISSING or bool(it != it):
             return "missing"
         hash(it)
-    except (TypeError, ValueError):
+    except (TypeError, ValueError, ArithmeticError):
         return "no key"
+    if isinstance(it, tuple):
+        return next(filter(None, (_why_none(one) for one in it if one is not None)), "")
     if isinstance(it, (float, np.floating)):
         least: int = _EXACT[min(getattr(it, "itemsize", 8), 8)]
         return "inexact" if least <= abs(float(it)) < np.inf else ""

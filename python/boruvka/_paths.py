@@ -15,7 +15,7 @@ from numpy.typing import NDArray
 from boruvka import _library
 
 if TYPE_CHECKING:
-    from boruvka._forest import Forest
+    from boruvka._result import Forest
 
 # from so many vertices on scipy's search is worth loading scipy
 _LARGE = 1 << 14

@@ -176,6 +176,10 @@ class Rejected(unittest.TestCase):
             self.assertEqual(boruvka.from_edges(nullable).names, ids.tolist())
 
     def test_names_that_are_missing(self):
+        self.expect(ValueError, "^row 0 has no name in the column 'u'", {"u": [(1, math.nan)], "v": [(1, 2)], "w": [1]})
+        self.expect(ValueError, r"^row 0 of the column 'u' is \(1, 1e\+16\), and from 2\^53 on", {"u": [(1, 1e16)], "v": [(1, 2)], "w": [1]})
+        self.expect(TypeError, "^the column 'u' has a Decimal in row 0, which can't be a key", {"u": [decimal.Decimal("sNaN")], "v": ["a"], "w": [1]})
+        self.assertEqual(boruvka.from_edges({"u": [(1, None)], "v": [(1, "a")], "w": [1]}).n, 2)
         for missing in (math.nan, np.float32("nan")):
             self.expect(ValueError, "^row 1 has no name in the column 'v'", {"u": [1.0, 2.0], "v": [3.0, missing], "w": [1, 1]})
             self.expect(ValueError, "^row 1 has no name in the column 'v'", {"u": np.array([1.0, 2.0]), "v": np.array([3.0, missing]), "w": [1, 1]})

@@ -242,6 +242,7 @@ class Replaced(unittest.TestCase):
             (([*u, 0], [*v, 5], [*w, 9]), "^the edge 5 joins two components of the forest, so that it isn't the forest of these edges$"),
             (([*u, 0], [*v, 6], [*w, 9]), r"^v\[5\] is 6, and a vertex is at least 0 and below n = 6"),
             ((u, v, w[:4]), "^u, v and w differ in length"),
+            (([*u, 2], [*v, 0], [*w, 0.75]), "^an edge that isn't in the forest is better than one that it would replace, so that it isn't the forest"),
         ]:
             with self.subTest(words), self.assertRaisesRegex(ValueError, words):
                 forest.replacements(*given)
