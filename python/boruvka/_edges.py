@@ -159,7 +159,7 @@ def vertices(n: int, ends: NDArray[Any], name: str, beside: NDArray[Any]) -> NDA
         return np.empty(0, np.uint32)
     if ends.dtype.kind not in "iu":
         raise TypeError(f"{why_none(ends, name, 'iu')}, and vertices are whole numbers{_remedy(ends)}")
-    # (in 32 bits a negative number is past all vertices; in fewer or more it has to be seen before they are changed)
+    # (as 32 bits without a sign, a negative number is past all vertices; what has other bits is looked at before it is changed)
     is_checked = ends.dtype.itemsize == 4 or 0 <= ends.min() <= ends.max() < n
     taken = _own(ends)
     if not is_checked or taken.max() >= n:
