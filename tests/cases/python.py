@@ -251,6 +251,11 @@ def paths_bottlenecks_and_replacements(room):
 
 
 @case
+def drawn_edges_in_every_way(room):
+    expect_tests(room, "test_drawn")
+
+
+@case
 def gr_files(room):
     expect_tests(room, "test_gr")
 
