@@ -14,7 +14,7 @@ from collections.abc import Iterator
 from typing import Any, NamedTuple, SupportsIndex, overload
 
 import numpy as np
-from numpy.typing import ArrayLike, NDArray
+from numpy.typing import NDArray
 
 from boruvka import _library
 from boruvka._edges import Column, edges_of, pairs_of_vertices
