@@ -32,23 +32,27 @@ _PAST_DOUBLES = (1 << 1024) - (1 << 970)
 class Forest:
     """The k edges of a forest of n vertices: four arrays of the shape (k,), lightest first, or heaviest first of a maximum.
 
-    A graph of n vertices and c components has a forest of k = n - c edges. `len` is k, `==` compares all that it holds,
-    and to iterate gives u, v, w and index.
+    A graph of n vertices and c components has a forest of k = n - c edges. `len` returns k, `==` compares all attributes,
+    and iteration gives u, v, w and index.
+
+    If the vertices have names, `path`, `bottleneck`, `labels_by_name` and `replacements` take and return names instead of
+    numbers. After the first question the arrays are read-only, as later answers depend on them.
 
     Attributes
     ----------
     u, v : ndarray of intp
-        The lower and the higher end of each edge.
+        The lower and the higher endpoint of each edge, as numbers.
     w : ndarray
         The weight of each edge, in the dtype of the weights given.
     index : ndarray of intp
-        The place of each edge among the edges given. Of `forest_of_chunks` it has the shape (k, 2): a chunk and a row.
+        The index of each edge among the edges given. In a forest of `forest_of_chunks` it has the shape (k, 2): a chunk and
+        a row.
     n : int
         How many vertices there are: 0 to n - 1. If it is left out, as many as the edges need.
     maximum : bool
         Whether the total weight is the greatest, not the least.
     names : list, optional
-        What the vertices are called, in the order of their numbers.
+        The names of the vertices, in the order of their numbers.
     """
 
     u: NDArray[np.intp]
@@ -176,8 +180,8 @@ class Forest:
 
         A ValueError if a or b is no vertex, or there is no path.
 
-        Cost: the first question for a forest takes about a second per five million vertices. Each path then takes about
-        0.1 microseconds per vertex on the ways from a and b to the root of their tree.
+        Cost: the first question for a forest takes about 0.3 seconds per million vertices, and several times as long without
+        scipy. Each path then takes about 0.2 microseconds per vertex of it.
         """
         return self._questions.path(a, b)
 
@@ -217,7 +221,7 @@ class Forest:
         -----
         Ties: as in `minimum_spanning_forest`.
 
-        Cost: the time of a second forest, and about two seconds per million vertices.
+        Cost: the time of a second forest, and about four seconds per million vertices.
 
         Examples
         --------

@@ -113,6 +113,22 @@ class Ranked(unittest.TestCase):
         wide = np.array([2**63 + 1, 5], np.uint64)
         self.assertEqual(boruvka.from_edges({"u": wide, "v": np.array([-1, 5]), "w": [1, 2]}).names, [-1, 5, 2**63 + 1])
 
+    def test_numbers_of_each_dtype(self):
+        draw = np.random.default_rng(4)
+        for dtype in ("i1", "u1", ">i2", "u2", ">i4", ">u4", ">i8", "u8", ">u8", "f2", ">f2", "f4", ">f4", "f8", ">f8"):
+            kind = np.dtype(dtype)
+            about = (-1000, 1000) if kind.kind == "f" else (np.iinfo(kind).min, np.iinfo(kind).max)
+            names = draw.integers(*about, 40, dtype=kind.newbyteorder("=") if kind.kind != "f" else np.int64).astype(dtype)
+            names = names / 4 if kind.kind == "f" else names
+            u, v = draw.choice(names, (2, 100)).astype(dtype)
+            with self.subTest(dtype=dtype):
+                forest = boruvka.from_edges({"u": u, "v": v, "w": np.ones(100)})
+                wanted = sorted({*u.tolist(), *v.tolist()})
+                self.assertEqual(forest.names, wanted)
+                self.assertEqual([{wanted[a], wanted[b]} for a, b in zip(forest.u, forest.v)], [{u[it].item(), v[it].item()} for it in forest.index])
+        near = np.array([-(2**63), -(2**63) + 5, -(2**63) + 2])
+        self.assertEqual(boruvka.from_edges({"u": near, "v": near[::-1], "w": [1, 2, 3]}).names, sorted(near.tolist()))
+
     def test_with_and_without_pandas(self):
         import sys
         from unittest import mock
