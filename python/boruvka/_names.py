@@ -9,6 +9,7 @@ from __future__ import annotations
 import datetime
 import decimal
 import fractions
+import math
 import numbers
 import sys
 from collections import defaultdict
@@ -225,17 +226,18 @@ def _order_of(names: list[Any]) -> list[int]:
 
 def _key(name: Any) -> Key:
     """What names are compared by: their kind, their type, their value. Names that Python calls equal have equal keys."""
+    # (numpy's spans of time are whole numbers to Python, so they come first)
+    if isinstance(name, (np.datetime64, np.timedelta64)):
+        return 3, f"numpy.{type(name).__name__}", int(name.astype(np.int64))
     if isinstance(name, (numbers.Number, np.bool_)):
         return _key_of_number(name.item() if isinstance(name, np.generic) else name)
     if isinstance(name, str):
         return 1, "", str(name)
-    if isinstance(name, bytes):
+    if isinstance(name, (bytes, memoryview)):
         return 2, "", bytes(name)
     for kind in (datetime.date, datetime.timedelta, datetime.time):
         if isinstance(name, kind):
             return 3, kind.__name__, name
-    if isinstance(name, (np.datetime64, np.timedelta64)):
-        return 3, f"numpy.{type(name).__name__}", int(name.astype(np.int64))
     if isinstance(name, tuple):
         return 4, "tuple", tuple(map(_key, name))
     if isinstance(name, frozenset):
@@ -247,11 +249,16 @@ def _key(name: Any) -> Key:
 
 
 def _key_of_number(number: Any) -> Key:
-    """Its exact value: a decimal can't be compared with a fraction, nor a complex number with any."""
-    real, imaginary = (number.real, number.imag) if isinstance(number, complex) else (number, 0)
-    if isinstance(real, decimal.Decimal):
-        real = fractions.Fraction(real) if real.is_finite() else float(real)
-    return 0, "", real, imaginary
+    """Its exact value: decimals and long doubles can't be compared with fractions, nor complex numbers with any."""
+    real, imaginary = (number.real, number.imag) if isinstance(number, (complex, np.complexfloating)) else (number, 0)
+    return 0, "", _exact(real), _exact(imaginary)
+
+
+def _exact(real: Any) -> Any:
+    """A number of the same value that can be compared with all others."""
+    if not isinstance(real, (decimal.Decimal, np.longdouble)):
+        return real
+    return fractions.Fraction(*real.as_integer_ratio()) if -math.inf < real < math.inf else float(real)
 
 
 def _expect_one_kind_of_times(names: Iterable[Any]) -> None:
@@ -265,13 +272,14 @@ def _expect_one_kind_of_times(names: Iterable[Any]) -> None:
             raise TypeError("the ends are times with a zone, and times without: .dt.tz_localize gives these one")
         if any(issubclass(it, datetime.date) and not issubclass(it, datetime.datetime) for it in types):
             raise TypeError("the ends are dates, and dates with a time of day: .dt.date makes dates of these")
-    kinds: list[tuple[Any, Any]] = [(np.datetime64, datetime.date), (np.timedelta64, datetime.timedelta)]
+    # (to numpy a span of time is equal to the number of its units)
+    kinds: list[tuple[Any, Any]] = [(np.datetime64, datetime.date), (np.timedelta64, (datetime.timedelta, numbers.Number, np.bool_))]
     for of_numpy, of_python in kinds:
         if of_numpy in types:
             units = [*{it.dtype: None for it in names if type(it) is of_numpy}]
             if len(units) > 1:
                 raise TypeError(f"the ends have the dtypes {units[0]} and {units[1]}: .astype makes one unit of them")
-            others = [it.__name__ for it in types if issubclass(it, of_python)]
+            others = sorted(it.__name__ for it in types if issubclass(it, of_python) and it is not of_numpy)
             if others:
                 raise TypeError(f"the ends are times of numpy ({units[0]}), and of the type {others[0]}: numpy.asarray(column, {str(units[0])!r}) of each makes one of them")
 

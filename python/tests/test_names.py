@@ -40,6 +40,9 @@ KINDS = {
     "pairs": [(0, 10), (0.5, 9), (1, "B"), (1, "a"), (2, 0), ("A", 1), ("a", -5)],
     "identifiers": [uuid.UUID(int=it) for it in range(8)],
     "exact numbers": [fractions.Fraction(-1, 3), decimal.Decimal("0.1"), 0.1, fractions.Fraction(1, 3), 2, decimal.Decimal("2.5")],
+    "spans of time": list(np.arange(-3, 5).astype("m8[s]")),
+    "long doubles": [fractions.Fraction(-1, 3), np.longdouble(1) / 5, 0.2, 1, np.longdouble(5) / 3, decimal.Decimal(2), decimal.Decimal("Infinity")],
+    "complex numbers": [-1j, 2j, 1 - 1j, 1, 1 + 2j, 3],
     "truths": [False, True],
     "mixed": [-1, 3.5, "1a", "b", b"b", datetime.date(2020, 1, 2), (1, 2)],
 }
@@ -200,6 +203,13 @@ class Rejected(unittest.TestCase):
             self.expect(ValueError, "^row 1 has no name in the column 'v'", {"u": [1.0, 2.0], "v": [3.0, missing], "w": [1, 1]})
             self.expect(ValueError, "^row 1 has no name in the column 'v'", {"u": np.array([1.0, 2.0]), "v": np.array([3.0, missing]), "w": [1, 1]})
         self.expect(ValueError, "^row 1 has no name in the column 'u'", {"u": np.ma.masked_equal([1, 2], 2), "v": [3, 1], "w": [1, 1]})
+
+    def test_spans_of_time_beside_numbers(self):
+        """To numpy a span is equal to its number."""
+        span = np.timedelta64(7, "s")
+        for number in (5, 5.5, np.int8(1), True):
+            words = r"^the ends are times of numpy \(timedelta64\[s\]\), and of the type \w+: numpy\.asarray\(column, 'timedelta64\[s\]'\) of each makes"
+            self.expect(TypeError, words, {"u": [number, span], "v": ["a", "b"], "w": [1, 2]})
 
     @unittest.skipUnless(pandas, "there is no pandas")
     def test_columns_whose_rows_have_other_labels(self):
