@@ -336,8 +336,8 @@ def expect_no_rounding(y: Any, given: NDArray[Any], numbers: NDArray[np.float64]
         return
     if is_frame:
         # (its columns may have other dtypes than they have side by side)
-        for place in range(given.shape[1]):
-            of_each(y.iloc[:, place].tolist(), numbers[:, place], f"{name}.iloc[:, {place}]")
+        for column in range(given.shape[1]):
+            of_each(y.iloc[:, column].tolist(), numbers[:, column], f"{name}.iloc[:, {column}]")
     elif given.ndim == 2:
         for row, each in enumerate(y):
             of_each(list(each), numbers[row], f"{name}[{row}]")
