@@ -89,9 +89,6 @@ wrong:
 
 soak: $(PROGRAM)
 	@python3 tests/soak.py --minutes $(MINUTES) $(PROGRAM)
-	@if ! python3 -c 'import numpy' 2> /dev/null || ! [ -e $(LIBRARY).so ]; then \
-	echo 'The package for Python was not tried: it needs numpy, and libboruvka.so of `make lib`.' >&2; else \
-	BORUVKA_LIBRARY=$(LIBRARY).so PYTHONPATH=python python3 -B -W error python/tests/drawn.py --minutes $(MINUTES); fi
 
 # `install` proves and builds nothing: it often runs as another user. It copies what was built, and says what wasn't.
 PARTS := $(if $(wildcard $(PROGRAM)),install-program)

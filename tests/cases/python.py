@@ -252,7 +252,7 @@ def paths_bottlenecks_and_replacements(room):
 
 @case
 def drawn_edges_in_every_way(room):
-    expect_tests(room, "test_drawn")
+    expect_tests(room, "test_drawn_edges")
 
 
 @case

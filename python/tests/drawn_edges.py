@@ -1,17 +1,9 @@
-#!/usr/bin/env python3
-"""Tries drawn edges in every way that this package takes them, beside Kruskal's algorithm over Python's own sort.
+"""Drawn edges, in every way that this package takes them, beside Kruskal's algorithm over Python's own sort.
 
-usage: drawn.py [--minutes M] [--seed N]
-
-A case depends on its seed alone. The tests try some hundreds. This program tries one after the other from the seed on (0,
-if none is named) for M minutes (5, if none are named). It stops at the first mismatch, with its seed. The last line is
-`N cases, M mismatches`, and the status is 0 only if M is 0.
+`SORTS` has a function for each sort of case, which takes a generator of numpy.
 """
 
 import random
-import sys
-import time
-import traceback
 
 import numpy as np
 
@@ -132,35 +124,21 @@ def expect_answers(draw, graph, wanted, maximum):
         expect(forest.replacements(*graph.held).tolist(), replaced(graph, wanted, maximum), "replacements")
 
 
-def tried(seed):
-    """Tries a case, and returns the kind of its weights."""
-    draw = random.Random(seed)
-    kind, maximum = KINDS[seed % len(KINDS)], draw.random() < 0.5
+def expect_edges(generator, kind=None):
+    """Draws a case, and returns the kind of its weights."""
+    draw = random.Random(int(generator.integers(2**63)))
+    kind, maximum = kind or draw.choice(KINDS), draw.random() < 0.5
     graph = drawn_graph(draw, kind)
     before = [it.tobytes() for it in graph.held]
     wanted = by_key(graph, maximum)
-    expect_calls(draw, graph, wanted, maximum)
-    expect_names(draw, graph, maximum)
-    expect_answers(draw, graph, wanted, maximum)
-    expect([it.tobytes() for it in graph.held], before, "what was given")
+    try:
+        expect_calls(draw, graph, wanted, maximum)
+        expect_names(draw, graph, maximum)
+        expect_answers(draw, graph, wanted, maximum)
+        expect([it.tobytes() for it in graph.held], before, "what was given")
+    except AssertionError as error:
+        raise AssertionError(f"{graph.n} vertices, {len(graph.w)} edges, weights of the kind {kind}, maximum={maximum}: {error}") from None
     return kind
 
 
-def main(words):
-    minutes = float(words[words.index("--minutes") + 1]) if "--minutes" in words else 5.0
-    seed = int(words[words.index("--seed") + 1]) if "--seed" in words else 0
-    end, count = time.monotonic() + 60 * minutes, 0
-    while time.monotonic() < end:
-        try:
-            tried(seed + count)
-        except Exception:
-            traceback.print_exc()
-            print(f"drawn: --seed {seed + count} repeats it\n{count + 1} cases, 1 mismatches")
-            return 1
-        count += 1
-    print(f"{count} cases, 0 mismatches")
-    return 0
-
-
-if __name__ == "__main__":
-    sys.exit(main(sys.argv[1:]))
+SORTS = {"edges": expect_edges}

@@ -1,4 +1,4 @@
-"""The first of the cases that drawn.py tries; `make soak` tries many more."""
+"""A few hundred of the drawn edges that `make soak` tries at length."""
 
 import unittest
 import warnings
@@ -6,7 +6,7 @@ from unittest import mock
 
 import numpy as np
 
-import drawn
+import drawn_edges
 
 
 class Drawn(unittest.TestCase):
@@ -16,12 +16,12 @@ class Drawn(unittest.TestCase):
             warnings.simplefilter("error")
             for seed in range(27 * 14):
                 with self.subTest(seed=seed):
-                    kinds.append(drawn.tried(seed))
+                    kinds.append(drawn_edges.expect_edges(np.random.default_rng(seed), drawn_edges.KINDS[seed % 27]))
         self.assertEqual((len({*kinds}), len(kinds)), (27, 27 * 14))
 
     def test_mismatches_are_reported(self):
         """Each wrong forest of one that gives up an edge, and of one that takes the last of parallel edges."""
-        own = drawn.minimum_spanning_forest
+        own = drawn_edges.minimum_spanning_forest
 
         def short(*given, **more):
             forest = own(*given, **more)
@@ -35,10 +35,10 @@ class Drawn(unittest.TestCase):
 
         for wrong in (short, late):
             told = 0
-            with mock.patch.object(drawn, "minimum_spanning_forest", wrong):
+            with mock.patch.object(drawn_edges, "minimum_spanning_forest", wrong):
                 for seed in range(27 * 6):
                     try:
-                        drawn.tried(seed)
+                        drawn_edges.expect_edges(np.random.default_rng(seed))
                     except (AssertionError, ValueError, IndexError):
                         told += 1
             self.assertGreater(told, 5, wrong.__name__)
