@@ -45,7 +45,7 @@ def column(given: Any, name: str) -> NDArray[Any]:
     if array.ndim == 0:
         raise ValueError(f"{name} is {given!r:.80}, and has to be an array or a list with an entry for each edge")
     if array.ndim != 1:
-        how = ": an array of two columns stands for u and v" if array.ndim == 2 and name in "uv" else ""
+        how = ": an array of two columns stands for u and v" if array.ndim == 2 and name in ("u", "v") else ""
         raise ValueError(f"{name} has {array.ndim} dimensions, and needs one{how}")
     if array.dtype != object and is_array(given):
         return array

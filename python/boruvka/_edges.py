@@ -115,15 +115,15 @@ def number_of_threads(threads: Any) -> int:
     return count
 
 
-def columns(u: Any, v: Any, w: Any) -> tuple[NDArray[Any], NDArray[Any], NDArray[Any]]:
-    """Three columns as arrays, which are of one length."""
-    expect_one_index({"u": u, "v": v, "w": w})
+def columns(u: Any, v: Any, w: Any, weight: str = "w") -> tuple[NDArray[Any], NDArray[Any], NDArray[Any]]:
+    """Three columns as arrays, which are of one length; `weight` is what the third is called."""
+    expect_one_index({"u": u, "v": v, weight: w})
     tails, heads = column(u, "u"), column(v, "v")
     if isinstance(w, numbers.Number) or isinstance(w, np.ndarray) and w.ndim == 0:
-        raise ValueError(f"w is {w!r:.80}, and each edge has a weight of its own: numpy.full({len(tails)}, {w!r:.40}) has as many")
-    weights = column(w, "w")
+        raise ValueError(f"{weight} is {w!r:.80}, and each edge has a weight of its own: numpy.full({len(tails)}, {w!r:.40}) has as many")
+    weights = column(w, weight)
     if not len(tails) == len(heads) == len(weights):
-        raise ValueError(f"u, v and w differ in length: {len(tails)}, {len(heads)} and {len(weights)}")
+        raise ValueError(f"u, v and {weight} differ in length: {len(tails)}, {len(heads)} and {len(weights)}")
     return tails, heads, weights
 
 
@@ -137,7 +137,7 @@ def places_of_own(n: int, u: NDArray[np.uint32], v: NDArray[np.uint32], w: NDArr
     """The same of columns that the library takes, whose endpoints are checked vertices that no other thread writes."""
     index = places_by_threads(n, u, v, w, threads)
     if len(index) and index.max() >= len(w):
-        raise ValueError("another thread wrote w during the call: give it a copy")
+        raise ValueError("another thread wrote the weights during the call: give it a copy")
     return index.astype(np.intp)
 
 

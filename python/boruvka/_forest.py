@@ -2,13 +2,16 @@
 
 from __future__ import annotations
 
+from collections.abc import Sequence
 from typing import Any, SupportsIndex, overload
 
 import numpy as np
+from numpy.typing import NDArray
 
 from boruvka._arrays import expect_no_masks, held, is_array, is_masked, of_each, truth, whole
-from boruvka._edges import Column, edges_of, number_of_threads, places, vertices
+from boruvka._edges import Column, edges_of, number_of_threads, pairs_of_vertices, places, places_of_own, vertices
 from boruvka._result import Forest, Real
+from boruvka._weights import ordered
 
 # (after the first, these are for the modules of points)
 __all__ = ["minimum_spanning_forest", "Forest", "Real", "expect_no_masks", "held", "is_array", "is_masked", "of_each", "places", "truth", "vertices", "whole"]
@@ -104,7 +107,14 @@ def minimum_spanning_forest(*edges: Any, n: Any = None, u: Any = None, v: Any = 
     >>> forest.index
     array([1, 4, 2])
     """
-    count, tails, heads, weights = edges_of(edges, n, u, v, w)
-    index = places(count, tails, heads, weights, maximum, number_of_threads(threads))
+    count, *given = edges_of(edges, n, u, v, w)
+    return forest_of(count, given, maximum, number_of_threads(threads))
+
+
+def forest_of(n: int, edges: Sequence[NDArray[Any]], maximum: bool, threads: int = 1, weight: str = "w") -> Forest:
+    """The forest of three columns; errors call the third by the name of the weights."""
+    tails, heads, weights = edges
+    u, v = pairs_of_vertices(n, tails, heads)
+    index = places_of_own(n, u, v, ordered(weights, truth(maximum, "maximum"), weight), threads)
     one, other = tails.take(index).astype(np.intp), heads.take(index).astype(np.intp)
-    return Forest(np.minimum(one, other), np.maximum(one, other), weights.take(index), index, count, maximum)
+    return Forest(np.minimum(one, other), np.maximum(one, other), weights.take(index), index, n, maximum)

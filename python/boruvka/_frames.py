@@ -11,7 +11,8 @@ import numpy as np
 from numpy.typing import NDArray
 
 from boruvka._arrays import expect_one_index
-from boruvka._forest import minimum_spanning_forest
+from boruvka._edges import columns
+from boruvka._forest import forest_of
 from boruvka._interchange import column_of, names_of
 from boruvka._names import numbered
 from boruvka._result import Forest
@@ -83,7 +84,8 @@ def from_edges(frame: Any, u: Hashable = "u", v: Hashable = "v", *, weight: Hash
     names, (tails, heads) = numbered([(u, one), (v, other)])
     if len(tails) != len(heads):
         raise ValueError(f"the columns {u!r} and {v!r} differ in length: {len(tails)} and {len(heads)}")
-    forest = minimum_spanning_forest(len(names), tails, heads, weights, maximum=maximum)
+    label = weight if isinstance(weight, str) else "w"
+    forest = forest_of(len(names), columns(tails, heads, weights, label), maximum, weight=label)
     return forest._replace(names=names)
 
 

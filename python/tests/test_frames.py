@@ -334,6 +334,17 @@ class Refused(unittest.TestCase):
         self.expect(ValueError, "^row 0 has no name in the column 'u'", {"u": np.ma.masked_equal([1, 2], 1), "v": [3, 1], "w": [1, 1]})
         self.expect(ValueError, r"^w\[1\] is NaN", {"u": [1, 2], "v": [3, 1], "w": [1, math.nan]})
         self.expect(TypeError, r"as w\[1\] is None", {"u": [1, 2], "v": [3, 1], "w": [1, None]})
+        # (weights are called by the name of their column)
+        for wrong, error, words in [
+            ([1, math.nan], ValueError, r"^km\[1\] is NaN"),
+            ([1, None], TypeError, r"^km has the dtype object, as km\[1\] is None"),
+            ([1, "2"], TypeError, r"^km has the dtype <U21, as km\[0\] is '1'"),
+            ([1, 2, 3], ValueError, "^u, v and km differ in length: 2, 2 and 3$"),
+            (np.ma.masked_equal([1, 2], 2), ValueError, r"^km has masked entries, as km\[1\] is"),
+            ([2**53 + 1, 0.5], ValueError, r"^km\[0\] is 9007199254740993, which numpy would round"),
+            (np.array([1, 2**63], np.uint64), ValueError, r"^km\[1\] is 9223372036854775808, past 2\^63 - 1$"),
+        ]:
+            self.expect(error, words, {"u": [1, 2], "v": [3, 1], "km": wrong}, weight="km")
 
     def test_columns_that_do_not_fit(self):
         self.expect(ValueError, "^the columns 'u' and 'v' differ in length: 1 and 2$", {"u": [1], "v": [3, 1], "w": [1, 1]})
