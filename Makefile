@@ -56,7 +56,7 @@ help:
 	@echo 'make install    copy what is built, with header, manual page, completions, licence and documents, below PREFIX=$(PREFIX);'
 	@echo '                BINDIR, LIBDIR, INCLUDEDIR, MANDIR and DOCDIR name other folders, DESTDIR is put before each of them'
 	@echo 'make uninstall  remove what was installed; pass the same variables'
-	@echo 'make dist       prove, build and pack version $(VERSION) into dist/: a .tar.gz, a wheel for Python, and a .deb if there is dpkg-deb;'
+	@echo 'make dist       prove, build and pack version $(VERSION) into dist/: a .tar.gz, a wheel for Python, and .deb packages if there is dpkg-deb;'
 	@echo '                it needs `make test` to have passed on this commit, or UNPROVED=1'
 	@echo 'make wrong      try the wrong bodies of wrong-bodies/; SINCE=origin/main tries those of the crates that changed since'
 	@echo 'make web-test   test only the page; needs Chromium with its driver, Node and the module'

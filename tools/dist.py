@@ -1,5 +1,5 @@
 #!/usr/bin/env python3
-"""Packs what was built into a release: a .tar.gz, a wheel for Python, and with dpkg-deb a .deb. Another .deb has the
+"""Packs what was built into a release: a .tar.gz, a wheel for Python, and with dpkg-deb two .deb. Another .deb has the
 extension of postgres/, if a server of PostgreSQL is there with its headers.
 
 usage: tools/dist.py [--program FILE] [--libraries FOLDER] [INTO]
@@ -8,7 +8,8 @@ usage: tools/dist.py [--program FILE] [--libraries FOLDER] [INTO]
 It proves nothing, and builds the extension alone: `make dist` does all else before it. FILE is the program, FOLDER has the libraries, and INTO
 gets the packages: dist/, if none is named. What goes into them is what `make install` copies, without the symbols that
 only a debugger reads, with the sums of all files, and with PROVED.txt: the commit, the kit, and the last lines of the
-gate. The wheel has the package of python/boruvka and the shared library; no compiler made it.
+gate. The wheel has the package of python/boruvka, the shared library and the page; no compiler made it. One .deb has the
+program and the libraries, the other the same package for Debian's own Python.
 
 If the gate isn't known to have passed on this commit, or CHANGELOG.md begins with another version, as Next, nothing is
 packed. UNPROVED=1 in the environment packs all the same, and PROVED.txt tells it. `--may` only says whether it may
@@ -60,6 +61,28 @@ Description: minimum spanning forests of weighted graphs
  links that lie in the memory of a program in C, Rust or Python. A page draws
  forests in a browser.
 """
+CONTROL_OF_PYTHON = """\
+Package: python3-boruvka
+Version: {version}
+Architecture: all
+Maintainer: {maintainer}
+Installed-Size: {size}
+Depends: boruvka (>= {version}), python3 (>= 3.9), python3-numpy (>= 1:1.21)
+Suggests: python3-dask, python3-matplotlib, python3-networkx, python3-pandas, python3-scipy, python3-sklearn
+Section: python
+Priority: optional
+Description: minimum spanning forests of numpy arrays
+ The module boruvka finds minimum spanning forests of edges in arrays, in frames
+ of pandas and in chunks, and clusters points by single linkage and by HDBSCAN.
+ It calls the shared library of the package boruvka.
+"""
+OF_PYTHON = """\
+#!/bin/sh
+set -e
+if command -v {command} > /dev/null 2>&1; then
+    {command} -p python3-boruvka
+fi
+"""
 # (a host that no one can have: no address is known)
 MAINTAINER = "the authors of Borůvka <no-address@boruvka.invalid>"
 COPYRIGHT = """\
@@ -93,7 +116,7 @@ License: Apache-2.0
  On Debian systems /usr/share/common-licenses/Apache-2.0 has the text.
 """
 CHANGELOG = """\
-{name} ({version}) unstable; urgency=medium
+{package} ({version}) unstable; urgency=medium
 
   * CHANGELOG.md has the changes of this version.
 
@@ -144,20 +167,18 @@ Classifier: Typing :: Typed
 License-File: LICENSE
 Requires-Python: >=3.9
 Requires-Dist: numpy>=1.21
-Provides-Extra: scipy
-Requires-Dist: scipy>=1.8; extra == "scipy"
-Provides-Extra: networkx
-Requires-Dist: networkx>=3.2; extra == "networkx"
-Description-Content-Type: text/markdown
+{extras}Description-Content-Type: text/markdown
 
 {readme}"""
+# What the package works with, from which version on: an extra of the wheel, by the name of its package.
+EXTRAS = {"dask": "2022.2", "matplotlib": "3.5", "networkx": "3.2", "pandas": "1.3", "scikit-learn": "1.0", "scipy": "1.8"}
 WHEEL = f"Wheel-Version: 1.0\nGenerator: tools/dist.py\nRoot-Is-Purelib: false\nTag: {TAG}\n"
 ENTRY_POINTS = """\
 [networkx.backends]
 boruvka = boruvka.networkx_backend
 
 [networkx.backend_info]
-boruvka = boruvka.networkx_backend:info
+boruvka = _boruvka_networkx:info
 """
 
 
@@ -304,23 +325,31 @@ def depends(files):
     return ", ".join(f"libc6 (>= {least})" if it == "libc6" else it for it in sorted(packages))
 
 
-def wheel(release, _room):
-    """The package for Python, as PEP 427 lays it out, with the shared library in it."""
+def python_files(release):
+    """The files of the package for Python by their paths: its sources, what describes it, and what networkx reads."""
+    package, about = "boruvka", f"boruvka-{release.version}.dist-info"
+    sources = sorted(it for it in os.listdir(f"{ROOT}/python/{package}") if it.endswith((".py", ".typed")))
+    files = {f"{package}/{it}": read(f"{ROOT}/python/{package}/{it}") for it in sources}
+    files["_boruvka_networkx.py"] = read(f"{ROOT}/python/_boruvka_networkx.py")
+    readme = Places("", None, ["python/README.md"]).linked("python/README.md", text_of("python/README.md"))
+    extras = "".join(f'Provides-Extra: {it}\nRequires-Dist: {it}>={least}; extra == "{it}"\n' for it, least in EXTRAS.items())
+    files[f"{about}/METADATA"] = METADATA.format(version=release.version, extras=extras, readme=readme).encode()
+    files[f"{about}/entry_points.txt"] = ENTRY_POINTS.encode()
+    return files
+
+
+def wheel(release, room):
+    """The package for Python, as PEP 427 lays it out, with the shared library and the page in it."""
     library = read(f"{release.libraries}/libboruvka.so.{release.version}")
     if least_glibc(library) > MOST_GLIBC or not libraries_of(library) <= OF_MANYLINUX:
         raise NotPacked(f"the shared library needs more than {TAG} says: {least_glibc(library)}, {sorted(libraries_of(library))}")
     package, about = "boruvka", f"boruvka-{release.version}.dist-info"
-    sources = sorted(it for it in os.listdir(f"{ROOT}/python/{package}") if it.endswith((".py", ".typed")))
-    files = {f"{package}/{it}": read(f"{ROOT}/python/{package}/{it}") for it in sources}
+    release.install(room, "")
+    files = python_files(release)
     # (without the last number Python would take it for a module)
     files[f"{package}/libboruvka.so.{release.version.split('.')[0]}"] = library
-    texts = {
-        "METADATA": METADATA.format(version=release.version, readme=Places("", None, ["python/README.md"]).linked("python/README.md", text_of("python/README.md"))),
-        "WHEEL": WHEEL,
-        "entry_points.txt": ENTRY_POINTS,
-        "LICENSE": text_of("LICENSE"),
-        "PROVED.txt": "\n".join(release.proved()) + "\n",
-    }
+    files[f"{package}/boruvka.html"] = read(f"{room}/share/boruvka/boruvka.html")
+    texts = {"WHEEL": WHEEL, "LICENSE": text_of("LICENSE"), "PROVED.txt": "\n".join(release.proved()) + "\n"}
     files.update({f"{about}/{name}": text.encode() for name, text in texts.items()})
     record = [f"{path},sha256={digest(content)},{len(content)}\n" for path, content in sorted(files.items())]
     files[f"{about}/RECORD"] = "".join([*record, f"{about}/RECORD,,\n"]).encode()
@@ -354,31 +383,55 @@ def debian(release, room):
     # a shared library isn't run
     library = f"{root}{lib}/libboruvka.so.{release.version}"
     os.chmod(library, 0o644)
-    values = {"version": release.version, "major": release.version.split(".")[0]}
+    values = put_about(root, "boruvka", release)
     put(f"{share}/lintian/overrides/boruvka", OVERRIDES.format(**values))
-    put(f"{root}/DEBIAN/triggers", "activate-noawait ldconfig\n")
-    put(f"{root}/DEBIAN/shlibs", "libboruvka {major} boruvka (>= {version})\n".format(**values))
-    return packed_for_debian(release, room, "boruvka", CONTROL, [f"{root}/usr/bin/boruvka", library])
+    control = {
+        "triggers": "activate-noawait ldconfig\n",
+        "shlibs": "libboruvka {major} boruvka (>= {version})\n",
+        "control": CONTROL.replace("{depends}", depends([f"{root}/usr/bin/boruvka", library])),
+    }
+    return f"boruvka_{release.version}_amd64.deb", built_by_dpkg(release, root, control, values)
 
 
-def packed_for_debian(release, room, name, control, code, **more):
-    """The package of what lies below the folder root of a room, with what all packages have; it needs what this code needs."""
-    root, about = f"{room}/root", f"{room}/root/usr/share/doc/{name}"
+def debian_of_python(release, room):
+    """The package for Debian's own Python, into which pip installs nothing. It finds the shared library of the other one."""
+    root = f"{room}/root"
+    for path, content in python_files(release).items():
+        put(f"{root}/usr/lib/python3/dist-packages/{path}", content)
+    values = put_about(root, "python3-boruvka", release)
+    control = {
+        "postinst": OF_PYTHON.replace("{command}", "py3compile"),
+        "prerm": OF_PYTHON.replace("{command}", "py3clean"),
+        "control": CONTROL_OF_PYTHON,
+    }
+    return f"python3-boruvka_{release.version}_all.deb", built_by_dpkg(release, root, control, values)
+
+
+def put_about(root, package, release):
+    """Puts the documents that Debian asks of each package, and returns what its other files say of the release."""
     date = time.strftime("%a, %d %b %Y %H:%M:%S +0000", time.gmtime(release.seconds))
-    values = {"name": name, "version": release.version, "date": date, "maintainer": MAINTAINER, **more}
-    put(f"{about}/copyright", COPYRIGHT)
-    put(f"{about}/changelog.gz", gzipped(CHANGELOG.format(**values).encode()))
-    put(f"{about}/PROVED.txt", "\n".join(release.proved()) + "\n")
-    blocks = sum(-(-os.path.getsize(f"{root}/{it}") // 1024) for it in files_below(root) if not it.startswith("DEBIAN/"))
-    put(f"{root}/DEBIAN/md5sums", "".join(it for it in sums(root, "md5").splitlines(keepends=True) if "  DEBIAN/" not in it))
-    put(f"{root}/DEBIAN/control", control.format(size=blocks, depends=depends(code), **values))
+    values = {"version": release.version, "major": release.version.split(".")[0], "date": date, "maintainer": MAINTAINER}
+    doc = f"{root}/usr/share/doc/{package}"
+    put(f"{doc}/copyright", COPYRIGHT)
+    put(f"{doc}/changelog.gz", gzipped(CHANGELOG.format(package=package, **values).encode()))
+    put(f"{doc}/PROVED.txt", "\n".join(release.proved()) + "\n")
+    return values
+
+
+def built_by_dpkg(release, root, control, values):
+    """The package of all below a folder, with these files for dpkg, in which the values stand for their names."""
+    values = {**values, "size": sum(-(-os.path.getsize(f"{root}/{it}") // 1024) for it in files_below(root))}
+    put(f"{root}/DEBIAN/md5sums", sums(root, "md5"))
+    for name, text in control.items():
+        put(f"{root}/DEBIAN/{name}", text.format(**values))
+        os.chmod(f"{root}/DEBIAN/{name}", 0o755 if text.startswith("#!") else 0o644)
     release.settle(root)
-    made = f"{room}/made.deb"
+    made = f"{root}.deb"
     words = ["dpkg-deb", "--root-owner-group", "--uniform-compression", "-Zgzip", "-z9", "--build", root, made]
     ended = subprocess.run(words, env={**os.environ, "SOURCE_DATE_EPOCH": str(release.seconds)}, capture_output=True, text=True, check=False)
     if ended.returncode or ended.stderr:
         raise NotPacked(ended.stderr.strip())
-    return f"{name}_{release.version}_amd64.deb", read(made)
+    return read(made)
 
 
 def server():
@@ -410,7 +463,9 @@ def extension(release, room):
             put(f"{root}{share}/extension/{name}", read(f"{source}/{name}"))
     name = f"postgresql-{number}-boruvka"
     put(f"{root}/usr/share/doc/{name}/README.md.gz", gzipped(text_of("postgres/README.md").encode()))
-    return packed_for_debian(release, room, name, FOR_POSTGRES, [code], server=number)
+    values = put_about(root, name, release)
+    control = {"control": FOR_POSTGRES.replace("{depends}", depends([code])).replace("{server}", number)}
+    return f"{name}_{release.version}_amd64.deb", built_by_dpkg(release, root, control, values)
 
 
 def main(words):
@@ -435,13 +490,14 @@ def main(words):
     folder = into[0] if into else f"{ROOT}/dist"
     try:
         release = Release(program, libraries)
-        for pack in [tarball, wheel, debian, extension]:
-            if pack in (debian, extension) and not shutil.which("dpkg-deb"):
-                print("dpkg-deb is not there, so no .deb was made", file=sys.stderr)
-                break
-            if pack is extension and not server():
+        packs = [tarball, wheel]
+        if shutil.which("dpkg-deb"):
+            packs += [debian, debian_of_python, *([extension] if server() else [])]
+            if not server():
                 print("PostgreSQL's headers are not there, so no .deb of its extension was made", file=sys.stderr)
-                break
+        else:
+            print("dpkg-deb is not there, so no .deb was made", file=sys.stderr)
+        for pack in packs:
             with tempfile.TemporaryDirectory(prefix="boruvka-dist-") as room:
                 name, content = pack(release, room)
             put(f"{folder}/{name}", content)

@@ -1,8 +1,8 @@
 """Minimum spanning forests of numpy arrays.
 
-`minimum_spanning_forest` answers which edges are in the forest, `from_edges` does for edges in a frame, and
-`forest_of_chunks` for edges that come in chunks. They call libboruvka, which is proved to answer just these. The package
-itself is tested, not proved. `read_gr` and `write_gr` are for the program's files, and `show` opens points in a page.
+`minimum_spanning_forest` finds which edges are in the forest, `from_edges` does so for edges in a frame, and
+`forest_of_chunks` for edges that come in chunks. They call libboruvka, whose results are proved. The package itself is
+tested, not proved. `read_gr` and `write_gr` are for the program's files, and `show` opens points in a page.
 
 These modules are loaded when they are first used:
 
@@ -16,14 +16,17 @@ These modules are loaded when they are first used:
 from typing import TYPE_CHECKING
 
 from boruvka._chunks import forest_of_chunks
-from boruvka._forest import Forest, minimum_spanning_forest
+from boruvka._forest import minimum_spanning_forest
 from boruvka._frames import from_edges
 from boruvka._gr import read_gr, write_gr
 from boruvka._page import show
+from boruvka._result import Forest
 
 __all__ = ["Forest", "forest_of_chunks", "from_edges", "minimum_spanning_forest", "read_gr", "show", "write_gr"]
 
 _MODULES = ("cluster", "dask", "linkage", "networkx_backend", "sparse")
+# what people look for here, and find in a module
+_IN_MODULES = {"cluster": ("HDBSCAN", "SingleLinkage"), "linkage": ("labels", "merges", "single_linkage", "spanning_tree"), "sparse": ("minimum_spanning_tree",)}
 
 if TYPE_CHECKING:
     from boruvka import cluster as cluster
@@ -46,8 +49,17 @@ else:
             try:
                 return version("boruvka")
             except PackageNotFoundError:
-                pass
-        raise AttributeError(f"module 'boruvka' has no attribute {name!r}")
+                raise AttributeError("module 'boruvka' has no attribute '__version__', as it isn't installed: it runs from its sources") from None
+        raise AttributeError(f"module 'boruvka' has no attribute {name!r}{_hint(name)}")
+
+    def _hint(name):
+        """Where the name is, or which is like it."""
+        from difflib import get_close_matches
+
+        there = {it: f"boruvka.{module}.{it}" for module, names in _IN_MODULES.items() for it in names}
+        there.update({it: f"boruvka.{it}" for it in [*__all__, *_MODULES]})
+        near = [name] if name in there else get_close_matches(name, there, 1, 0.75)
+        return f": there is {there[near[0]]}" if near else ""
 
 
 def __dir__() -> list[str]:

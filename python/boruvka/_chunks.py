@@ -6,15 +6,18 @@ the library's forest. So what is kept may be reduced to its forest at any time.
 
 from __future__ import annotations
 
+import numbers
 from array import array
 from collections.abc import Iterable, Iterator, Sequence
 from contextlib import contextmanager
-from typing import Any, SupportsIndex
+from typing import Any, SupportsIndex, Union
 
 import numpy as np
 from numpy.typing import ArrayLike, NDArray
 
-from boruvka._forest import Forest, columns, number_of_vertices, pairs_of_vertices, places, truth
+from boruvka._arrays import truth
+from boruvka._edges import columns, number_of_vertices, pairs_of_vertices, places_of_own
+from boruvka._result import Forest
 from boruvka._weights import ordered
 
 # how many edges are kept at most: so many a vertex, or of a small graph so many
@@ -25,19 +28,24 @@ _ALL_DOUBLES = 1 << 53
 _LAST_DOUBLE = (1 << 63) - (1 << 10)
 
 
-def forest_of_chunks(n: SupportsIndex, chunks: Iterable[Sequence[ArrayLike]], *, maximum: bool = False) -> Forest:
+#: columns u, v and w, or a forest of them
+Chunk = Union[Forest, Sequence[ArrayLike]]
+
+
+def forest_of_chunks(n: SupportsIndex, chunks: Iterable[Chunk], *, maximum: bool = False) -> Forest:
     """Find the minimum spanning forest of edges that come in chunks, in memory for few of them.
 
     It is the forest that `minimum_spanning_forest` finds of all chunks put together. Chunks may come from files, a
-    database or a generator. The forests of parts that were solved elsewhere may be chunks too: that merges them.
+    database or a generator. A forest of some edges may stand for these edges, so that forests of parts can be merged.
 
     Parameters
     ----------
     n : int
         The number of vertices, at most 2^26. They are 0 to n - 1.
-    chunks : iterable of (u, v, w)
-        Each chunk is a tuple or list of three columns of one length: ends and weights, as `minimum_spanning_forest`
-        takes them. A chunk may have no edges, and there may be no chunk.
+    chunks : iterable of (u, v, w) or Forest
+        Each chunk is a tuple or list of three columns of one length: endpoints and weights, as `minimum_spanning_forest`
+        takes them. Or it is the forest of such columns, whose vertices have no names. A chunk may have no edges, and there
+        may be no chunk.
     maximum : bool, optional
         Whether the total weight shall be the greatest instead.
 
@@ -45,14 +53,14 @@ def forest_of_chunks(n: SupportsIndex, chunks: Iterable[Sequence[ArrayLike]], *,
     -------
     Forest
         Its `index` has the shape (k, 2), in place of (k,): `chunk, row = forest.index.T` are the place of each edge,
-        both counted from 0. `w` has a dtype that holds the weights of all chunks.
+        both counted from 0. In a chunk that is a forest the row is the index in this forest. `w` has a dtype that holds the weights of all chunks.
 
     Raises
     ------
     ValueError, TypeError, MemoryError
         As `minimum_spanning_forest` does; `chunk 3: ` comes first if that chunk is wrong. A TypeError too if a chunk is
-        no tuple or list of three columns. A ValueError if one chunk has floats, and another a whole number that no
-        double is equal to. What `chunks` raises is passed on.
+        no Forest, tuple or list of three columns. A ValueError if one chunk has floats, and another a whole number that no
+        double is equal to; or if a Forest has names or another `maximum`. What `chunks` raises is passed on.
 
     Notes
     -----
@@ -78,8 +86,9 @@ def forest_of_chunks(n: SupportsIndex, chunks: Iterable[Sequence[ArrayLike]], *,
     [[0, 1], [1, 1], [0, 2]]
     """
     kept = _Kept(number_of_vertices(n), truth(maximum, "maximum"))
-    if not isinstance(chunks, Iterable):
-        raise TypeError(f"chunks are {chunks!r}, and have to be an iterable of (u, v, w)")
+    if not isinstance(chunks, Iterable) or isinstance(chunks, Forest) or hasattr(chunks, "columns"):
+        given = "a frame" if hasattr(chunks, "columns") else f"{chunks!r:.80}"
+        raise TypeError(f"chunks are {given}, and have to be an iterable of (u, v, w): [(u, v, w)] has one chunk")
     number = 0
     for chunk in chunks:
         kept.take(number, chunk)
@@ -107,14 +116,10 @@ class _Kept:
         self.floats: int | None = None
         self.no_double: tuple[int, int, int] | None = None
 
-    def take(self, number: int, chunk: Sequence[ArrayLike]) -> None:
+    def take(self, number: int, chunk: Chunk) -> None:
         """Takes the edges of the chunk of this number."""
         with _told_of(number):
-            if not isinstance(chunk, (tuple, list)):
-                raise TypeError(f"it is a {type(chunk).__name__}, and has to be a tuple or list (u, v, w)")
-            if len(chunk) != 3:
-                raise TypeError(f"it has the length {len(chunk)}, and needs three columns: u, v and w")
-            tails, heads, weights = columns(*chunk)
+            tails, heads, weights = columns(*self._columns_of(chunk))
             u, v = pairs_of_vertices(self.n, tails, heads)
             ordered(weights)
             if len(weights):
@@ -130,6 +135,28 @@ class _Kept:
             self.runs.extend((self.count, number, row))
             self.count, row = self.count + taken, row + taken
 
+    def _columns_of(self, chunk: Chunk) -> Sequence[Any]:
+        """u, v and w of a chunk, or of a forest of other edges."""
+        if isinstance(chunk, Forest):
+            if chunk.maximum != self.maximum:
+                kind, wanted = ("maximum", "minimum") if chunk.maximum else ("minimum", "maximum")
+                raise ValueError(f"it is a {kind} forest, which lacks edges that a {wanted} forest may need: find both with the same `maximum`")
+            if chunk.names is not None:
+                raise ValueError(
+                    "it is a forest with names, which numbers its vertices by its own names: "
+                    "boruvka.from_edges takes pandas.concat([it.to_frame() for it in forests])"
+                )
+            return chunk.u, chunk.v, chunk.w
+        if hasattr(chunk, "columns"):
+            raise TypeError('it is a frame, and has to be a tuple or list (u, v, w): (frame["u"], frame["v"], frame["w"]) is one')
+        if not isinstance(chunk, (tuple, list)):
+            raise TypeError(f"it is a {type(chunk).__name__}, and has to be a Forest, or a tuple or list (u, v, w)")
+        if len(chunk) != 3:
+            raise TypeError(f"it has the length {len(chunk)}, and needs three columns: u, v and w")
+        if all(isinstance(it, numbers.Number) for it in chunk):
+            raise TypeError("it has numbers instead of columns: is it a column? [(u, v, w)] has one chunk")
+        return chunk
+
     def forest(self) -> Forest:
         """The forest of all edges that were taken."""
         if self.runs:
@@ -139,7 +166,7 @@ class _Kept:
 
     def _reduce(self) -> None:
         """Keeps only the forest of what is kept."""
-        index = places(self.n, self.u[: self.count], self.v[: self.count], self.w[: self.count], self.maximum)
+        index = places_of_own(self.n, self.u[: self.count], self.v[: self.count], ordered(self.w[: self.count], self.maximum))
         self.count = len(index)
         for it in (self.u, self.v, self.w):
             it[: self.count] = it[index]

@@ -14,10 +14,11 @@ from collections.abc import Iterator
 from typing import Any, NamedTuple, SupportsIndex, overload
 
 import numpy as np
-from numpy.typing import ArrayLike, NDArray
+from numpy.typing import NDArray
 
 from boruvka import _library
-from boruvka._forest import Forest, edges_of, pairs_of_vertices
+from boruvka._edges import Column, edges_of, pairs_of_vertices
+from boruvka._result import Forest
 from boruvka._weights import ordered
 
 # bytes that are read, and lines that are written, in one piece of work; Ctrl-C is heard between two
@@ -94,23 +95,27 @@ def read_gr(path: str | os.PathLike[str]) -> Edges:
 
 
 @overload
-def write_gr(path: str | os.PathLike[str], n: Forest) -> None: ...
+def write_gr(path: str | os.PathLike[str], forest: Forest, /) -> None: ...
 @overload
-def write_gr(path: str | os.PathLike[str], n: SupportsIndex | None, u: ArrayLike, v: ArrayLike, w: ArrayLike) -> None: ...
+def write_gr(path: str | os.PathLike[str], u: Column, v: Column, w: Column, /, *, n: SupportsIndex | None = None) -> None: ...
 @overload
-def write_gr(path: str | os.PathLike[str], n: ArrayLike, u: ArrayLike, v: ArrayLike) -> None: ...
+def write_gr(path: str | os.PathLike[str], n: SupportsIndex | None, u: Column, v: Column, w: Column, /) -> None: ...
 @overload
-def write_gr(path: str | os.PathLike[str], n: ArrayLike, u: ArrayLike) -> None: ...
+def write_gr(path: str | os.PathLike[str], edges: Column, w: Column, /, *, n: SupportsIndex | None = None) -> None: ...
 @overload
-def write_gr(path: str | os.PathLike[str], *, n: SupportsIndex | None = None, u: ArrayLike, v: ArrayLike, w: ArrayLike) -> None: ...
-def write_gr(path: str | os.PathLike[str], n: Any = None, u: Any = None, v: Any = None, w: Any = None) -> None:
+def write_gr(path: str | os.PathLike[str], n: SupportsIndex | None, edges: Column, w: Column, /) -> None: ...
+@overload
+def write_gr(path: str | os.PathLike[str], n: SupportsIndex | None, /, *, u: Column, v: Column, w: Column) -> None: ...
+@overload
+def write_gr(path: str | os.PathLike[str], *, n: SupportsIndex | None = None, u: Column, v: Column, w: Column) -> None: ...
+def write_gr(path: str | os.PathLike[str], *edges: Any, n: Any = None, u: Any = None, v: Any = None, w: Any = None) -> None:
     """Write a graph or a forest as a `.gr` file, which the program reads; compressed by gzip, if its name ends in `.gz`.
 
     Parameters
     ----------
     path : path
         The file. One that is there is lost.
-    n, u, v, w : optional
+    edges, n, u, v, w : optional
         A forest alone, or the edges as `minimum_spanning_forest` takes them. Weights are whole numbers.
 
     Raises
@@ -135,9 +140,9 @@ def write_gr(path: str | os.PathLike[str], n: Any = None, u: Any = None, v: Any 
     a 1 2 7
     a 3 2 -5
     """
-    if isinstance(n, Forest) and u is v is w is None:
-        n, u, v, w = n.n, n.u, n.v, n.w
-    count, u, v, weights = edges_of(n, u, v, w)
+    if len(edges) == 1 and isinstance(edges[0], Forest):
+        edges = edges[0].n, edges[0].u, edges[0].v, edges[0].w
+    count, u, v, weights = edges_of(edges, n, u, v, w)
     tails, heads = pairs_of_vertices(count, u, v)
     if weights.dtype.kind == "f" and len(weights):
         raise TypeError(f"w has the dtype {weights.dtype}, and a .gr text has whole numbers: scale and round them first, as in (1000 * w).round().astype(int)")
@@ -171,5 +176,5 @@ def _arcs(lines: bytes) -> NDArray[np.int64]:
 def _lines(tails: NDArray[np.uint32], heads: NDArray[np.uint32], weights: NDArray[np.int64]) -> Iterator[bytes]:
     for start in range(0, len(weights), _LINES):
         some = slice(start, start + _LINES)
-        rows = zip(tails[some].tolist(), heads[some].tolist(), weights[some].tolist())
-        yield "".join([f"a {u + 1} {v + 1} {w}\n" for u, v, w in rows]).encode()
+        rows = zip((tails[some] + np.uint32(1)).tolist(), (heads[some] + np.uint32(1)).tolist(), weights[some].tolist())
+        yield "".join(map("a %d %d %d\n".__mod__, rows)).encode()

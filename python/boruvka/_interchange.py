@@ -6,6 +6,7 @@ https://data-apis.org/dataframe-protocol says what its words mean.
 from __future__ import annotations
 
 import ctypes
+from itertools import chain
 from typing import Any
 
 import numpy as np
@@ -21,14 +22,15 @@ def names_of(table: Any) -> list[Any]:
     return list(table.column_names())
 
 
-def column_of(table: Any, name: Any) -> list[Any]:
-    """The entries of a column, None where one is missing."""
+def column_of(table: Any, name: Any) -> list[Any] | NDArray[Any]:
+    """The entries of a column, None where one is missing; an array if it has one piece of numbers, and none is missing."""
     column = table.get_column_by_name(name)
-    chunks = [column] if column.num_chunks() == 1 else column.get_chunks()
-    return [it for chunk in chunks for it in _entries(chunk, name)]
+    chunks = [column] if column.num_chunks() == 1 else list(column.get_chunks())
+    entries = [_entries(it, name) for it in chunks]
+    return entries[0] if len(entries) == 1 else list(chain.from_iterable(it if isinstance(it, list) else it.tolist() for it in entries))
 
 
-def _entries(chunk: Any, name: Any) -> list[Any]:
+def _entries(chunk: Any, name: Any) -> list[Any] | NDArray[Any]:
     """Those of a column that is in one piece."""
     size = chunk.size() if callable(chunk.size) else chunk.size
     kind, buffers = int(chunk.dtype[0]), chunk.get_buffers()
@@ -36,14 +38,18 @@ def _entries(chunk: Any, name: Any) -> list[Any]:
         # (Arrow's texts may have no offsets then)
         return []
     if kind in _LETTERS or kind == _BOOL:
-        each = _numbers(buffers["data"], chunk.offset, size).tolist()
+        numbers = _numbers(buffers["data"], chunk.offset, size).copy()
+        if not any(_missing(chunk, size)):
+            return numbers
+        each = numbers.tolist()
     elif kind == _STRING:
         each = _strings(buffers, chunk.offset, size)
     elif kind == _CATEGORICAL:
         each = _named(_codes(buffers["data"], chunk.offset, size), chunk.describe_categorical, name)
     else:
         raise TypeError(f"the column {name!r} has entries of the kind {chunk.dtype[0]!r}, and numbers, texts and categories are taken")
-    return [None if missing else it for it, missing in zip(each, _missing(chunk, size))]
+    missing = _missing(chunk, size)
+    return [None if is_missing else it for it, is_missing in zip(each, missing)] if any(missing) else each
 
 
 def _bytes_of(buffer: Any) -> NDArray[np.uint8]:
@@ -75,9 +81,12 @@ def _codes(told: tuple[Any, Any], offset: int, size: int) -> NDArray[Any]:
 
 
 def _strings(buffers: Any, offset: int, size: int) -> list[str]:
-    text = _bytes_of(buffers["data"][0]).tobytes()
+    data = _bytes_of(buffers["data"][0]).tobytes()
     starts = _numbers(buffers["offsets"], offset, size + 1).tolist()
-    return [text[start:end].decode() for start, end in zip(starts, starts[1:])]
+    cuts = map(slice, starts, starts[1:])
+    if data.isascii():
+        return list(map(data.decode().__getitem__, cuts))
+    return list(map(bytes.decode, map(data.__getitem__, cuts)))
 
 
 def _named(codes: NDArray[Any], about: Any, name: Any) -> list[Any]:
@@ -87,18 +96,19 @@ def _named(codes: NDArray[Any], about: Any, name: Any) -> list[Any]:
         raise TypeError(f"the column {name!r} has categories without a dictionary")
     names = _entries(about["categories"], name)
     # (codes of missing entries name nothing)
-    return [names[it] if 0 <= it < len(names) else None for it in codes.tolist()]
+    is_there = (0 <= codes) & (codes < len(names))
+    return list(map([*names, None].__getitem__, np.where(is_there, codes, len(names)).tolist()))
 
 
 def _missing(chunk: Any, size: int) -> list[bool]:
-    """Which entries are missing."""
+    """Which entries are missing; none of them if no entry is."""
     how, value = chunk.describe_null
     if how in (_NEVER, _NAN):
-        return [False] * size
+        return []
     buffers = chunk.get_buffers()
     if how == _SENTINEL:
-        return [it == value for it in _codes(buffers["data"], chunk.offset, size).tolist()]
+        return list(_codes(buffers["data"], chunk.offset, size) == value)
     if buffers["validity"] is None:
-        return [False] * size
+        return []
     marks, _ = buffers["validity"]
-    return [it == bool(value) for it in _numbers((marks, (_BOOL, 1 if how == _BITS else 8, "", "")), chunk.offset, size).tolist()]
+    return list(_numbers((marks, (_BOOL, 1 if how == _BITS else 8, "", "")), chunk.offset, size) == bool(value))

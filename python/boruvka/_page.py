@@ -16,9 +16,10 @@ import webbrowser
 from collections.abc import Mapping, Sequence, Set
 
 import numpy as np
-from numpy.typing import ArrayLike
+from numpy.typing import ArrayLike, NDArray
 
-from boruvka._forest import expect_no_masks, truth
+from boruvka._arrays import held, truth
+from boruvka._globe import latitude_first
 from boruvka._weights import why_none
 
 _MOST_POINTS = 1_000_000
@@ -36,11 +37,13 @@ def show(
     Parameters
     ----------
     points : array_like, shape (n, 2)
-        x and y of each point, 1 to 1,000,000 of them.
+        x and y of each point, or its latitude and longitude; 1 to 1,000,000 of them.
     names : sequence of str, optional
         A name for each point.
     globe : bool
-        Whether they are degrees east and north: lengths are then kilometres on great circles.
+        Whether they are places on the globe in degrees: the latitude and then the longitude, as in scikit-learn. Columns that
+        are called lat or latitude, and lon, lng, long or longitude, may be in any order. Lengths are kilometres on great
+        circles.
     into : path, optional
         Where the file is written. It is then not opened. By default it is a temporary file, which stays.
     page : path, optional
@@ -54,12 +57,17 @@ def show(
     Raises
     ------
     ValueError
-        If there is no point, or there are too many; a coordinate isn't finite, or none of the globe; names aren't one for
-        each point; a double would round a whole number; or the file isn't such a page.
+        If there is no point, or there are too many; a coordinate isn't finite, a latitude is past 90 degrees, or a longitude
+        past 360; names aren't one for each point; a double would round a whole number; or the file isn't such a page.
     TypeError
         If a coordinate is no real number, `globe` is neither True nor False, or names are a set, a dict or a string.
     FileNotFoundError
         If no page is found.
+
+    Warns
+    -----
+    UserWarning
+        If latitudes and longitudes are probably swapped.
 
     Examples
     --------
@@ -101,32 +109,41 @@ def _filled(page: str, table: str) -> str:
 
 def _table(points: ArrayLike, names: Sequence[str] | None, globe: bool) -> str:
     """The points as the text of a table."""
-    # (which is loaded when it is first used)
-    from boruvka.linkage import expect_no_rounding
-
-    expect_no_masks(points, "points")
-    held = np.asarray(points)
-    if held.dtype.kind not in "biuf" or held.dtype.itemsize > 8:
-        raise TypeError(f"{why_none(held, 'points', 'biuf')}: coordinates are real numbers of up to 64 bits")
-    given = held.astype(np.float64)
-    expect_no_rounding(points, held, given, "points")
-    if given.ndim != 2 or given.shape[1] != 2:
-        raise ValueError(f"points has the shape {given.shape}: it must be (n, 2), x and y of each")
-    if not 1 <= len(given) <= _MOST_POINTS:
-        raise ValueError(f"there are {len(given)} points: the page takes 1 to {_MOST_POINTS:,}")
-    are_wrong = ~np.isfinite(given) | (np.abs(given) > [360.0, 90.0] if globe else False)
-    if are_wrong.any():
-        row, column = np.argwhere(are_wrong)[0].tolist()
-        raise ValueError(f"points[{row}, {column}] is {given[row, column]}: it must be {'degrees east, or north' if globe else 'finite'}")
+    given = _coordinates(points)
+    if globe:
+        given = latitude_first(points, given)
     if isinstance(names, (Set, Mapping, str, bytes)):
         raise TypeError(f"names are a {type(names).__name__}, and have to be a list")
     if names is not None and len(names) != len(given):
         raise ValueError(f"there are {len(names)} names for {len(given)} points")
-    head = ["longitude", "latitude"] if globe else ["x", "y"]
+    head = ["latitude", "longitude"] if globe else ["x", "y"]
     rows = [[repr(x), repr(y)] for x, y in given.tolist()]
     if names is not None:
         head, rows = ["name", *head], [[_quoted(str(name)), *row] for name, row in zip(names, rows)]
     return "".join(f"{','.join(row)}\n" for row in [head, *rows])
+
+
+def _coordinates(points: ArrayLike) -> NDArray[np.float64]:
+    """The two finite coordinates of each point."""
+    # (which is loaded when it is first used)
+    from boruvka.linkage import expect_no_rounding
+
+    array = held(points, "points")
+    if array.dtype.names:
+        array = np.stack([array[it] for it in array.dtype.names], axis=-1)
+    if array.dtype.kind not in "biuf" or array.dtype.itemsize > 8:
+        raise TypeError(f"{why_none(array, 'points', 'biuf')}: coordinates are real numbers of up to 64 bits")
+    given = array.astype(np.float64)
+    expect_no_rounding(points, array, given, "points")
+    if given.ndim != 2 or given.shape[1] != 2:
+        how = "; numpy.column_stack([x, y]) makes it of two arrays" if given.ndim == 1 else ""
+        raise ValueError(f"points has the shape {given.shape}: it must be (n, 2), x and y of each{how}")
+    if not 1 <= len(given) <= _MOST_POINTS:
+        raise ValueError(f"there are {len(given)} points: the page takes 1 to {_MOST_POINTS:,}")
+    if not np.isfinite(given).all():
+        row, column = np.argwhere(~np.isfinite(given))[0].tolist()
+        raise ValueError(f"points[{row}, {column}] is {given[row, column]}: a coordinate has to be finite")
+    return given
 
 
 def _quoted(name: str) -> str:

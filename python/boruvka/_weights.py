@@ -12,7 +12,7 @@ _PIECE = 1 << 14
 _MOST = (1 << 63) - 1
 
 
-def ordered(weights: NDArray[Any], maximum: bool = False) -> NDArray[np.int64]:
+def ordered(weights: NDArray[Any], maximum: bool = False, name: str = "w") -> NDArray[np.int64]:
     """Whole numbers in the order of these weights, or in the other if `maximum` is true, equal for equal ones.
 
     Of int64 it is the same array, where C can take it. A ValueError is a NaN or a number past 2^63 - 1, a TypeError a
@@ -20,10 +20,10 @@ def ordered(weights: NDArray[Any], maximum: bool = False) -> NDArray[np.int64]:
     """
     kind, size = weights.dtype.kind, weights.dtype.itemsize
     if kind not in "biuf" or size > 8:
-        raise TypeError(f"{why_none(weights, 'w', 'biuf')}: weights are whole numbers or floats of up to 64 bits")
+        raise TypeError(f"{why_none(weights, name, 'biuf')}: weights are whole numbers or floats of up to 64 bits{_remedy(weights)}")
     if kind == "u" and size == 8 and len(weights) and int(weights.max()) > _MOST:
-        raise ValueError(f"w[{weights.argmax()}] is {weights.max()}, past 2^63 - 1")
-    keys: NDArray[np.int64] = _of_floats(weights) if kind == "f" else np.require(weights, np.int64, ["C_CONTIGUOUS", "ALIGNED"])
+        raise ValueError(f"{name}[{weights.argmax()}] is {weights.max()}, past 2^63 - 1")
+    keys: NDArray[np.int64] = _of_floats(weights, name) if kind == "f" else np.require(weights, np.int64, ["C_CONTIGUOUS", "ALIGNED"])
     # (no bit changes its place, so there is nothing to overflow)
     return ~keys if maximum else keys
 
@@ -44,7 +44,21 @@ def why_none(array: NDArray[Any], name: str, kinds: str) -> str:
     return f"{dtype}, as {name}{list(map(int, place)) or ''} is {entry!r:.80}"
 
 
-def _of_floats(weights: NDArray[Any]) -> NDArray[np.int64]:
+def _remedy(weights: NDArray[Any]) -> str:
+    """What makes numbers of texts."""
+    if weights.dtype.kind != "U" or not len(weights):
+        return ""
+    text = str(weights[0])
+    for changed, how in ((text, ".astype(float) makes them of texts"), (text.replace(",", "."), "pandas.read_csv reads such texts by decimal=','")):
+        try:
+            float(changed)
+            return f": {how}"
+        except ValueError:
+            pass
+    return ""
+
+
+def _of_floats(weights: NDArray[Any], name: str) -> NDArray[np.int64]:
     """The bits of each float; if the sign is set, those of its size below 0. So -0.0 counts as 0.0.
 
     No float is reckoned with: a library may have had the processor take those next to 0 for 0.
@@ -61,5 +75,5 @@ def _of_floats(weights: NDArray[Any]) -> NDArray[np.int64]:
             piece ^= signs & np.iinfo(whole).max
             piece -= signs
         if piece.max() > infinite or piece.min() < -infinite:
-            raise ValueError(f"w[{start + (abs(piece) > infinite).argmax()}] is NaN")
+            raise ValueError(f"{name}[{start + (abs(piece) > infinite).argmax()}] is NaN, which has no place in an order: leave such edges out first")
     return keys

@@ -5,7 +5,8 @@ from __future__ import annotations
 from collections.abc import Hashable
 from typing import Any, SupportsIndex
 
-from boruvka._forest import columns, number_of_vertices, places, truth, whole
+from boruvka._arrays import truth, whole
+from boruvka._edges import columns, number_of_vertices, places
 
 __all__ = ["minimum_spanning_forest"]
 

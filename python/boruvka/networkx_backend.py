@@ -19,7 +19,7 @@ import networkx as nx
 import numpy as np
 from numpy.typing import NDArray
 
-from boruvka._forest import places
+from boruvka._edges import places
 
 #: its ends, in a multigraph its key, and its data
 Edge = tuple[Any, ...]
@@ -151,18 +151,6 @@ def should_run(name: str, args: tuple[Any, ...], kwargs: dict[str, Any]) -> bool
     """Whether a call is answered sooner here, if the user named no backend for it."""
     graph = args[0] if args else kwargs["G"]
     return graph.number_of_edges() > _WORTHWHILE or "a small graph is done as fast by networkx"
-
-
-def info() -> dict[str, Any]:
-    """What networkx's documents tell of this backend."""
-    functions = minimum_spanning_edges, maximum_spanning_edges, minimum_spanning_tree, maximum_spanning_tree
-    return {
-        "backend_name": "boruvka",
-        "project": "boruvka",
-        "package": "boruvka",
-        "short_summary": "Minimum and maximum spanning forests by a library whose calls are proved.",
-        "functions": {it.__name__: {} for it in functions},
-    }
 
 
 def _edges(

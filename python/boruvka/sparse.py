@@ -9,8 +9,9 @@ from numpy.typing import ArrayLike
 from scipy.sparse import csr_matrix, issparse, spmatrix
 from scipy.sparse.csgraph import csgraph_from_dense, csgraph_from_masked
 
+from boruvka._arrays import is_masked
+from boruvka._edges import places
 from boruvka._entries import expect_no_filling
-from boruvka._forest import is_masked, places
 
 __all__ = ["minimum_spanning_tree"]
 

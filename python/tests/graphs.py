@@ -72,3 +72,31 @@ def by_key(graph, maximum=False):
     # (sorting is stable, also backwards)
     order.sort(key=lambda i: graph.w[i], reverse=maximum)
     return kruskal(graph.n, graph.u, graph.v, order)
+
+
+def searched(edges, a, b):
+    """The only path from a to b in a forest, by going to each neighbour that wasn't met; None if there is none."""
+    near = {}
+    for one, other in edges:
+        near.setdefault(one, []).append(other)
+        near.setdefault(other, []).append(one)
+    waiting = [[a]]
+    while waiting:
+        way = waiting.pop()
+        if way[-1] == b:
+            return way
+        waiting += [[*way, it] for it in near.get(way[-1], []) if len(way) < 2 or it != way[-2]]
+    return None
+
+
+def replaced(graph, forest, maximum):
+    """For each edge of the forest the one that its graph's forest has without this edge, by Kruskal's algorithm; or -1."""
+    found, whole = [], {*forest}
+    for lost in forest:
+        other = Graph(0)
+        kept = [it for it in range(len(graph.w)) if it != lost]
+        other.n, other.u, other.v, other.w = graph.n, *([held[it] for it in kept] for held in (graph.u, graph.v, graph.w))
+        new = {kept[it] for it in by_key(other, maximum)} - whole
+        assert len(new) < 2
+        found.append(min(new, default=-1))
+    return found

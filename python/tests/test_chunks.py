@@ -15,7 +15,7 @@ from unittest import mock
 
 import numpy as np
 
-from boruvka import Forest, _chunks, _library, _threads, forest_of_chunks, minimum_spanning_forest
+from boruvka import Forest, _chunks, _library, _threads, forest_of_chunks, from_edges, minimum_spanning_forest
 from graphs import Graph, by_key
 from test_forest import SMALL, SMALL_FOREST, listed
 
@@ -137,21 +137,35 @@ class Kept(unittest.TestCase):
             for _ in range(parts):
                 yield draw.integers(0, n, rows, np.int32), draw.integers(0, n, rows, np.int32), draw.integers(0, 10**6, rows)
 
-        def places(count, u, v, w, maximum):
+        def places(count, u, v, w):
             sizes.append(len(w))
-            return reduced(count, u, v, w, maximum)
+            return reduced(count, u, v, w)
 
-        reduced = _chunks.places
+        reduced = _chunks.places_of_own
         most = max(_chunks._A_VERTEX * n, _chunks._AT_LEAST)
         tracemalloc.start()
         self.addCleanup(tracemalloc.stop)
-        with mock.patch.object(_chunks, "places", places):
+        with mock.patch.object(_chunks, "places_of_own", places):
             forest = forest_of_chunks(n, chunks())
         peak = tracemalloc.get_traced_memory()[1]
         self.assertEqual((len(forest), max(sizes)), (n - 1, most))
         self.assertLess(len(sizes), 2 + rows * parts / (most - n))
         # (what the library itself takes isn't traced; all edges at once are 32 MB)
         self.assertLess(peak, 60 * most + 3 * 16 * rows)
+
+    def test_forests_of_parts_are_chunks(self):
+        for seed in range(60):
+            graph = Graph(seed)
+            maximum = seed % 2 == 1
+            cuts = sorted(np.random.default_rng(seed).integers(0, len(graph.w) + 1, 2).tolist())
+            parts = [[held[one:other] for held in graph.held] for one, other in zip([0, *cuts], [*cuts, len(graph.w)])]
+            forests = [minimum_spanning_forest(graph.n, *it, maximum=maximum) for it in parts]
+            whole = minimum_spanning_forest(graph.n, *graph.held, maximum=maximum)
+            for mixed in (forests, [forests[0], tuple(parts[1]), forests[2]]):
+                found = forest_of_chunks(graph.n, mixed, maximum=maximum)
+                self.assertEqual((found.u.tolist(), found.v.tolist(), found.w.tolist()), (whole.u.tolist(), whole.v.tolist(), whole.w.tolist()))
+                for (chunk, row), w in zip(found.index.tolist(), found.w.tolist()):
+                    self.assertEqual(mixed[chunk].w[row] if isinstance(mixed[chunk], Forest) else mixed[chunk][2][row], w)
 
     def test_one_chunk_at_a_time(self):
         last = []
@@ -272,7 +286,7 @@ class Refused(unittest.TestCase):
             (ValueError, r"v\[1\] is 3, .*: are they numbered from 1\?$", ([1, 2], [2, 3], [1, 1])),
             (TypeError, r"u has the dtype float64, .*: \.astype\(int\)", ([0.0, 1.0], [1, 2], [1, 1])),
             (TypeError, r"v has the dtype <U1, .*: boruvka.from_edges", ([0, 1], ["a", "b"], [1, 1])),
-            (ValueError, r"w\[1\] is NaN$", ([0, 1], [1, 2], [1, math.nan])),
+            (ValueError, r"w\[1\] is NaN, which has no place", ([0, 1], [1, 2], [1, math.nan])),
             (ValueError, r"w\[0\] is 9223372036854775808, past", ([0], [1], np.array([2**63], np.uint64))),
             (ValueError, r"w\[0\] is 9007199254740993, which numpy would round", ([0, 1], [1, 2], [2**53 + 1, 0.5])),
             (TypeError, r"w has the dtype complex128", ([0], [1], [1j])),
@@ -281,13 +295,16 @@ class Refused(unittest.TestCase):
             (ValueError, r"u has masked entries", (np.ma.array([0, 1], mask=[0, 1]), [1, 2], [1, 1])),
             (ValueError, r"u, v and w differ in length: 2, 2 and 1$", ([0, 1], [1, 2], [1])),
             (ValueError, r"u, v and w differ in length: 2, 1 and 2$", ([0, 1], [1], [1, 1])),
-            (ValueError, r"u has 0 dimensions", (0, 1, 5)),
+            (TypeError, r"it has numbers instead of columns: is it a column\? \[\(u, v, w\)\] has one chunk$", (0, 1, 5)),
+            (ValueError, r"u is 0, and has to be an array or a list", (0, [1], [5])),
             (ValueError, r"u has 2 dimensions", ([[0, 1]], [[1, 2]], [[1, 1]])),
             (TypeError, r"it has the length 2, and needs three columns", ([[0, 1], [1, 2]], [1, 1])),
             (TypeError, r"it has the length 4, ", tuple(minimum_spanning_forest(3, *self.FINE))),
             (TypeError, r"it has the length 0, ", ()),
             (TypeError, r"it is a NoneType, ", None),
-            (TypeError, r"it is a Forest, ", minimum_spanning_forest(3, *self.FINE)),
+            (ValueError, r"it is a maximum forest, which lacks edges that a minimum forest may need: find both with", minimum_spanning_forest(3, *self.FINE, maximum=True)),
+            (ValueError, r"it is a forest with names, .*: boruvka\.from_edges takes pandas\.concat", from_edges({"u": ["a"], "v": ["b"], "w": [1]})),
+            (ValueError, r"v\[0\] is 8, and a vertex is at least 0 and below n = 3", minimum_spanning_forest([0], [8], [1])),
             (TypeError, r"it is a ndarray, ", np.zeros((3, 3), int)),
             (TypeError, r"it is a dict, ", dict(zip("uvw", self.FINE))),
             (TypeError, r"it is a str, ", "uvw"),
@@ -313,8 +330,10 @@ class Refused(unittest.TestCase):
             with self.assertRaisesRegex(TypeError, "^chunks are .*, and have to be an iterable of"):
                 forest_of_chunks(3, chunks)
         # (three columns in place of chunks)
-        with self.assertRaisesRegex(ValueError, "^chunk 0: u has 0 dimensions"):
+        with self.assertRaisesRegex(TypeError, "^chunk 0: it has numbers instead of columns: is it a column"):
             forest_of_chunks(3, ([0, 1, 2], [1, 2, 0], [1, 1, 1]))
+        with self.assertRaisesRegex(TypeError, r"^chunks are <Forest of .*, and have to be an iterable of .*: \[\(u, v, w\)\] has one chunk$"):
+            forest_of_chunks(3, minimum_spanning_forest(3, *self.FINE))
         with self.assertRaisesRegex(TypeError, "^chunk 0: it is a ndarray"):
             forest_of_chunks(3, tuple(map(np.array, self.FINE)))
         with self.assertRaisesRegex(TypeError, "^chunk 0: it is a str"):
@@ -352,7 +371,7 @@ class Pairs(unittest.TestCase):
         self.assertNotEqual(self.forest, forest_of_chunks(7, chunks_of(SMALL, [0, 2, 8])))
         self.assertNotEqual(self.forest, minimum_spanning_forest(7, *SMALL))
         self.assertEqual(self.forest.labels(clusters=2).tolist(), [0, 0, 0, 0, 0, 0, 1])
-        self.assertEqual(self.forest.bottleneck(0, 5), minimum_spanning_forest(7, *SMALL).bottleneck(0, 5))
+        self.assertEqual(self.forest.bottleneck(0, 5)._replace(index=1), minimum_spanning_forest(7, *SMALL).bottleneck(0, 5))
         chunk, row = self.forest.index.T
         self.assertEqual((chunk.tolist(), row.tolist()), ([1, 1, 1, 1, 0], [3, 1, 0, 2, 1]))
 

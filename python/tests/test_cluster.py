@@ -526,7 +526,7 @@ class Estimators(unittest.TestCase):
         hidden = np.ma.masked_equal([[0.0, 0.0], [1.0, 1.0], [99.0, 99.0]], 99)
         for points in (hidden, [*hidden]):
             for made in (SingleLinkage(), HDBSCAN(2)):
-                with self.assertRaisesRegex(ValueError, "^X has masked entries: leave them out first$"):
+                with self.assertRaisesRegex(ValueError, r"^X has masked entries, as X\[[\d, ]+\] is: leave them out first$"):
                     made.fit(points)
 
     def test_choices_that_cannot_be(self):

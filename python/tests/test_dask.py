@@ -103,7 +103,7 @@ class OneProcess(unittest.TestCase):
         for error, words, column, wrong in [
             (ValueError, r"u\[1\] is 4, and a vertex is at least 0 and below n = 4", "u", 4),
             (ValueError, r"v\[1\] is -1, ", "v", -1),
-            (ValueError, r"w\[1\] is NaN$", "w", math.nan),
+            (ValueError, r"w\[1\] is NaN, which has no place", "w", math.nan),
         ]:
             self.roads.loc[3, column] = wrong
             with self.assertRaisesRegex(error, f"^partition 1: {words}"):

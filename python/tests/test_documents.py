@@ -13,7 +13,7 @@ import unittest
 import numpy as np
 
 import boruvka
-from boruvka import _forest, _frames, _gr, linkage
+from boruvka import _chunks, _forest, _frames, _gr, _result, linkage
 
 TOP = os.path.dirname(os.path.dirname(os.path.abspath(__file__)))
 EXAMPLES = f"{TOP}/examples"
@@ -61,7 +61,9 @@ class Docstrings(unittest.TestCase):
         self.assertGreaterEqual(tried, least)
 
     def test_modules(self):
+        self.expect_examples(_chunks, 5)
         self.expect_examples(_forest, 5)
+        self.expect_examples(_result, 4)
         self.expect_examples(_frames, 4)
         self.expect_examples(_gr, 6)
         self.expect_examples(linkage, 10)

@@ -7,14 +7,18 @@ import fractions
 import importlib.util
 import math
 import mmap
+import os
+import subprocess
+import sys
 import threading
 import unittest
 from collections import deque
+from unittest import mock
 
 import numpy as np
 
 import boruvka
-from boruvka import Forest, minimum_spanning_forest
+from boruvka import Forest, _threads, minimum_spanning_forest
 from graphs import KINDS, Components, Graph, by_key
 
 try:
@@ -156,7 +160,7 @@ class Knowing(unittest.TestCase):
                     places = [beside[frozenset(it)] for it in zip(way, way[1:])]
                     if places:
                         best = min if maximum else max
-                        self.assertEqual(forest.w[forest.bottleneck(a, b)], best(forest.w[places]))
+                        self.assertEqual(forest.bottleneck(a, b).w, best(forest.w[places]))
                     else:
                         with self.assertRaisesRegex(ValueError, "no edge"):
                             forest.bottleneck(a, b)
@@ -213,7 +217,7 @@ class Knowing(unittest.TestCase):
     def test_ends_that_are_no_vertices_of_it(self):
         for u, v in [([-1], [1]), ([0], [2])]:
             forest = Forest(u, v, [1], [0], n=2, names=["a", "b"])
-            for call, module in [(forest.to_frame, "pandas"), (forest.to_networkx, "networkx"), (lambda: forest.plot([[0, 0], [1, 1]]), "matplotlib"), (lambda: forest.path(0, 1), "numpy")]:
+            for call, module in [(forest.to_frame, "pandas"), (forest.to_networkx, "networkx"), (lambda: forest.plot([[0, 0], [1, 1]]), "matplotlib"), (lambda: forest.path("a", "b"), "numpy")]:
                 if importlib.util.find_spec(module):
                     with self.assertRaisesRegex(ValueError, "^an edge of the forest has an end that is none of its 2 vertices$"):
                         call()
@@ -232,7 +236,7 @@ class Knowing(unittest.TestCase):
         self.assertEqual(len(np.unique(grey, axis=0)), 5)
         with self.assertRaisesRegex(ValueError, "shape"):
             self.forest.plot(points[:3])
-        with self.assertRaisesRegex(ValueError, "^points has masked entries: leave them out first$"):
+        with self.assertRaisesRegex(ValueError, r"^points has masked entries, as points\[\d, \d\] is: leave them out first$"):
             self.forest.plot(np.ma.masked_less(points, 0.5))
         with self.assertRaisesRegex(ValueError, r"^labels has the shape \(2,\), and 7 points have one each$"):
             self.forest.plot(points, labels=[0, 1])
@@ -251,6 +255,15 @@ class Called(unittest.TestCase):
             minimum_spanning_forest(edges.tolist(), w),
             minimum_spanning_forest(6, edges, w),
             minimum_spanning_forest(np.int8(6), edges, np.array(w)),
+            minimum_spanning_forest(None, edges, w),
+            minimum_spanning_forest(u, v, w, n=6),
+            minimum_spanning_forest(edges, w, n=6),
+            minimum_spanning_forest(edges, w=w),
+            minimum_spanning_forest(u, v, w=w),
+            minimum_spanning_forest(u, v=v, w=w, n=6),
+            minimum_spanning_forest(6, u, v, w=w),
+            minimum_spanning_forest(6, u=u, v=v, w=w),
+            minimum_spanning_forest(n=6, u=u, v=v, w=w),
         ]:
             self.assertEqual(found, wanted)
         self.assertEqual(minimum_spanning_forest([], [], []).n, 0)
@@ -395,7 +408,7 @@ class Refused(unittest.TestCase):
             for place, name in enumerate("uvw"):
                 given = [[0, 1], [1, 2], [1, 1]]
                 given[place] = wrong
-                self.expect(ValueError, f"^{name} has [02] dimensions", 3, *given)
+                self.expect(ValueError, f"^{name} (has 2 dimensions|is 0, and )", 3, *given)
         for given in ([[0], [1, 2], [1, 2]], [[0, 1], [1], [1, 2]], [[0, 1], [1, 2], [1]], [[], [], [1]]):
             self.expect(ValueError, "^u, v and w differ in length: ", 3, *given)
 
@@ -514,7 +527,66 @@ class Drawn(unittest.TestCase):
         self.assertEqual(wanted, [1, 5, 3, 4, 2, 6, 0])
 
 
+# another thread writes an array while calls read it
+RACE = """
+import sys, threading, time
+import numpy as np
+from boruvka import minimum_spanning_forest
+draw = np.random.default_rng(0)
+n, m = 50_000, 200_000
+u, v, w = draw.integers(0, n, m).astype("i4"), draw.integers(0, n, m).astype(sys.argv[1]), draw.integers(0, 10**9, m)
+written, values = {"u": (u, [2**31 - 1, -5]), "v": (v, [n, -5]), "w": (w, [-(2**63), 2**63 - 1])}[sys.argv[2]]
+is_over = False
+def write():
+    while not is_over:
+        place = int(draw.integers(m))
+        before = written[place]
+        for it in values:
+            written[place] = it
+            time.sleep(0)
+        written[place] = before
+thread = threading.Thread(target=write, daemon=True)
+thread.start()
+end = time.monotonic() + 2.5
+told = set()
+while time.monotonic() < end:
+    try:
+        minimum_spanning_forest(n, u, v, w)
+    except ValueError as error:
+        told.add(str(error).split(" ")[-1])
+is_over = True
+thread.join()
+print("whole", *sorted(told))
+"""
+
+
 class Threads(unittest.TestCase):
+    def test_arrays_that_another_thread_writes_end_no_process(self):
+        for dtype, name in (("i4", "u"), ("i8", "v"), ("i4", "w")):
+            ended = subprocess.run([sys.executable, "-c", RACE, dtype, name], capture_output=True, text=True, timeout=60, env={**os.environ, "PYTHONPATH": os.pathsep.join(sys.path)})
+            self.assertEqual((name, ended.returncode, ended.stdout[:5], ended.stderr), (name, 0, "whole", ""))
+
+    def test_the_library_reads_endpoints_of_its_own(self):
+        """So that what it checked is what it uses; and an array that no one can write isn't copied."""
+        read = []
+
+        def places(n, u, v, w, threads):
+            read[:] = u, v
+            return _threads.places_by_threads(n, u, v, w, threads)
+
+        u, v, w = (np.arange(it, it + 4, dtype=np.int32) for it in (0, 1, 0))
+        with mock.patch("boruvka._edges.places_by_threads", places):
+            for ends in (u, u.view(np.uint32), u[::-1], u.astype(">i4"), np.repeat(u, 2)[::2]):
+                minimum_spanning_forest(5, ends, v, w)
+                self.assertFalse(np.shares_memory(read[0], ends) or np.shares_memory(read[1], v))
+                view = ends[:]
+                view.flags.writeable = False
+                minimum_spanning_forest(5, view, v, w)
+                self.assertFalse(np.shares_memory(read[0], ends))
+            u.flags.writeable = False
+            minimum_spanning_forest(5, u, v, w)
+            self.assertEqual((np.shares_memory(read[0], u), np.shares_memory(read[1], v)), (True, False))
+
     def test_four_at_once_over_the_same_arrays(self):
         graphs = [Graph(seed) for seed in range(40)]
         wanted = [by_key(it) for it in graphs]

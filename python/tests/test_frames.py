@@ -3,6 +3,7 @@
 import ctypes
 import datetime
 import math
+import pathlib
 import re
 import unittest
 import uuid
@@ -90,8 +91,8 @@ def texts(names, width="i4", **more):
 class Frames(unittest.TestCase):
     def expect_roads(self, frame):
         forest = boruvka.from_edges(frame, "from", "to", weight="km")
-        self.assertEqual((forest.names, forest.n, forest.total), (["Ely", "Bath", "Rye", "York"], 4, 461))
-        self.assertEqual([it.tolist() for it in forest], [[0, 0], [1, 3], [226, 235], [0, 2]])
+        self.assertEqual((forest.names, forest.n, forest.total), (["Bath", "Ely", "Rye", "York"], 4, 461))
+        self.assertEqual([it.tolist() for it in forest], [[0, 1], [1, 3], [226, 235], [0, 2]])
         self.assertEqual(boruvka.from_edges(frame, "from", "to", weight="km", maximum=True).total, 565)
         self.assertEqual(forest.labels(height=230).tolist(), [0, 0, 1, 2])
 
@@ -103,14 +104,14 @@ class Frames(unittest.TestCase):
 
     def test_names_of_any_kind(self):
         mixed = boruvka.from_edges({"u": [("a", 1), 5, None.__class__], "v": [5, 2.5, 5], "w": [1.0, 2.0, 3.0]})
-        self.assertEqual(mixed.names, [("a", 1), 5, None.__class__, 2.5])
+        self.assertEqual(mixed.names, [2.5, 5, ("a", 1), None.__class__])
         days = np.array(["2020-01-01", "2020-01-02"], "M8[ns]")
         self.assertEqual(boruvka.from_edges({"u": days, "v": days[::-1], "w": [1, 2]}).names, list(days))
 
     def test_arrays(self):
         rows = np.array([[10, 20, 5], [20, 30, 4], [10, 30, 9], [7, 7, 1]])
         wanted = boruvka.from_edges({"u": rows[:, 0], "v": rows[:, 1], "w": rows[:, 2]})
-        self.assertEqual((wanted.names, wanted.total), ([10, 20, 7, 30], 9))
+        self.assertEqual((wanted.names, wanted.total), ([7, 10, 20, 30], 9))
         for frame in (rows, np.asfortranarray(rows), rows.astype(np.int16), np.asmatrix(rows)):
             self.assertEqual(boruvka.from_edges(frame, 0, 1, weight=2).index.tolist(), wanted.index.tolist())
         fields = np.array([(10, 20, 5.0), (20, 30, 4.0), (10, 30, 9.0), (7, 7, 1.0)], [("u", "i4"), ("v", "i8"), ("w", "f4")])
@@ -131,14 +132,14 @@ class Frames(unittest.TestCase):
             def __getitem__(self, it):
                 return rows[it]
 
-        self.assertEqual(boruvka.from_edges(Tensor(), 0, 1, weight=2).names, [10, 20, 7, 30])
+        self.assertEqual(boruvka.from_edges(Tensor(), 0, 1, weight=2).names, [7, 10, 20, 30])
 
     def test_texts_of_numbers_and_of_bytes(self):
         """They are two vertices, as Python has it, and that is said."""
         for one, other in [(1, "1"), (2.0, "2"), (2, "2.0"), (7, " 7"), (1, np.str_("1"))]:
             with self.assertWarnsRegex(UserWarning, f"^the text '{other}' and the number .* name two vertices: ") as told:
                 forest = boruvka.from_edges({"u": [one, 5], "v": ["a", other], "w": [1, 2]})
-            self.assertEqual((forest.names, told.filename), ([one, 5, "a", other], __file__))
+            self.assertEqual((forest.names, told.filename), ([*sorted([one, 5]), *sorted(["a", other])], __file__))
         for one, other in [
             (datetime.datetime(2020, 1, 2), "2020-01-02"),
             (datetime.datetime(2020, 1, 2), "2020-01-02T00:00:00"),
@@ -148,14 +149,14 @@ class Frames(unittest.TestCase):
             (uuid.UUID(int=5), "00000000-0000-0000-0000-000000000005"),
         ]:
             with self.assertWarnsRegex(UserWarning, f"^the text '{other}' and the {type(one).__name__} {one} name two vertices: both columns need"):
-                self.assertEqual(boruvka.from_edges({"u": [one, one], "v": ["a", other], "w": [1, 2]}).names, [one, "a", other])
+                self.assertEqual(boruvka.from_edges({"u": [one, one], "v": ["a", other], "w": [1, 2]}).names, [*sorted(["a", other]), one])
         encoded = np.array([b"a", b"b"])
         with self.assertWarnsRegex(UserWarning, r"^the text 'b' and the bytes b'b' name two vertices: numpy\.char\.decode\(column\)"):
             self.assertEqual(boruvka.from_edges({"u": encoded, "v": ["b", "c"], "w": [1, 2]}).n, 4)
         self.assertEqual(boruvka.from_edges({"u": np.char.decode(encoded), "v": ["b", "c"], "w": [1, 2]}).n, 3)
         with warnings.catch_warnings():
             warnings.simplefilter("error")
-            self.assertEqual(boruvka.from_edges({"u": [1, 2], "v": ["a1", "nan"], "w": [1, 2]}).n, 4)
+            self.assertEqual(boruvka.from_edges({"u": [1, 2], "v": ["a1", "inf"], "w": [1, 2]}).n, 4)
             self.assertEqual(boruvka.from_edges({"u": ["1"], "v": ["1.0"], "w": [1]}).n, 2)
             self.assertEqual(boruvka.from_edges({"u": [b"a", 7], "v": ["b", "\ud800"], "w": [1, 2]}).n, 4)
 
@@ -163,7 +164,7 @@ class Frames(unittest.TestCase):
     def test_texts_of_times_of_pandas(self):
         days = ["2020-01-02", "2020-01-03"]
         rows = pandas.DataFrame({"u": pandas.to_datetime(days), "v": days[::-1], "w": [1, 2]})
-        with self.assertWarnsRegex(UserWarning, "^the text '2020-01-03' and the Timestamp 2020-01-03 00:00:00 name two vertices: both columns need"):
+        with self.assertWarnsRegex(UserWarning, "^the text '2020-01-02' and the Timestamp 2020-01-02 00:00:00 name two vertices: both columns need"):
             self.assertEqual(boruvka.from_edges(rows).n, 4)
         self.assertEqual(boruvka.from_edges(rows.assign(v=pandas.to_datetime(rows["v"]))).n, 2)
 
@@ -188,7 +189,8 @@ class Frames(unittest.TestCase):
         for empty in (rows.iloc[:0], pandas.DataFrame(columns=["u", "v", "w"])):
             self.assertEqual((boruvka.from_edges(empty).n, boruvka.from_edges(empty).names), (0, []))
         days = pandas.Series(np.array(["2020-01-01", "2020-01-02"], "M8[ns]"))
-        self.assertEqual(boruvka.from_edges({"u": days, "v": days[::-1], "w": [1, 2]}).n, 2)
+        turned = days[::-1].reset_index(drop=True)
+        self.assertEqual(boruvka.from_edges({"u": days, "v": turned, "w": [1, 2]}).n, 2)
         with self.assertRaisesRegex(TypeError, r"^the ends are times of numpy \(datetime64\[ns\]\), and of the type Timestamp: "):
             boruvka.from_edges({"u": days.to_numpy(), "v": days[::-1], "w": [1, 2]})
         self.assertEqual(boruvka.from_edges({"u": days.to_numpy(), "v": np.asarray(days[::-1], "datetime64[ns]"), "w": [1, 2]}).n, 2)
@@ -233,7 +235,7 @@ class Frames(unittest.TestCase):
         self.assertNotEqual(forest, forest._replace(names=None))
         if not pandas:
             self.skipTest("there is no pandas")
-        self.assertEqual(forest.to_frame()["v"].tolist(), ["Bath", "York"])
+        self.assertEqual(forest.to_frame()["v"].tolist(), ["Ely", "York"])
 
 
 class Protocol(unittest.TestCase):
@@ -244,17 +246,18 @@ class Protocol(unittest.TestCase):
 
     def test_numbers(self):
         for dtype in "i1 i2 i4 i8 u1 u2 u4 u8 f4 f8".split():
-            self.assertEqual(self.names(whole([7, 0, 100], dtype)), [7, 0, 100])
-        self.assertEqual(self.names(whole([2**63, 1], "u8")), [2**63, 1])
+            self.assertEqual(self.names(whole([7, 0, 100], dtype)), [0, 7, 100])
+        self.assertEqual(self.names(whole([2**63, 1], "u8")), [1, 2**63])
         self.assertEqual(self.names(Column(0, 32, 2, np.array([1, 256], ">i4"), order=">")), [1, 256])
-        self.assertEqual(self.names(Column(20, 8, 2, np.array([True, False]))), [True, False])
+        self.assertEqual(self.names(Column(20, 8, 2, np.array([True, False]))), [False, True])
         # (from the third bit on)
         self.assertEqual(self.names(Column(20, 1, 2, np.array([0b1011], np.uint8), offset=2)), [False, True])
         self.assertEqual(self.names(Column(0, 64, 2, np.arange(5), offset=3)), [3, 4])
 
     def test_texts(self):
         for width in ("i4", "i8"):
-            self.assertEqual(self.names(texts(["Ely", "", "Zürich", "東京"], width)), ["Ely", "", "Zürich", "東京"])
+            with self.assertWarnsRegex(UserWarning, "^the text '' names a vertex, and is the text of a missing entry"):
+                self.assertEqual(self.names(texts(["Ely", "", "Zürich", "東京"], width)), ["", "Ely", "Zürich", "東京"])
         cut = texts(["a", "bc", "def"])
         cut.offset, cut.size = 1, 2
         self.assertEqual(self.names(cut), ["bc", "def"])
@@ -263,7 +266,7 @@ class Protocol(unittest.TestCase):
         for about in (lambda it: it, lambda it: lambda: it):
             column = Column(23, 8, 3, np.array([1, 0, 1], np.int8), categories=texts(["a", "b"]))
             column.describe_categorical = about(column.describe_categorical)
-            self.assertEqual(self.names(column), ["b", "a"])
+            self.assertEqual(self.names(column), ["a", "b"])
 
     def test_several_pieces(self):
         self.assertEqual(self.names(Chunks(texts(["a", "b"]), texts([]), texts(["c"]))), ["a", "b", "c"])
@@ -331,6 +334,17 @@ class Refused(unittest.TestCase):
         self.expect(ValueError, "^row 0 has no name in the column 'u'", {"u": np.ma.masked_equal([1, 2], 1), "v": [3, 1], "w": [1, 1]})
         self.expect(ValueError, r"^w\[1\] is NaN", {"u": [1, 2], "v": [3, 1], "w": [1, math.nan]})
         self.expect(TypeError, r"as w\[1\] is None", {"u": [1, 2], "v": [3, 1], "w": [1, None]})
+        # (weights are called by the name of their column)
+        for wrong, error, words in [
+            ([1, math.nan], ValueError, r"^km\[1\] is NaN"),
+            ([1, None], TypeError, r"^km has the dtype object, as km\[1\] is None"),
+            ([1, "2"], TypeError, r"^km has the dtype <U21, as km\[0\] is '1'"),
+            ([1, 2, 3], ValueError, "^u, v and km differ in length: 2, 2 and 3$"),
+            (np.ma.masked_equal([1, 2], 2), ValueError, r"^km has masked entries, as km\[1\] is"),
+            ([2**53 + 1, 0.5], ValueError, r"^km\[0\] is 9007199254740993, which numpy would round"),
+            (np.array([1, 2**63], np.uint64), ValueError, r"^km\[1\] is 9223372036854775808, past 2\^63 - 1$"),
+        ]:
+            self.expect(error, words, {"u": [1, 2], "v": [3, 1], "km": wrong}, weight="km")
 
     def test_columns_that_do_not_fit(self):
         self.expect(ValueError, "^the columns 'u' and 'v' differ in length: 1 and 2$", {"u": [1], "v": [3, 1], "w": [1, 1]})
@@ -359,8 +373,10 @@ class Refused(unittest.TestCase):
         self.expect(TypeError, words, {"u": [datetime.date(2020, 1, 2)], "v": [datetime.datetime(2020, 1, 2)], "w": [1]})
 
     def test_what_is_no_frame(self):
-        for rows in ([("a", "b", 1)], (("a", "b", 1),), "abc", b"abc"):
-            self.expect(TypeError, r"^a (list|tuple|str|bytes) is no frame: pandas\.DataFrame\(rows", rows)
+        for file in ("abc.csv", b"abc.csv", pathlib.Path("abc.csv")):
+            self.expect(TypeError, r"^a (str|bytes|PosixPath) is no frame: pandas\.read_csv makes one of a file, and boruvka\.read_gr reads a \.gr file$", file)
+        for rows in ([("a", "b", 1)], (("a", "b", 1),)):
+            self.expect(TypeError, r"^a (list|tuple) is no frame: pandas\.DataFrame\(rows", rows)
             self.expect(TypeError, "is no frame", rows, 0, 1, weight=2)
         self.expect(TypeError, "^a int is no frame: it has no columns", 5)
         self.expect(TypeError, r"^an array of the shape \(4,\) is no frame", np.zeros(4))

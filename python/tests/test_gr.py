@@ -260,7 +260,8 @@ class Write(InFolder):
             (ValueError, r"^u\[0\] is 3, ", (3, [3], [1], [1])),
             (ValueError, "^n is ", (2**26 + 1, [0], [1], [1])),
             (ValueError, "differ in length", (3, [0], [1], [1, 2])),
-            (ValueError, "^u has 0 dimensions", (forest, [0], [1])),
+            (TypeError, r"^a Forest is no array: forest\.to_frame\(\) makes a frame", (forest, [0], [1])),
+            (TypeError, "^5 arguments are given, and a forest needs n, u, v and w$", (3, [0], [1], [2], 5)),
         ]:
             with self.assertRaisesRegex(error, words):
                 boruvka.write_gr(path, *given)

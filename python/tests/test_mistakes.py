@@ -9,7 +9,7 @@ import warnings
 import numpy as np
 
 import boruvka
-from boruvka import Forest
+from boruvka import Forest, from_edges
 from boruvka import minimum_spanning_forest as forest_of
 from boruvka.linkage import labels, merges, single_linkage, spanning_tree
 
@@ -29,6 +29,15 @@ except ImportError:
     sparse = None
 
 U, V, W = [0, 1], [1, 2], [1, 2]
+
+
+class Igraph:
+    """What a graph of igraph has of its own."""
+
+    def get_edgelist(self):
+        return [(0, 1)]
+
+
 POINTS = np.random.default_rng(0).random((10, 2))
 PATH = forest_of(4, [0, 1, 2], [1, 2, 3], [1.0, 2.0, 3.0])
 
@@ -50,11 +59,11 @@ EDGES = {
     "masked edges": (lambda: forest_of(np.ma.array([[0, 1]], mask=[[0, 1]]), [1]), ValueError, "^edges have masked entries"),
     "rows of which one is masked": (lambda: forest_of([np.ma.array([0, 1], mask=[1, 0]), [1, 2]], W), ValueError, "^edges have masked entries"),
     "masked vertices in a list": (lambda: forest_of(3, [np.ma.array(0), np.ma.array(1, mask=True)], V, W), ValueError, r"^u has masked entries, as u\[1\] is: leave"),
-    "single numbers": (lambda: forest_of(3, 0, 1, 2.0), ValueError, "^u has 0 dimensions, and needs one$"),
+    "single numbers": (lambda: forest_of(3, 0, 1, 2.0), ValueError, "^u is 0, and has to be an array or a list with an entry for each edge$"),
     "edges twice": (lambda: forest_of(3, [U, V], [U, V], W), ValueError, "^u has 2 dimensions, and needs one: an array of two columns stands for u and v$"),
     "three columns": (lambda: forest_of(3, [[0, 1, 5], [1, 2, 6]], W), TypeError, r"^edges have the shape \(2, 3\), and need two columns"),
     "nothing at all": (lambda: forest_of(), TypeError, "n may be left out"),
-    "a generator": (lambda: forest_of(3, (it for it in U), V, W), TypeError, "^u is a generator, and has to be an array or a list$"),
+    "a generator": (lambda: forest_of(3, (it for it in U), V, W), TypeError, r"^u is a generator, and has to be an array or a list: list\(u\) makes one$"),
     "a set": (lambda: forest_of(3, {0, 1}, V, W), TypeError, "^u is a set, "),
     "edges as rows": (lambda: forest_of([[0, 1, 2], [1, 2, 0]], [1, 2, 3]), TypeError, r"^edges have the shape \(2, 3\), and need two columns; edges\.T has them$"),
     "n as a truth": (lambda: forest_of(True, U, V, W), TypeError, "^n is True, and has to be a whole number: the number of vertices$"),
@@ -62,12 +71,36 @@ EDGES = {
     "maximum as a text": (lambda: forest_of(3, U, V, W, maximum="no"), TypeError, "^maximum is 'no', and has to be True or False$"),
     "maximum as a text, of chunks": (lambda: boruvka.forest_of_chunks(3, [], maximum="False"), TypeError, "^maximum is 'False', and has to be True or False$"),
     "maximum as a column": (lambda: forest_of(3, U, V, W, maximum=np.array([True, False])), TypeError, "^maximum is array"),
+    "n last": (lambda: forest_of(U, V, W, 3), TypeError, r"^the last argument is 3: n comes first, as in minimum_spanning_forest\(n, u, v, w\), or has its name, n=3$"),
+    "n after edges and weights": (lambda: forest_of([[0, 1], [1, 2]], W, 3), TypeError, "^the last argument is 3: n comes first"),
+    "u as n": (lambda: forest_of(n=U, u=V, v=W), TypeError, r"^n is \[0, 1\], and has to be a whole number: the number of vertices$"),
+    "a single weight": (lambda: forest_of(3, U, V, 1.0), ValueError, r"^w is 1\.0, and each edge has a weight of its own: numpy\.full\(2, 1\.0\) has as many$"),
+    "a single weight, without n": (lambda: forest_of(U, V, np.float64(1.0)), ValueError, "^w is .*, and each edge has a weight of its own: "),
+    "no weights": (lambda: forest_of(3, U, V), TypeError, r"^edges have the shape \(2,\), and need two columns; if they are u and v, w is missing$"),
+    "values of a dict": (lambda: forest_of(3, dict(a=0, b=1).values(), V, W), TypeError, r"^u is a dict_values, and has to be an array or a list: list\(u\) makes one$"),
+    "keys of a dict": (lambda: forest_of(3, {0: 1, 1: 2}.keys(), V, W), TypeError, r"^u is a dict_keys, and has to be an array or a list: list\(u\) makes one$"),
+    "a dict": (lambda: forest_of({"u": U, "v": V, "w": W}), TypeError, "^a dict is for boruvka.from_edges$"),
+    "columns that were put together by zip": (lambda: forest_of(zip(U, V), W), TypeError, r"^edges are a zip, and have to be an array or a list: list\(edges\) makes one$"),
+    "a graph of igraph": (lambda: forest_of(Igraph()), TypeError, r'^a graph of igraph has no columns: minimum_spanning_forest\(g\.vcount\(\), g\.get_edgelist\(\), g\.es\["weight"\]\) takes its edges$'),
+    "a matrix of weights": (lambda: forest_of(np.ones((3, 3))), TypeError, "a matrix of weights is for boruvka.sparse.minimum_spanning_tree$"),
+    "rows of three": (lambda: forest_of([(0, 1, 2.0), (1, 2, 3.0)]), TypeError, r"rows of three are for boruvka\.from_edges\(numpy\.array\(rows\), 0, 1, weight=2\)$"),
+    "too many columns": (lambda: forest_of(3, U, V, W, True), TypeError, "^5 arguments are given, and a forest needs n, u, v and w$"),
+    "u twice": (lambda: forest_of(U, V, W, u=U), TypeError, "^u is given twice, by its name and by its order in the call$"),
+    "n twice": (lambda: forest_of(3, U, V, W, n=3), TypeError, "^n is given twice, by its name and by its order in the call$"),
+    "a forest instead of edges": (lambda: forest_of(PATH, V, W), TypeError, r"^a Forest is no array: forest\.to_frame\(\) makes a frame, and u, v, w and index are its arrays$"),
+    "no threads": (lambda: forest_of(3, U, V, W, threads=0), ValueError, "^threads is 0, and has to be at least 1$"),
+    "threads as a text": (lambda: forest_of(3, U, V, W, threads="all"), TypeError, "^threads is 'all', and has to be a whole number$"),
+    "a set of vertices": (lambda: forest_of(3, {0, 1}, V, W), TypeError, r"^u is a set, and has to be an array or a list: sorted\(u\) makes a list$"),
+    "a dict of weights": (lambda: forest_of(3, U, V, dict(a=1, b=2)), TypeError, r"^w is a dict, and has to be an array or a list: list\(w\.values\(\)\) makes a list of its values$"),
+    "a negative n": (lambda: forest_of(-3, U, V, W), ValueError, r"^n is -3, and has to be from 0 to 2\^26$"),
     "rows of different lengths": (lambda: forest_of(3, [[0, 1], [1]], W), ValueError, "^edges is no array: "),
 }
 WEIGHTS = {
-    "NaN": ([1, math.nan], ValueError, r"^w\[1\] is NaN$"),
+    "NaN": ([1, math.nan], ValueError, r"^w\[1\] is NaN, which has no place in an order: leave such edges out first$"),
     "None": ([1, None], TypeError, r"^w has the dtype object, as w\[1\] is None: weights are whole numbers or floats of up to 64 bits$"),
-    "texts": (["1", "2"], TypeError, r"^w has the dtype <U1, as w\[0\] is '1': weights are"),
+    "texts": (["1", "2"], TypeError, r"^w has the dtype <U1, as w\[0\] is '1': weights are .*: \.astype\(float\) makes them of texts$"),
+    "texts with decimal commas": (["1,5", "2,0"], TypeError, r"^w has the dtype <U3, as w\[0\] is '1,5': weights are .*: pandas\.read_csv reads such texts by decimal=','$"),
+    "texts that are no numbers": (["1 km", "2 km"], TypeError, r"^w has the dtype <U4, as w\[0\] is '1 km': weights are whole numbers or floats of up to 64 bits$"),
     "complex numbers": ([1j, 2], TypeError, "^w has the dtype complex128: weights are"),
     "long doubles": (np.array(W, np.longdouble), TypeError, "^w has the dtype float128: weights are"),
     "dates": (np.array(["2020-01-01", "2020-01-02"], "M8[D]"), TypeError, r"^w has the dtype datetime64\[D\]: weights are"),
@@ -77,6 +110,52 @@ WEIGHTS = {
     "past 2^64": ([1, 2**64], TypeError, r"as w\[1\] is 18446744073709551616: weights are"),
     "what doubles round": ([0.5, 2**53 + 1], ValueError, r"^w\[1\] is 9007199254740993, which numpy would round to 9007199254740992.0"),
     "in two dimensions": ([[1], [2]], ValueError, "^w has 2 dimensions, and needs one$"),
+}
+TABLE = {"u": ["a", "b"], "v": ["b", "c"], "w": [1, 2]}
+FRAMES = {
+    "a graph of igraph": (lambda: from_edges(Igraph()), TypeError, r"^a graph of igraph is no frame: g\.get_edge_dataframe\(\) makes one, with the columns"),
+    "a forest": (lambda: from_edges(PATH), TypeError, r"^a Forest is no frame: forest\.to_frame\(\) makes one$"),
+    "a file": (lambda: from_edges("roads.csv"), TypeError, r"^a str is no frame: pandas\.read_csv makes one of a file, and boruvka\.read_gr reads a \.gr file$"),
+    "three columns": (lambda: from_edges(TABLE["u"], TABLE["v"], TABLE["w"]), TypeError, r"^u is \['b', 'c'\], and has to be the name of one column of the frame$"),
+    "columns instead of their names": (lambda: from_edges(TABLE, TABLE["u"], TABLE["v"]), TypeError, r"^u is \['a', 'b'\], and has to be the name of one column of the frame$"),
+    "weights instead of their name": (lambda: from_edges(TABLE, weight=[1, 2]), TypeError, r"^weight is \[1, 2\], and has to be the name of one column of the frame$"),
+    "an array of weights": (lambda: from_edges(TABLE, weight=np.ones(2)), TypeError, "^weight is array.*, and has to be the name of one column"),
+    "a name in another case": (lambda: from_edges({"U": ["a"], "v": ["b"], "w": [1]}), KeyError, "no column 'u', but 'U', 'v', 'w'; 'U' is like it"),
+    "a name with a space": (lambda: from_edges({"u": ["a"], "v": ["b"], "w ": [1]}), KeyError, "no column 'w', but 'u', 'v', 'w '; 'w ' is like it"),
+    "one column for both endpoints": (lambda: from_edges(TABLE, "u", "u"), ValueError, "^u and v are both the column 'u': each edge would be a loop$"),
+    "keys of a dict": (lambda: from_edges({**TABLE, "u": dict(a=1, b=2).keys()}), TypeError, r"^the column 'u' is a dict_keys, and has to be an array or a list: list\(column\) makes one$"),
+    "values of a dict as weights": (lambda: from_edges({**TABLE, "w": dict(a=1, b=2).values()}), TypeError, r"^the column 'w' is a dict_values, and has to be an array or a list: list\(column\)"),
+    "a single weight": (lambda: from_edges({**TABLE, "w": 1}), TypeError, "^the column 'w' is 1, and has to be an array or a list$"),
+    "weights as texts": (lambda: from_edges({**TABLE, "w": ["1", "2"]}), TypeError, r"^w has the dtype <U1, as w\[0\] is '1': .*: \.astype\(float\) makes them of texts$"),
+    "a weight that is NaN": (lambda: from_edges({**TABLE, "w": [1, math.nan]}), ValueError, r"^w\[1\] is NaN, which has no place in an order: leave such edges out first$"),
+    "nothing": (lambda: from_edges(None), TypeError, "^a NoneType is no frame: it has no columns"),
+    "maximum as a text": (lambda: from_edges(TABLE, maximum="yes"), TypeError, "^maximum is 'yes', and has to be True or False$"),
+    "names that became floats": (lambda: from_edges({**TABLE, "u": [1e18, 2e18]}), ValueError, r"^row 0 of the column 'u' is 1e\+18, and from 2\^53 on a float may stand for several"),
+}
+USES = {
+    "a forest as a table": (lambda: np.asarray(PATH), TypeError, r"^a Forest is no array: forest\.to_frame\(\) makes a frame"),
+    "an array of points for a path": (lambda: PATH.path(POINTS, POINTS), ValueError, "^a has 2 dimensions, and needs one$"),
+    "labels of what is no vertex": (lambda: PATH.labels(clusters=2, of=[0, 9]), ValueError, r"^of\[1\] is 9, and a vertex is at least 0 and below n = 4"),
+    "labels of names without names": (lambda: PATH.labels(clusters=2, of=["a"]), TypeError, r"^of has the dtype <U1, as of\[0\] is 'a', and vertices are whole numbers"),
+    "labels of one name that isn't there": (lambda: from_edges(TABLE).labels(clusters=1, of=["z"]), ValueError, r"^of\[0\] is 'z', which is no vertex: they have names, as 'a', 'b', 'c'$"),
+    "replacements without the weights": (lambda: PATH.replacements([0, 1, 2], [1, 2, 3], 1.0), ValueError, r"^w is 1\.0, and each edge has a weight of its own"),
+    "replacements of other edges": (lambda: PATH.replacements([0], [1], [1.0]), ValueError, "^the forest has the edge 2, and 1 edges are given: give all edges of the graph$"),
+    "points that are fewer than vertices": (lambda: PATH.plot([[0, 0]]), ValueError, r"^points has the shape \(1, 2\), and 4 points of a plane are drawn$"),
+    "columns instead of chunks": (lambda: boruvka.forest_of_chunks(3, (U, V, W)), TypeError, r"^chunk 0: it has the length 2, and needs three columns: u, v and w$"),
+    "three columns of three edges instead of chunks": (lambda: boruvka.forest_of_chunks(3, ([0, 1, 2], [1, 2, 0], [1, 2, 3])), TypeError, r"^chunk 0: it has numbers instead of columns: is it a column\? \[\(u, v, w\)\] has one chunk$"),
+    "a forest instead of chunks": (lambda: boruvka.forest_of_chunks(4, PATH), TypeError, r"^chunks are <Forest of .*: \[\(u, v, w\)\] has one chunk$"),
+    "a function instead of chunks": (lambda: boruvka.forest_of_chunks(3, lambda: [(U, V, W)]), TypeError, "^chunks are <function .*, and have to be an iterable"),
+    "a forest with names as a chunk": (lambda: boruvka.forest_of_chunks(3, [from_edges(TABLE)]), ValueError, "^chunk 0: it is a forest with names"),
+    "a maximum forest as a chunk": (lambda: boruvka.forest_of_chunks(4, [PATH._replace(maximum=True)]), ValueError, "^chunk 0: it is a maximum forest, which lacks edges that a minimum forest may need"),
+    "coordinates one after the other": (lambda: boruvka.show([1, 2], None), ValueError, r"^points has the shape \(2,\): it must be \(n, 2\), .*; numpy\.column_stack\(\[x, y\]\) makes it of two arrays$"),
+    "a forest instead of points": (lambda: boruvka.show(PATH), TypeError, "^a Forest is no array"),
+    "longitude and latitude": (lambda: boruvka.show([[103.8, 1.3]], globe=True), ValueError, r"^the latitude of points\[0\] is 103\.8, .*: the latitude comes first, then the longitude$"),
+    "a forest of floats in a file": (lambda: boruvka.write_gr("net.gr", PATH), TypeError, r"^w has the dtype float64, and a \.gr text has whole numbers: scale and round them first"),
+    "an estimator of the module": (lambda: boruvka.HDBSCAN, AttributeError, "has no attribute 'HDBSCAN': there is boruvka.cluster.HDBSCAN$"),
+    "a function of a module": (lambda: boruvka.spanning_tree, AttributeError, "has no attribute 'spanning_tree': there is boruvka.linkage.spanning_tree$"),
+    "scipy's name": (lambda: boruvka.minimum_spanning_tree, AttributeError, "has no attribute 'minimum_spanning_tree': there is boruvka.sparse.minimum_spanning_tree$"),
+    "a misspelled name": (lambda: boruvka.minimum_spaning_forest, AttributeError, "has no attribute 'minimum_spaning_forest': there is boruvka.minimum_spanning_forest$"),
+    "a name that is like none": (lambda: boruvka.quux, AttributeError, "^module 'boruvka' has no attribute 'quux'$"),
 }
 CUTS = {
     "a number of clusters without its name": (lambda: labels(4, PATH, 2), TypeError, "positional arguments"),
@@ -107,12 +186,12 @@ CUTS = {
     "n as a text": (lambda: labels("4", PATH, clusters=2), TypeError, "^n is '4', and has to be a whole number$"),
     "n as a float": (lambda: merges(4.0, PATH), TypeError, "^n is 4.0, and has to be a whole number$"),
     "a height as a truth": (lambda: labels(4, PATH, height=True), TypeError, "^the height is a bool, and has to be a real number$"),
-    "a way between names": (lambda: PATH.path("a", 1), TypeError, "^a is 'a', and has to be a whole number$"),
-    "a way to a float": (lambda: PATH.bottleneck(0, 1.0), TypeError, "^b is 1.0, and has to be a whole number$"),
+    "a way between names": (lambda: PATH.path("a", 1), TypeError, "^a is 'a', and has to be a whole number: the forest has no names$"),
+    "a way to a float": (lambda: PATH.bottleneck(0, 1.0), TypeError, "^b is 1.0, and has to be a whole number: the forest has no names$"),
     "a forest of half a vertex": (lambda: Forest([0], [1], [2], [0], n=2.5), TypeError, "^n is 2.5, and has to be a whole number$"),
     "ends as fractions": (lambda: Forest([0.5], [1], [2], [0]), TypeError, r"^u has the dtype float64, as u\[0\] is 0\.5, and vertices are whole numbers$"),
     "ends as names": (lambda: Forest([0], ["b"], [2], [0]), TypeError, r"^v has the dtype <U1, as v\[0\] is 'b', and vertices are whole numbers$"),
-    "masked weights": (lambda: Forest([0], [1], np.ma.array([2], mask=[1]), [0]), ValueError, "^w has masked entries: leave them out first$"),
+    "masked weights": (lambda: Forest([0], [1], np.ma.array([2], mask=[1]), [0]), ValueError, r"^w has masked entries, as w\[0\] is: leave them out first$"),
     "a maximum that is a text": (lambda: Forest([0], [1], [2], [0], maximum="no"), TypeError, "^maximum is 'no', and has to be True or False$"),
     "names in no order": (lambda: PATH._replace(names={"a", "b", "c", "d"}), TypeError, "^names are a set, and have to be a list$"),
     "names in a dict": (lambda: PATH._replace(names=dict(a=1, b=2, c=3, d=4)), TypeError, "^names are a dict, and have to be a list$"),
@@ -174,6 +253,12 @@ class Mistakes(unittest.TestCase):
     def test_weights(self):
         self.expect({name: (lambda w=w: forest_of(3, U, V, w), *more) for name, (w, *more) in WEIGHTS.items()})
 
+    def test_frames(self):
+        self.expect(FRAMES)
+
+    def test_uses(self):
+        self.expect(USES)
+
     def test_cuts(self):
         self.expect(CUTS)
 
@@ -194,6 +279,12 @@ class Mistakes(unittest.TestCase):
             "times as coordinates": (lambda: spanning_tree(pandas.DataFrame({"x": pandas.to_timedelta([1, 2])})), TypeError, r"^y has the dtype timedelta64\[ns\]"),
             "a coordinate that is NA": (lambda: spanning_tree(pandas.DataFrame({"x": gaps, "y": gaps})), TypeError, r"^y has the dtype object, as y\[1, 0\] is <NA>"),
             "categories as weights": (lambda: forest_of(3, U, V, pandas.Categorical(["10", "9"])), TypeError, r"^w has the dtype <U2, as w\[0\] is '10'"),
+            "a frame of a forest": (lambda: pandas.DataFrame(PATH), TypeError, r"^a Forest is no array: forest\.to_frame\(\) makes a frame"),
+            "columns of a frame instead of their names": (lambda: from_edges(named, named["name"], named["x"]), TypeError, "^u is 0 .*, and has to be the name of one column"),
+            "a frame instead of chunks": (lambda: boruvka.forest_of_chunks(3, named), TypeError, r"^chunks are a frame, and have to be an iterable of \(u, v, w\): \[\(u, v, w\)\] has one chunk$"),
+            "a frame as a chunk": (lambda: boruvka.forest_of_chunks(3, [named]), TypeError, r"^chunk 0: it is a frame, .*: \(frame\[\"u\"\], frame\[\"v\"\], frame\[\"w\"\]\) is one$"),
+            "series of different orders": (lambda: forest_of(3, pandas.Series(U), pandas.Series(V), pandas.Series(W)[::-1]), ValueError, "^the columns 'u' and 'w' are Series with different indexes"),
+            "one column for both places": (lambda: boruvka.show(pandas.DataFrame({"lat": [1.0], "x": [2.0]}), globe=True), ValueError, "^points has the columns 'lat', 'x', and two are needed"),
             "a column that isn't there": (lambda: boruvka.from_edges(named), KeyError, "the frame has no column 'u', but 'name', 'x'"),
         })
         for nullable in (pandas.array(U, dtype="Int64"), pandas.Series(U, dtype="Int32"), np.array(U, object)):
@@ -201,6 +292,7 @@ class Mistakes(unittest.TestCase):
 
     @unittest.skipUnless(networkx, "there is no networkx")
     def test_of_networkx(self):
+        self.expect({"a graph instead of a frame": (lambda: from_edges(networkx.path_graph(3)), TypeError, r"^a graph of networkx is no frame: networkx\.to_pandas_edgelist\(G\) makes one, with the columns source, target")})
         self.expect({"a graph": (lambda: forest_of(networkx.path_graph(3)), TypeError, r'minimum_spanning_tree\(G, backend="boruvka"\)$')})
 
     @unittest.skipUnless(sparse, "there is no scipy")
@@ -222,6 +314,13 @@ class Mistakes(unittest.TestCase):
         self.assertEqual(minimum_spanning_tree(array(np.diag([2.0, 3.0], 1))).toarray()[[0, 1], [1, 2]].tolist(), [2, 3])
 
     def test_what_isnt_one(self):
+        class Interface:
+            """An array by an interface that has no method."""
+
+            def __init__(self, array):
+                self.array, self.__array_interface__ = array, array.__array_interface__
+
+        self.assertEqual(forest_of(3, *map(Interface, map(np.array, (U, V, W)))), forest_of(3, U, V, W))
         self.assertEqual(forest_of(U, V, W).n, 3)
         self.assertEqual(forest_of(None, U, V, W), forest_of(3, U, V, W))
         self.assertEqual(forest_of(u=[0], v=[1], w=[2]).n, 2)

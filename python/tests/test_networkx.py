@@ -6,6 +6,7 @@ import unittest
 import warnings
 
 import numpy as np
+from _boruvka_networkx import info
 from graphs import Graph
 
 import boruvka  # noqa: F401 (that it can be imported is no matter of networkx)
@@ -141,7 +142,7 @@ class Functions(unittest.TestCase):
 
     def test_directed_graphs_are_refused(self):
         for kind in (nx.DiGraph, nx.MultiDiGraph):
-            for name in backend.info()["functions"]:
+            for name in info()["functions"]:
                 with self.assertRaisesRegex(nx.NetworkXNotImplemented, "directed"):
                     list(getattr(backend, name)(kind([(1, 2)])))
 
@@ -163,7 +164,7 @@ class Found(unittest.TestCase):
         for kind in (nx.Graph, nx.MultiGraph):
             for seed in range(40):
                 graph = graph_of(Graph(seed), kind)
-                for name in backend.info()["functions"]:
+                for name in info()["functions"]:
                     own, ours = getattr(nx, name)(graph), getattr(nx, name)(graph, backend="boruvka")
                     if "tree" in name:
                         own, ours = whole(own), whole(ours)

@@ -8,11 +8,17 @@ import json
 import os
 import tempfile
 import unittest
+import warnings
 from unittest import mock
 
 import numpy as np
 
 from boruvka._page import show
+
+try:
+    import pandas
+except ImportError:
+    pandas = None
 
 PAGE = '<body>\n<script type="application/json" id="data"></script>\n<p>end'
 HEAD, FOOT = '<body>\n<script type="application/json" id="data">', "</script>\n<p>end"
@@ -43,10 +49,36 @@ class Shown(unittest.TestCase):
 
     def test_points(self):
         self.assertEqual(self.made([[0, 1.5], [-1e-9, 1 / 3]]), [["x", "y"], ["0.0", "1.5"], ["-1e-09", "0.3333333333333333"]])
-        self.assertEqual(self.made(np.float32([[1, 2]]), globe=True), [["longitude", "latitude"], ["1.0", "2.0"]])
-        self.assertEqual(self.made([[360, 90], [-360, -90]], globe=True)[1:], [["360.0", "90.0"], ["-360.0", "-90.0"]])
+        self.assertEqual(self.made(np.float32([[1, 2]]), globe=True), [["latitude", "longitude"], ["1.0", "2.0"]])
+        self.assertEqual(self.made([[90, 360], [-90, -360]], globe=True)[1:], [["90.0", "360.0"], ["-90.0", "-360.0"]])
         with mock.patch("boruvka._page._MOST_POINTS", 2):
             self.assertEqual(len(self.made([[0, 0]] * 2)), 3)
+
+    def test_places_on_the_globe(self):
+        """The latitude comes first, as in scikit-learn's haversine, unless columns have names."""
+        munich, paris = (48.137, 11.575), (48.857, 2.351)
+        wanted = [["latitude", "longitude"], ["48.137", "11.575"], ["48.857", "2.351"]]
+        for names in (("lat", "lon"), ("Latitude", "Longitude"), (" LAT", "lng"), ("latitude", "long")):
+            for order in (slice(None), slice(None, None, -1)):
+                places = np.array([munich[order], paris[order]])
+                fields = np.array([tuple(it) for it in places.tolist()], [(it, "f8") for it in names[order]])
+                self.assertEqual(self.made(fields, globe=True), wanted)
+                if pandas:
+                    self.assertEqual(self.made(pandas.DataFrame(places, columns=names[order]), globe=True), wanted)
+        self.assertEqual(self.made([munich, paris], globe=True), wanted)
+        if pandas:
+            self.assertEqual(self.made(pandas.DataFrame([munich, paris], columns=["x", "y"]), globe=True), wanted)
+            self.assertEqual(self.made(pandas.DataFrame([munich, paris], columns=["lon", "lat"]))[0], ["x", "y"])
+
+    def test_places_that_are_probably_swapped(self):
+        with self.assertWarnsRegex(UserWarning, r"^points\[1, 0\] is 77\.2, a latitude near a pole, and no longitude is past 75\.0: are the columns longitude and latitude\?") as told:
+            self.made([[72.9, 19.1], [77.2, 28.6]], globe=True)
+        self.assertEqual(told.filename, __file__)
+        with warnings.catch_warnings():
+            warnings.simplefilter("error")
+            self.made([[78.2, 15.6], [69.6, 170.3]], globe=True)
+            self.made([[72.9, 19.1], [77.2, 28.6]])
+            self.made(np.array([(77.2, 28.6)], [("lat", "f8"), ("lon", "f8")]), globe=True)
 
     def test_names(self):
         # (joiners shape Persian words and families of emoji)
@@ -63,8 +95,10 @@ class Shown(unittest.TestCase):
             (np.zeros((1_000_001, 2)), {}, "1000001 points"),
             ([[0, 0], [1, np.nan]], {}, r"points\[1, 1\] is nan"),
             ([[np.inf, 0]], {}, r"points\[0, 0\] is inf"),
-            ([[0, 91]], {"globe": True}, r"points\[0, 1\] is 91.0: it must be degrees"),
-            ([[-361, 0]], {"globe": True}, r"points\[0, 0\] is -361.0: it must be degrees"),
+            ([[0, 0], [91, 0]], {"globe": True}, r"^the latitude of points\[1\] is 91\.0, and has to be from -90 to 90 degrees: the latitude comes first, then the longitude$"),
+            ([[103.8, 1.3]], {"globe": True}, r"^the latitude of points\[0\] is 103\.8, .*: the latitude comes first"),
+            ([[0, -361]], {"globe": True}, r"^the longitude of points\[0\] is -361\.0, and has to be from -360 to 360 degrees$"),
+            (np.array([(0, 0)], [("x", "f8"), ("lat", "f8")]), {"globe": True}, "^points has the columns 'x', 'lat', and two are needed: latitude and longitude, in any order$"),
             ([[0, 2**53 + 1]], {}, r"^points\[0, 1\] is 9007199254740993, which a double would round"),
             (np.ma.masked_equal([[0, 0], [1, 9]], 9), {}, "^points has masked entries"),
             ([[0, 0]], {"names": ["a", "b"]}, "2 names for 1 points"),

@@ -36,7 +36,12 @@ def misspelled(forest: Forest) -> None:
 
 
 def of_a_wrong_type(forest: Forest) -> None:
-    boruvka.minimum_spanning_forest(3, [0], [1])
+    boruvka.minimum_spanning_forest(3, [(0, 1)], [1])
+    boruvka.minimum_spanning_forest(n=[0], u=[1], v=[2])  # wrong
+    boruvka.minimum_spanning_forest(n=[0], u=[1], v=[2], w=[3])  # wrong
+    boruvka.minimum_spanning_forest([0], [1], [2], 4)  # wrong
+    boruvka.minimum_spanning_forest([0], [1], 2.5)  # wrong
+    boruvka.write_gr("net.gr", n=[0], u=[1], v=[2])  # wrong
     boruvka.minimum_spanning_forest(3)  # wrong
     boruvka.minimum_spanning_forest()  # wrong
     boruvka.minimum_spanning_forest(3.5, [0], [1], [2])  # wrong
@@ -46,11 +51,15 @@ def of_a_wrong_type(forest: Forest) -> None:
     boruvka.forest_of_chunks(None, [([0], [1], [2])])  # wrong
     boruvka.forest_of_chunks(3, None)  # wrong
     boruvka.forest_of_chunks(3, [0, 1, 2])  # wrong
+    boruvka.forest_of_chunks(3, [forest, ([0], [1], [2])])
     labels(forest, 3, clusters=2)  # wrong
     labels(3, np.zeros((2, 4)), clusters=2)  # wrong
     single_linkage(np.zeros((2, 4)), p="2")  # wrong
-    forest.path("a", "b")  # wrong
+    forest.path("a")  # wrong
+    forest.bottleneck(0, 1).weight  # wrong
+    forest.replacements([0], [1])  # wrong
+    forest.labels_by_name()  # wrong
     forest.n = 9  # wrong
-    boruvka.write_gr("net.gr", 3, [0], [1])
+    boruvka.write_gr("net.gr", 3, [(0, 1)], [1])
     boruvka.write_gr("net.gr")  # wrong
     boruvka.read_gr(5)  # wrong

@@ -22,10 +22,13 @@ def forests() -> Forest:
     assert forest == minimum_spanning_forest(None, [0, 1, 2], [1, 2, 0], [3.5, 1.5, 2.5])
     assert forest == minimum_spanning_forest(n=np.int64(3), u=u, v=v, w=w)
     assert forest == minimum_spanning_forest(u, v, w, threads=2) == minimum_spanning_forest(3, u, v, w, threads=np.int8(2))
+    assert forest == minimum_spanning_forest(u, v, w, n=3) == minimum_spanning_forest(3, u=u, v=v, w=w) == minimum_spanning_forest([(0, 1), (1, 2), (2, 0)], w, n=3)
+    better: NDArray[np.intp] = forest.replacements(u, v, w)
     heaviest = minimum_spanning_forest(3, u, v, w, maximum=True)
     total: float = heaviest.total
     one, other, weights, index = forest
     rows: list[int] = index.tolist()
+    assert better.tolist() == [0, 0]
     assert (total, rows, len(forest), forest.components) == (6.0, [1, 2], 2, 1)
     named = from_edges({"u": ["a"], "v": ["b"], "w": [1]}, maximum=True)
     assert named.names == ["a", "b"] and one.shape == other.shape == weights.shape
@@ -41,6 +44,7 @@ def parts(forest: Forest) -> None:
     chunk, row = merged.index.T
     assert (merged.total, chunk.tolist(), row.tolist()) == (forest.total, [1, 1], [0, 1])
     whole = (forest.u, forest.v, forest.w)
+    assert forest_of_chunks(3, [forest]).w.tolist() == forest.w.tolist()
     assert len(forest_of_chunks(3, [whole, [[0], [1], [2]]], maximum=True)) == len(forest_of_chunks(3, (whole for _ in range(2)))) == 2
 
 
@@ -53,7 +57,11 @@ def clusters(forest: Forest) -> NDArray[np.intp]:
     matrix: NDArray[np.float64] = merges(20, tree)
     assert (matrix == single_linkage(points, metric="manhattan", min_samples=3)).all() and (matrix == tree.linkage()).all()
     way: list[int] = tree.path(0, 5)
-    assert tree.w[tree.bottleneck(0, 5)] >= tree.w[0] and way[-1] == 5 and forest.n == 3
+    assert tree.bottleneck(0, 5).w >= tree.w[0] and way[-1] == 5 and forest.n == 3
+    assert len(tree.path([0, 1], 5)) == len(tree.bottleneck([0, 1], np.array([5, 6])).w) == 2
+    chosen: NDArray[np.intp] = tree.labels(clusters=3, of=[5, 0])
+    by_name: dict[int, int] = tree.labels_by_name(clusters=3)
+    assert chosen.tolist() == [by_name[5], by_name[0]]
     return boruvka.linkage.labels(20, tree, height=1)
 
 

@@ -15,8 +15,9 @@ import time
 import zipfile
 
 from cases.embedding import LIBRARIES, TEXTS
-from cases.release import AT, PLAIN, expect_proved, is_so, major, packed, version
+from cases.release import AT, PLAIN, expect_proved, files_below, is_so, major, needs, packed, version
 from cases.running import ROOT, Program, Skipped, case, expect, run, written
+from cases.within import module
 
 PACKAGE = f"{ROOT}/python"
 PYTHONS = (sys.executable, "/usr/bin/python3", "/usr/local/bin/python3")
@@ -111,10 +112,10 @@ def the_wheel_is_whole(room):
         files = {entry.filename: it.read(entry) for entry in it.infolist()}
         is_so({(entry.date_time, entry.external_attr >> 16) for entry in it.infolist()}, {(time.gmtime(AT)[:6], 0o100644)})
     about = f"boruvka-{version()}.dist-info"
-    modules = {f"boruvka/{it}" for it in os.listdir(f"{PACKAGE}/boruvka") if it.endswith(".py")}
+    modules = {f"boruvka/{it}" for it in os.listdir(f"{PACKAGE}/boruvka") if it.endswith(".py")} | {"_boruvka_networkx.py"}
     kept = {f"{about}/{it}" for it in ("METADATA", "WHEEL", "RECORD", "LICENSE", "PROVED.txt", "entry_points.txt")}
     library = f"libboruvka.so.{major()}"
-    is_so(set(files), modules | kept | {"boruvka/py.typed", f"boruvka/{library}"})
+    is_so(set(files), modules | kept | {"boruvka/py.typed", "boruvka/boruvka.html", f"boruvka/{library}"})
     for name in [*modules, f"boruvka/{library}"]:
         with open(f"{LIBRARIES}/{library}" if name.endswith(library) else f"{PACKAGE}/{name}", "rb") as it:
             is_so(files[name] == it.read(), True)
@@ -127,17 +128,76 @@ def the_wheel_is_whole(room):
     fields = [tuple(it.split(": ", 1)) for it in head.splitlines()]
     is_so([it for it in fields if it[0] in ("Name", "Version")], [("Name", "boruvka"), ("Version", version())])
     is_so([it[1] for it in fields if it[0] == "Requires-Dist" and ";" not in it[1]], ["numpy>=1.21"])
+    extras = [it[1] for it in fields if it[0] == "Provides-Extra"]
+    is_so(extras, ["dask", "matplotlib", "networkx", "pandas", "scikit-learn", "scipy"])
+    needed = [it[1] for it in fields if it[0] == "Requires-Dist" and ";" in it[1]]
+    is_so([re.fullmatch(r'(\S+?)>=[\d.]+; extra == "(\S+)"', it).groups() for it in needed], [(it, it) for it in extras])
     with open(f"{PACKAGE}/README.md", encoding="utf-8") as it:
         is_so(readme, it.read())
     # by these networkx finds the backend, and what it tells of it
     entries = configparser.ConfigParser()
     entries.read_string(files[f"{about}/entry_points.txt"].decode())
     found = {(section, *it) for section in entries.sections() for it in entries.items(section)}
-    backend = "boruvka.networkx_backend"
-    is_so(found, {("networkx.backends", "boruvka", backend), ("networkx.backend_info", "boruvka", f"{backend}:info")})
-    is_so(b"\ndef info()" in files["boruvka/networkx_backend.py"], True)
+    is_so(found, {("networkx.backends", "boruvka", "boruvka.networkx_backend"), ("networkx.backend_info", "boruvka", "_boruvka_networkx:info")})
+    is_so(b"\ndef info()" in files["_boruvka_networkx.py"], True)
     written(f"{room}/PROVED.txt", files[f"{about}/PROVED.txt"])
     expect_proved(f"{room}/PROVED.txt")
+
+
+@case
+def the_page_is_in_the_wheel(room):
+    """It is that of the other packages, and `boruvka.show` finds it."""
+    expect(run([sys.executable, f"{ROOT}/tools/page.py", module(), f"{room}/page.html"]), 0, b"", b"")
+    with open(f"{site(room)}/boruvka/boruvka.html", "rb") as found, open(f"{room}/page.html", "rb") as wanted:
+        is_so(found.read() == wanted.read(), True)
+    code = "import boruvka; print(boruvka.show([[0, 0], [3, 4]], into='shown.html'))"
+    os.mkdir(f"{room}/home")
+    expect(run([python(), "-c", code], env={**WITHOUT, "PYTHONPATH": f"{room}/site", "HOME": f"{room}/home"}, cwd=room), 0, b"shown.html\n", b"")
+    with open(f"{room}/shown.html", encoding="utf-8") as it:
+        is_so("points.csv.gz" in it.read(), True)
+
+
+@case
+def the_debian_package_of_python_is_whole_and_runs(room):
+    """Beside the package that has the library, as `dpkg -i` of both puts them; for Debian's own Python."""
+    needs("dpkg-deb")
+    packed(f"{room}/packed")
+    root, name = f"{room}/empty", f"python3-boruvka_{version()}_all.deb"
+    for it in (name, f"boruvka_{version()}_amd64.deb"):
+        expect(run(["dpkg-deb", "-x", f"{room}/packed/{it}", root]), 0, b"", b"")
+    expect(run(["dpkg-deb", "-x", f"{room}/packed/{name}", f"{room}/alone"]), 0, b"", b"")
+    expect(run(["dpkg-deb", "-e", f"{room}/packed/{name}", f"{room}/control"]), 0, b"", b"")
+    there = "usr/lib/python3/dist-packages"
+    modules = {f"{there}/boruvka/{it}" for it in os.listdir(f"{PACKAGE}/boruvka") if it.endswith((".py", ".typed"))}
+    about = {f"{there}/boruvka-{version()}.dist-info/{it}" for it in ("METADATA", "entry_points.txt")}
+    documents = {f"usr/share/doc/python3-boruvka/{it}" for it in ("copyright", "changelog.gz", "PROVED.txt")}
+    is_so(set(files_below(f"{room}/alone")), modules | about | documents | {f"{there}/_boruvka_networkx.py"})
+    expect_proved(f"{root}/usr/share/doc/python3-boruvka/PROVED.txt")
+    fields = dict(it.split(": ", 1) for it in run(["dpkg-deb", "-f", f"{room}/packed/{name}"])[1].decode().splitlines() if not it.startswith(" "))
+    is_so([fields[it] for it in ("Package", "Version", "Architecture")], ["python3-boruvka", version(), "all"])
+    is_so(fields["Depends"].startswith(f"boruvka (>= {version()}), python3"), True)
+    expect(run(["md5sum", "--quiet", "-c", f"{room}/control/md5sums"], cwd=f"{room}/alone"), 0, b"", b"")
+    for script in ("postinst", "prerm"):
+        expect(run(["sh", "-n", f"{room}/control/{script}"]), 0, b"", b"")
+    code = "import boruvka; print(boruvka.__version__, boruvka.minimum_spanning_forest([0, 1, 2], [1, 2, 0], [3, 1, 2]).index); boruvka.show([[0, 0]], into='shown.html')"
+    env = {**WITHOUT, "PYTHONPATH": f"{root}/{there}", "LD_LIBRARY_PATH": f"{root}/usr/lib/x86_64-linux-gnu", "BORUVKA_PAGE": f"{root}/usr/share/boruvka/boruvka.html"}
+    expect(run([debians_python(), "-B", "-c", code], env=env, cwd=room), 0, f"{version()} [1 2]\n".encode(), b"")
+
+
+def debians_python():
+    """The Python for which Debian's packages are, with numpy."""
+    if run(["/usr/bin/python3", "-c", "import numpy"], env=WITHOUT)[0]:
+        raise Skipped("Debian's Python isn't there, or has no numpy")
+    return "/usr/bin/python3"
+
+
+@case
+def lintian_finds_no_error_in_the_debian_package_of_python(room):
+    needs("dpkg-deb")
+    packed(f"{room}/packed")
+    words = [needs("lintian"), "--allow-root", "--no-cfg", "--fail-on", "error", f"{room}/packed/python3-boruvka_{version()}_all.deb"]
+    status, output, errors = run(words, env={**PLAIN, "LC_ALL": "C.UTF-8"}, seconds=300)
+    is_so((status, re.findall(rb"^[EW]: .*", output + errors, re.M)), (0, []))
 
 
 @case
@@ -178,6 +238,21 @@ def forests_of_arrays(room):
 @case
 def forests_of_frames(room):
     expect_tests(room, "test_frames")
+
+
+@case
+def names_of_vertices(room):
+    expect_tests(room, "test_names")
+
+
+@case
+def paths_bottlenecks_and_replacements(room):
+    expect_tests(room, "test_paths")
+
+
+@case
+def drawn_edges_in_every_way(room):
+    expect_tests(room, "test_drawn_edges")
 
 
 @case
@@ -305,6 +380,28 @@ def estimators_of_scikit_learn(room):
 @case
 def sparse_matrices_beside_scipys(room):
     expect_tests(room, "test_sparse")
+
+
+# what networkx does with backends when it is imported, from version 3.2 on
+STARTED = """
+from importlib.metadata import entry_points
+found = entry_points()
+found = found.select(group="networkx.backend_info") if hasattr(found, "select") else found.get("networkx.backend_info", ())
+infos = {it.name: it.load()() for it in found if it.name == "boruvka"}
+"""
+
+
+@case
+def networkx_starts_without_loading_the_package(room):
+    """And the backend can be imported first. A stand-in does what networkx does, so that any Python can try it."""
+    os.makedirs(f"{room}/stand-in/networkx")
+    written(f"{room}/stand-in/networkx/__init__.py", STARTED.encode())
+    env = {**WITHOUT, "PYTHONPATH": os.pathsep.join([f"{room}/stand-in", site(room)]), "PYTHONDONTWRITEBYTECODE": "1"}
+    code = "import networkx, sys; print(*networkx.infos['boruvka']['functions'], *sorted({'boruvka', 'numpy'} & {*sys.modules}))"
+    names = [f"{least}_spanning_{what}" for what in ("edges", "tree") for least in ("minimum", "maximum")]
+    expect(run([python(), "-c", code], env=env), 0, f"{' '.join(names)}\n".encode(), b"")
+    code = "import boruvka.networkx_backend as it, networkx; print({*networkx.infos['boruvka']['functions']} - {*vars(it)})"
+    expect(run([python(), "-W", "error", "-c", code], env=env), 0, b"set()\n", b"")
 
 
 @case

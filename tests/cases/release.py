@@ -529,8 +529,8 @@ def has_postgres():
 
 
 def packages():
-    """How many packages are made: a .tar.gz, a wheel, a .deb, and a .deb of the extension."""
-    return 2 + bool(shutil.which("dpkg-deb")) + bool(shutil.which("dpkg-deb") and has_postgres())
+    """How many packages are made: a .tar.gz, a wheel, a .deb, one for Debian's Python, and one of the extension."""
+    return 2 + (2 + bool(has_postgres()) if shutil.which("dpkg-deb") else 0)
 
 
 def packed(into, env=KIT, **more):
