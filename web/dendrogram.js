@@ -31,7 +31,7 @@ function nameWidth({ n, names }, width, height) {
 }
 
 // Where a height is from left to right. By logarithm it begins at the least height above 0.
-export function scaleOf({ heights }, width, right = EDGE) {
+function scaleOf({ heights }, width, right = EDGE) {
   const { to, from } = BENDS[state.scale], positive = heights.find(height => height > 0) ?? 1;
   const isLog = state.scale === 'log';
   const low = to(isLog ? positive : Math.min(0, heights[0]));
@@ -99,7 +99,7 @@ function mergeShapes(shown, begin, { xOf, yOf, end, inkAt }) {
 }
 
 // Where the cut is, between the last height that is kept and the first that isn't.
-export function cutAt({ heights }, { kept }, scale) {
+function cutAt({ heights }, { kept }, scale) {
   const right = kept ? scale.to(heights[kept - 1]) : scale.to(-Infinity);
   const left = kept < heights.length ? scale.to(heights[kept]) : 0;
   return ((Number.isFinite(right) ? right : scale.to(scale.low)) + left) / 2;

@@ -7,10 +7,10 @@ const MOST_BYTES = 400_000_000; // a text longer than about 500 million letters 
 const NAMES = ['name', 'Name', 'NAME', 'title', 'label', 'id'];
 
 // Each feature of what was parsed.
-function featuresOf(parsed) {
-  if (Array.isArray(parsed)) return parsed;
-  if (parsed?.type === 'FeatureCollection' && Array.isArray(parsed.features)) return parsed.features;
-  return [parsed];
+function featuresOf(given) {
+  if (Array.isArray(given)) return given;
+  if (given?.type === 'FeatureCollection' && Array.isArray(given.features)) return given.features;
+  return [given];
 }
 
 // The places of a point or of several. Features have numbers, from 1 on.

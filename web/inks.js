@@ -19,7 +19,7 @@ const curve = light => light <= 0.0031308 ? 12.92 * light : 1.055 * light ** (1 
 const byte = light => Math.round(255 * Math.max(0, Math.min(1, curve(light))));
 
 // Red, green and blue of a colour in OKLCH (Ottosson 2020), 0 to 255.
-export function rgbOf(lightness, chroma, hue) {
+function rgbOf(lightness, chroma, hue) {
   const turn = hue * Math.PI / 180, a = chroma * Math.cos(turn), b = chroma * Math.sin(turn);
   const l = (lightness + 0.3963377774 * a + 0.2158037573 * b) ** 3;
   const m = (lightness - 0.1055613458 * a - 0.0638541728 * b) ** 3;

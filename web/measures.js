@@ -5,7 +5,7 @@ const EARTH_DEGREE = 6371 * Math.PI / 180; // kilometres
 export const counted = number => number.toLocaleString('en').replace('-', '−');
 
 // A weight: a whole number exactly, a length to seven digits, or to the units where these are more.
-export function measured(number) {
+function measured(number) {
   if (typeof number === 'bigint' || Number.isSafeInteger(number) || !Number.isFinite(number)) return counted(number);
   const size = Math.abs(number), notation = size >= 1e15 || size < 1e-6 ? 'scientific' : 'standard';
   const digits = size >= 1e7 && size < 1e15 ? { maximumFractionDigits: 0 } : { maximumSignificantDigits: 7 };

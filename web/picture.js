@@ -16,7 +16,7 @@ const MOST_SVG = 100_000; // places
 export const isDrawnAtOnce = ({ places }) => places.length <= 2 * MOST_SHAPES;
 
 // What is to be seen now: clusters, or a time of the rounds.
-export function momentNow() {
+function momentNow() {
   const { clusters, round } = state;
   return round === null ? { kept: clusters?.kept, colours: clusters?.colours } : { round };
 }
@@ -41,7 +41,7 @@ class Paths {
 
 function linkShapes(shown, scene, { across, down }, { inkAt, plain }) {
   const cut = [], lines = new Paths();
-  const line = (x, y, toX, toY, part, whose, isCut) => {
+  const line = ([x, y, toX, toY], part, whose, isCut) => {
     const [beginX, beginY] = [across(x), down(y)], [endX, endY] = [across(toX), down(toY)];
     const [partX, partY] = [beginX + (endX - beginX) * part, beginY + (endY - beginY) * part];
     const path = `M${beginX.toFixed(1)} ${beginY.toFixed(1)}L${partX.toFixed(1)} ${partY.toFixed(1)}`;

@@ -32,7 +32,7 @@ class Pixels {
   }
 
   // A line as wide as this. It goes along the axis on which it is longer, and covers a part of each pixel across.
-  line(x, y, toX, toY, wide, word) {
+  line([x, y, toX, toY], wide, word) {
     const isFlat = Math.abs(toX - x) >= Math.abs(toY - y);
     const [length, across] = isFlat ? [this.width, this.height] : [this.height, this.width];
     const [begin, from, end, to] = isFlat ? [x, y, toX, toY] : [y, x, toY, toX];
@@ -41,15 +41,16 @@ class Pixels {
     const last = Math.min(1, leaves(begin, by, length - 1), leaves(from, shift, across - 1));
     if (!(first <= last)) return;
     const [low, high] = [begin + first * by, begin + last * by].sort((a, b) => a - b);
-    const [step, stride] = isFlat ? [1, this.width] : [this.width, 1];
+    const [step, stride] = isFlat ? [1, this.width] : [this.width, 1], column = { start: 0, stride, most: across };
     for (let at = Math.round(low); at <= Math.round(high); at++) {
       const middle = from + (at - begin) * slope;
-      this.span(at * step, stride, across, middle - wide / 2 + 0.5, middle + wide / 2 + 0.5, word);
+      column.start = at * step;
+      this.span(column, middle - wide / 2 + 0.5, middle + wide / 2 + 0.5, word);
     }
   }
 
-  // Covers pixels from one fraction to another, `stride` words apart.
-  span(start, stride, most, low, high, word) {
+  // Covers pixels of a column, which are `stride` words apart, from one fraction to another.
+  span({ start, stride, most }, low, high, word) {
     const { words } = this, end = Math.min(most - 1, Math.ceil(high) - 1);
     for (let at = Math.max(0, Math.floor(low)); at <= end; at++) {
       const part = Math.min(at + 1, high) - Math.max(at, low), index = start + at * stride;
@@ -88,11 +89,11 @@ function placing({ left, top, x, y, zoom }, sharp) {
 }
 
 function drawLines(pixels, shown, scene, { across, down }, { wide, wordOf, cut }) {
-  const line = (x, y, toX, toY, part, whose, isCut) => {
+  const line = ([x, y, toX, toY], part, whose, isCut) => {
     const [beginX, beginY, endX, endY] = [across(x), down(y), across(toX), down(toY)];
     if (Math.abs(endX - beginX) + Math.abs(endY - beginY) < LEAST_LINE) return;
     const [partX, partY] = [beginX + (endX - beginX) * part, beginY + (endY - beginY) * part];
-    pixels.line(beginX, beginY, partX, partY, isCut ? wide * 0.7 : wide, isCut ? cut : wordOf(whose));
+    pixels.line([beginX, beginY, partX, partY], isCut ? wide * 0.7 : wide, isCut ? cut : wordOf(whose));
   };
   for (let i = shown.heights.length - 1; i >= 0; i--) linesOf(shown, scene, i, line);
 }

@@ -12,7 +12,7 @@ const STEP = 40; // pixels that a key pans
 const isEmbedded = () => document.body.classList.contains('embed');
 
 // The vertex whose place is nearest to a pixel, or -1.
-export function vertexAt(x, y) {
+function vertexAt(x, y) {
   const { shown } = state, { across, down } = lens();
   let least = NEAR * NEAR, found = -1;
   for (let v = 0; v < (shown?.places.length ?? 0) / 2; v++) {

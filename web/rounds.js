@@ -12,18 +12,17 @@ export const LOW = 1, HIGH = 2; // which ends of a link reach for it
 export function roundsOf(n, forest) {
   const k = forest.length / 4, round = new Uint8Array(k), ends = new Uint8Array(k), pieces = new Pieces(n);
   const labels = [pieces.labels()], counts = [n], first = new Int32Array(n);
+  const take = (i, end, now) => {
+    const piece = pieces.root(forest[4 * i + 1 + end] - 1);
+    if (first[piece] >= 0) return;
+    first[piece] = i;
+    round[i] = now;
+    ends[i] |= end;
+  };
   let live = new Uint32Array(k).map((_, i) => i);
   for (let now = 0; live.length; now++) {
     first.fill(-1);
-    for (const i of live) {
-      for (let end = LOW; end <= HIGH; end++) {
-        const piece = pieces.root(forest[4 * i + 1 + end] - 1);
-        if (first[piece] >= 0) continue;
-        first[piece] = i;
-        round[i] = now;
-        ends[i] |= end;
-      }
-    }
+    for (const i of live) for (let end = LOW; end <= HIGH; end++) take(i, end, now);
     for (const i of live) if (ends[i]) pieces.join(forest[4 * i + 2] - 1, forest[4 * i + 3] - 1);
     const left = live.filter(i => !ends[i]);
     labels.push(pieces.labels());

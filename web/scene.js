@@ -31,17 +31,17 @@ export function sceneAt({ rounds }, moment) {
 // or 0.
 const shiftOf = ({ turn }, x, toX) => turn && Math.abs(toX - x) > turn / 2 ? Math.sign(x - toX) * turn : 0;
 
-// Hands each line that is drawn to `line(x, y, toX, toY, part, whose, isCut)`: from a place towards another one, as
-// much of that way as `part` says, in the ink of the vertex `whose`.
+// Hands each line that is drawn to `line(ends, part, whose, isCut)`: from a place towards another one, as much of that
+// way as `part` says, in the ink of the vertex `whose`. The ends are x and y of the one, and x and y of the other.
 export function linesOf(shown, scene, i, line) {
   const { places, forest } = shown, u = forest[4 * i + 2] - 1, v = forest[4 * i + 3] - 1;
   const x = places[2 * u], y = places[2 * u + 1], toX = places[2 * v], toY = places[2 * v + 1];
   const low = scene.lowPart(i), high = scene.highPart(i), isCut = scene.isCut(i), shift = shiftOf(shown, x, toX);
   if (shift) {
-    line(x, y, toX + shift, toY, Math.min(low, 0.5), u, isCut);
-    line(toX, toY, x - shift, y, low === 1 ? 0.5 : Math.min(high, 0.5), low === 1 ? u : v, isCut);
+    line([x, y, toX + shift, toY], Math.min(low, 0.5), u, isCut);
+    line([toX, toY, x - shift, y], low === 1 ? 0.5 : Math.min(high, 0.5), low === 1 ? u : v, isCut);
   } else {
-    if (low) line(x, y, toX, toY, low, u, isCut);
-    if (high && low < 1) line(toX, toY, x, y, high, v, isCut);
+    if (low) line([x, y, toX, toY], low, u, isCut);
+    if (high && low < 1) line([toX, toY, x, y], high, v, isCut);
   }
 }

@@ -7,7 +7,7 @@
 
 import { boundsOf } from './bounds.js';
 
-export const KILOMETRES_OF_EARTH = 6371;
+const KILOMETRES_OF_EARTH = 6371;
 const RADIAN = Math.PI / 180;
 
 // By so much may a chord between two places on the globe be wrong, if it is taken from axes: they are rounded.

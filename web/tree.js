@@ -161,13 +161,18 @@ class Rounds {
 
   // Tells of each node in which component it lies whole, or -1.
   mark() {
-    const { component, inside, tree: { low, high, second, count } } = this;
+    const { inside, tree: { second, count } } = this;
     for (let node = count - 1; node >= 0; node--) {
-      let all = second[node] ? inside[node + 1] : component[low[node]];
-      if (second[node] && inside[second[node]] !== all) all = -1;
-      if (!second[node]) for (let at = low[node]; at < high[node]; at++) if (component[at] !== all) all = -1;
-      inside[node] = all;
+      if (!second[node]) inside[node] = this.componentOf(node);
+      else inside[node] = inside[node + 1] === inside[second[node]] ? inside[node + 1] : -1;
     }
+  }
+
+  // The component in which all of a leaf's places lie, or -1.
+  componentOf(leaf) {
+    const { component, tree: { low, high } } = this, first = component[low[leaf]];
+    for (let at = low[leaf]; at < high[leaf]; at++) if (component[at] !== first) return -1;
+    return first;
   }
 
   // Whether what a place found last still lies outside of its component: then nothing outside is nearer.
