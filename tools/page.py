@@ -56,8 +56,11 @@ def variable(name):
 
 
 def without_comments(text):
-    """A script without the lines that are comments whole."""
-    return re.sub(r"^ *//.*\n|^ */\*\*[^`]*?\*/\n", "", text, flags=re.M)
+    """A script without the lines that are comments whole, and without indentation. No text in it goes over several lines."""
+    text = re.sub(r"^ *//.*\n|^ */\*\*[^`]*?\*/\n", "", text, flags=re.M)
+    if any(line.count("`") % 2 for line in text.splitlines()):
+        raise SystemExit("tools/page.py: a text in backticks goes over several lines")
+    return re.sub(r"^ +|^\n", "", text, flags=re.M)
 
 
 def enclosed(name):
@@ -98,7 +101,7 @@ def replaced(page, old, new):
 
 def packed(module):
     """The page, with these bytes as its module."""
-    script, style = f"\n{joined('page.js')}", f"\n{read('page.css')}"
+    script, style = f"\n{joined('page.js')}", f"\n{re.sub(r'^ +', '', read('page.css'), flags=re.M)}"
     inside = [held("packed-module", module), held("packed-worker", joined("worker.js").encode()), f"{DATA}\n"]
     page = replaced(read("index.html"), SCRIPT, "".join(inside) + f'<script type="module">{script}</script>')
     page = replaced(page, STYLE, f"<style>{style}</style>")

@@ -14,6 +14,8 @@ import { lens } from './view.js';
 
 const $ = id => /** @type {any} */ (document.getElementById(id));
 const SLIDER = 99; // clusters more than the least
+const RESTS = 3; // times as long as it took, until the tree is drawn again
+const LEAST_WAIT = 12; // milliseconds
 
 const clustersCounted = count => `${count} cluster${count === 1 ? '' : 's'}`;
 const put = (id, text) => { if ($(id).textContent !== text) $(id).textContent = text; };
@@ -109,8 +111,20 @@ function tellDendrogram() {
 }
 
 function drawTree() {
+  const begun = performance.now();
   if ($('dendrogram').clientWidth) drawDendrogram($('dendrogram'));
   if ($('bars').clientWidth) drawBars($('bars'));
+  state.tree = { isAwaited: false, free: performance.now() + RESTS * (performance.now() - begun) };
+}
+
+// Draws the tree at once, or later if that takes long and it was just drawn: the picture goes first.
+function drawTreeSoon() {
+  const { isAwaited, free } = state.tree, wait = free - performance.now();
+  if (wait < LEAST_WAIT) drawTree();
+  else if (!isAwaited) {
+    state.tree.isAwaited = true;
+    setTimeout(drawTree, wait);
+  }
 }
 
 // An address that carries other points than are shown would be passed on.
@@ -136,6 +150,6 @@ export function tell() {
     dropLink(state.told.shown);
   }
   tellSaving();
-  if (!isSame(Object.keys(drawn))) drawTree();
+  if (!isSame(Object.keys(drawn))) drawTreeSoon();
   state.told = drawn;
 }

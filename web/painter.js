@@ -1,4 +1,9 @@
-// The page's side of pictures that a worker of their own draws (pixels.js), one after the other.
+// Pictures of many points, pixel by pixel: a worker of their own draws them, one after the other. Where that takes a
+// few milliseconds they are drawn at once, since a worker has to be waited for.
+
+import { drawn } from './pixels.js';
+
+const MOST_AT_ONCE = 20_000; // places
 
 export class Painter {
   constructor(starts) {
@@ -7,16 +12,18 @@ export class Painter {
     this.seen = null;
     this.asked = null;
     this.last = Promise.resolve();
+    this.start(); // so that the first picture needn't wait for it
   }
 
   // The words of a picture, or null if the worker failed.
   draw(shown, job) {
-    const drawn = this.last.then(() => this.drawNow(shown, job));
-    this.last = drawn;
-    return drawn;
+    if (shown.places.length <= 2 * MOST_AT_ONCE) return drawn(shown, job);
+    const words = this.last.then(() => this.askFor(shown, job));
+    this.last = words;
+    return words;
   }
 
-  drawNow(shown, job) {
+  askFor(shown, job) {
     if (!this.worker) this.start();
     if (this.seen !== shown) {
       const { places, forest, heights, rounds, turn } = shown;

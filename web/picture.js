@@ -169,19 +169,31 @@ export class Picture {
     paint(pen, textShapes(state.shown, through, plain));
   }
 
-  // Asks for the picture of now; when it is there, it is drawn, and perhaps the next one begun.
-  async begin(sharp, through) {
-    const { width, height } = this.canvas, { shown } = state;
-    [this.isOld, this.isDrawing] = [false, true];
-    const words = await this.painter.draw(shown, jobOf({ moment: momentNow(), through, sharp, width, height }));
-    this.isDrawing = false;
+  // Asks for the picture of now. If it has to be waited for, it is drawn when it is there, and perhaps the next one
+  // begun.
+  begin(sharp, through) {
+    const { canvas: { width, height } } = this, { shown } = state;
+    const words = this.painter.draw(shown, jobOf({ moment: momentNow(), through, sharp, width, height }));
+    const take = found => this.take(found, { shown, through, width, height });
+    this.isOld = false;
+    if (!(words instanceof Promise)) take(words);
+    else {
+      this.isDrawing = true;
+      words.then(found => {
+        this.isDrawing = false;
+        take(found);
+        this.await();
+      });
+    }
+  }
+
+  take(words, { shown, through, width, height }) {
     if (words) {
       [this.last.width, this.last.height] = [width, height];
       const image = new ImageData(new Uint8ClampedArray(words.buffer), width, height);
       this.last.getContext('2d').putImageData(image, 0, 0);
       [this.lens, this.of] = [through, shown];
     } else this.fault(new Error('The picture can’t be drawn: the browser gives no more memory.'));
-    this.await();
   }
 
   // The last picture, moved from its view to that of now.

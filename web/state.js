@@ -36,8 +36,8 @@ export const state = {
   draws: 0, // how many times points were drawn at random
   penning: Promise.resolve(), // until the points that were set before are there
   told: {}, // what the page told last
+  tree: { isAwaited: false, free: 0 }, // when the dendrogram may be drawn again
   isPrinted: false,
-  left: null,
 };
 
 const hearers = [];

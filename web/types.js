@@ -93,8 +93,8 @@
  * @property {number} draws
  * @property {Promise<unknown>} penning
  * @property {Record<string, unknown>} told
+ * @property {{ isAwaited: boolean, free: number }} tree
  * @property {boolean} isPrinted
- * @property {Record<string, unknown> | null} left - how a page that was sent was left
  */
 
 export {};

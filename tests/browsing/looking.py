@@ -32,7 +32,8 @@ def all_is_reached_in_a_low_window(_room):
             is_so((width, page.browser.run(REACHED, parts)), (width, []))
             page.keep(f"low_{width}_{scheme}")
             tall = page.browser.run("return document.getElementById('dendrogram').clientHeight")
-            is_so((width, tall >= 140), (width, True))
+            wide = page.browser.run("const it = document.getElementById('side'); return it.scrollWidth <= it.clientWidth")
+            is_so((width, tall >= 140, wide), (width, True, True))
             page.click("tree")
 
 
