@@ -18,7 +18,7 @@ import time
 
 sys.dont_write_bytecode = True
 
-from browsing import exact, pages, points, files, reading, saving, hostile, reach, node, merging  # noqa: F401, I001 (they run in this order)
+from browsing import code, exact, pages, points, files, people, looking, reading, saving, sending, hostile, reach, node, merging, engines  # noqa: F401, I001 (they run in this order)
 from browsing.page import Page
 from cases.running import CASES, Program, Skipped
 

@@ -7,11 +7,17 @@ MODULE is boruvka.wasm, which `make wasm` builds. INTO gets the page. The same f
 
 The page takes data in two ways, and reads both as it reads a file that is opened:
 
-- Inside of it, in place of the empty element DATA: `<script type="application/json" id="data">{"name": "towns.csv",
-  "base64": ".."}</script>`. The base64 is that of the file's bytes, packed by gzip or not. Its name ends as the file's would,
-  and has each `<` as `\\u003c`.
-- In its address, behind `#d=`: the text of a table of up to 5,000 points, packed by raw deflate and written as base64url
-  without `=`.
+- Inside of it, instead of the empty element DATA: `<script type="application/json" id="data">{"name": "towns.csv",
+  "base64": ".."}</script>`. The base64 is that of the file's bytes, compressed by gzip or not. Its name ends as the file's
+  would. Each `<` is written as `\\u003c`. The page itself saves such a file, and opens it as it was left. For this the JSON
+  may also have:
+  - `columns`: how the table is read, as web/columns.js has choices, so that nobody is asked
+  - `places`: the `name` and `base64` of a .co file, for a graph
+  - `clusters` and `smallest`: how many clusters, and how many points one with a colour has at least
+  - `view`: the place in the middle of the picture, and how many times as large it is as when all is seen: `[x, y, times]`
+  - `scale`: that of heights, `root`, `even` or `log`
+- In its address, after `#d=`: the text of a table of up to 5,000 points, compressed by raw deflate and written as base64url
+  without `=`. Then perhaps `&k=` clusters, `&s=` smallest, `&v=` view with commas, and `&h=` scale.
 
 A policy in its head names the sums of its scripts and its style: no other runs, and nothing is asked for.
 """
@@ -49,9 +55,18 @@ def variable(name):
     return f"from_{name.removesuffix('.js')}"
 
 
+def without_comments(text):
+    """A script without the lines that are comments whole, and without indentation. No text in it goes over several lines."""
+    text = re.sub(r"^ *//.*\n|^ */\*\*[^`]*?\*/\n", "", text, flags=re.M)
+    if any(line.count("`") % 2 for line in text.splitlines()):
+        raise SystemExit("tools/page.py: a text in backticks goes over several lines")
+    return re.sub(r"^ +|^\n", "", text, flags=re.M)
+
+
 def enclosed(name):
-    """A script as a function that is called once: it answers what the script exports."""
-    text = re.sub(r"^import (.*) from '\./(.*)';$", lambda it: f"const {it[1]} = {variable(it[2])};", read(name), flags=re.M)
+    """A script as a function that is called once: it returns what the script exports."""
+    text = without_comments(read(name))
+    text = re.sub(r"^import (.*) from '\./(.*)';$", lambda it: f"const {it[1]} = {variable(it[2])};", text, flags=re.M)
     exports = re.findall(r"^export (?:const|class|(?:async )?function\*?) (\w+)", text, re.M)
     text = re.sub(r"^export ", "", text, flags=re.M)
     if re.search(r"^(import|export)\b", text, re.M):
@@ -86,7 +101,7 @@ def replaced(page, old, new):
 
 def packed(module):
     """The page, with these bytes as its module."""
-    script, style = f"\n{joined('page.js')}", f"\n{read('page.css')}"
+    script, style = f"\n{joined('page.js')}", f"\n{re.sub(r'^ +', '', read('page.css'), flags=re.M)}"
     inside = [held("packed-module", module), held("packed-worker", joined("worker.js").encode()), f"{DATA}\n"]
     page = replaced(read("index.html"), SCRIPT, "".join(inside) + f'<script type="module">{script}</script>')
     page = replaced(page, STYLE, f"<style>{style}</style>")

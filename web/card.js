@@ -1,16 +1,21 @@
-// What the card tells: the sums of what runs here. A packed page has all of it inside; a page that is served knows its module.
+// What the card tells: the sums of what runs here. A packed page has all of it inside; a page that is served knows
+// its module.
 
 const $ = id => document.getElementById(id);
-const hex = bytes => Array.from(new Uint8Array(bytes), it => it.toString(16).padStart(2, '0')).join('');
+const hex = bytes => Array.from(new Uint8Array(bytes), byte => byte.toString(16).padStart(2, '0')).join('');
 
 // A packed page's script, style and worker, as the texts that the browser is given.
 function textsOf() {
-  const isPacked = Boolean($('packed-worker')), text = it => isPacked ? document.querySelector(it).textContent : '';
+  const isPacked = Boolean($('packed-worker'));
+  const text = part => isPacked ? document.querySelector(part).textContent : '';
   return { scripts: text('script[type=module]'), style: text('style'), worker: text('#packed-worker') };
 }
 
 export async function tellSums(module) {
   if (!crypto.subtle) return;
-  const texts = Object.entries(textsOf()).filter(([, it]) => it).map(([name, it]) => [name, new TextEncoder().encode(it)]);
-  for (const [name, bytes] of [['module', module], ...texts]) $(`sum-${name}`).textContent = hex(await crypto.subtle.digest('SHA-256', bytes));
+  const texts = Object.entries(textsOf()).filter(([, text]) => text);
+  const parts = texts.map(([name, text]) => ({ name, bytes: new TextEncoder().encode(text) }));
+  for (const { name, bytes } of [{ name: 'module', bytes: module }, ...parts]) {
+    $(`sum-${name}`).textContent = hex(await crypto.subtle.digest('SHA-256', bytes));
+  }
 }

@@ -1,29 +1,53 @@
-// The dendrogram: heights from the right, 0 or the least, to the left. And the greatest heights as bars.
+// The dendrogram: heights from the right, 0 or the least, to the left. And the greatest heights as bars. While the
+// rounds are played, it has the merges whose links are all taken.
 
 import { greatest } from './clusters.js';
 import { inkOf, inks } from './inks.js';
+import { widthOf } from './labels.js';
+import { nameAt } from './names.js';
 import { emptied, paint, svgOf } from './shapes.js';
 import { state } from './state.js';
 
-const MOST_BRACKETS = 1000; // so many merges are drawn, the heaviest
+const MOST_BRACKETS = 1000; // merges that are drawn, the heaviest
 const EDGE = 14; // pixels
 const FOOT = 34; // pixels for the ticks
+const LEAST_ROW = 11; // pixels of a leaf's name
+const MOST_NAME = 0.38; // of the width
 
 const BENDS = {
-  even: { to: it => it, from: it => it },
-  root: { to: it => Math.sign(it) * Math.sqrt(Math.abs(it)), from: it => Math.sign(it) * it * it },
+  even: { to: height => height, from: value => value },
+  root: {
+    to: height => Math.sign(height) * Math.sqrt(Math.abs(height)),
+    from: value => Math.sign(value) * value * value,
+  },
   log: { to: Math.log, from: Math.exp },
 };
 
-// Where a height stands from left to right. By logarithm it begins at the least height above 0.
-export function scaleOf({ heights }, width) {
-  const { to, from } = BENDS[state.scale], positive = heights.find(it => it > 0) ?? 1, isLog = state.scale === 'log';
-  const low = to(isLog ? positive : Math.min(0, heights[0])), high = to(Math.max(heights.at(-1), isLog ? positive : -Infinity));
+// How many pixels the names of the leaves have at the right; none where they have no room.
+function nameWidth({ n, names }, width, height) {
+  if (!names || (height - FOOT - EDGE) / n < LEAST_ROW) return 0;
+  const widest = Math.max(...Array.from({ length: n }, (_, v) => widthOf(nameAt(names, v))));
+  return Math.min(widest + 6, MOST_NAME * width);
+}
+
+// Where a height is from left to right. By logarithm it begins at the least height above 0.
+function scaleOf({ heights }, width, right = EDGE) {
+  const { to, from } = BENDS[state.scale], positive = heights.find(height => height > 0) ?? 1;
+  const isLog = state.scale === 'log';
+  const low = to(isLog ? positive : Math.min(0, heights[0]));
+  const high = to(Math.max(heights.at(-1), isLog ? positive : -Infinity));
   // as parts of the greatest, since the difference of two doubles may be past what doubles hold
-  const unit = Math.max(Math.abs(low), Math.abs(high)) || 1, most = high / unit, across = most - low / unit || 1, room = width - 2 * EDGE;
-  const bounded = it => isLog ? Math.max(it, positive) : it;
-  const pixel = it => EDGE + room * (most - to(bounded(it)) / unit) / across;
+  const unit = Math.max(Math.abs(low), Math.abs(high)) || 1, most = high / unit, across = most - low / unit || 1;
+  const room = width - EDGE - right, bounded = height => isLog ? Math.max(height, positive) : height;
+  const pixel = height => EDGE + room * (most - to(bounded(height)) / unit) / across;
   return { to: pixel, from: x => from((most - across * (x - EDGE) / room) * unit), low, high };
+}
+
+function placing(shown, width, height) {
+  const { n, heights } = shown, right = EDGE + nameWidth(shown, width, height), most = height - FOOT - EDGE;
+  const scale = scaleOf(shown, width, right), end = width - right;
+  const xOf = node => node < n ? end : scale.to(heights[node - n]);
+  return { scale, end, xOf, yOf: place => EDGE + most * place / n };
 }
 
 // A few round heights between the ends of the scale.
@@ -32,73 +56,101 @@ function ticksOf({ heights }, scale) {
   if (!(most > 0)) return [heights[0], most];
   if (state.scale === 'log') {
     const low = Math.ceil(scale.low / Math.LN10), high = Math.floor(Math.log10(most)), all = [];
-    for (let it = low; it <= high; it += Math.max(1, Math.ceil((high - low) / 4))) all.push(10 ** it);
+    for (let power = low; power <= high; power += Math.max(1, Math.ceil((high - low) / 4))) all.push(10 ** power);
     return all.length ? all : [most];
   }
-  const step = 10 ** Math.floor(Math.log10(most)), by = [0.2, 0.5, 1, 2].map(it => it * step).find(it => most / it <= 4) ?? 2 * step;
-  return by > 0 && most / by < 20 ? Array.from({ length: Math.floor(most / by) + 1 }, (_, i) => i * by) : [0, most];
+  const power = 10 ** Math.floor(Math.log10(most));
+  const step = [0.2, 0.5, 1, 2].map(times => times * power).find(value => most / value <= 4) ?? 2 * power;
+  if (!(step > 0 && most / step < 20)) return [0, most];
+  return Array.from({ length: Math.floor(most / step) + 1 }, (_, i) => i * step);
+}
+
+// Whether a merge is there yet: while the rounds are played, once all of its links are taken.
+function thereYet({ n, rounds }) {
+  const { round } = state;
+  return round === null ? () => true : node => node < n || rounds.born[node - n] <= round;
 }
 
 // Merges from `begin` on: lines to what each joins; what isn't drawn itself is a bar.
-function mergeShapes({ n, merges }, begin, { xOf, yOf, inkAt }) {
-  const { roots, larger, smaller, size, first } = merges, right = xOf(0), lines = new Map(), bars = new Map();
-  const put = (map, ink, path) => (map.get(ink) || map.set(ink, []).get(ink)).push(path), r = it => it.toFixed(1);
+function mergeShapes(shown, begin, { xOf, yOf, end, inkAt }) {
+  const { n, merges: { roots, larger, smaller, size, first } } = shown, isThere = thereYet(shown), lines = new Map();
+  const bars = new Map();
+  const put = (map, ink, path) => (map.get(ink) || map.set(ink, []).get(ink)).push(path);
+  const r = pixel => pixel.toFixed(1);
   const middle = node => yOf(first[node] + size[node] / 2);
   let covered = -1;
   const bar = node => {
-    if (node < n || node >= n + begin) return;
+    if (node < n || node >= n + begin || !isThere(node)) return;
     const top = yOf(first[node]), tall = Math.max(0.3, yOf(first[node] + size[node]) - top);
     if (tall < 0.5 && Math.abs(top - covered) < 0.5) return; // there is one already
     covered = top;
-    put(bars, inkAt(node), `M${r(xOf(node))} ${r(top)}H${r(right)}v${r(tall)}H${r(xOf(node))}z`);
+    put(bars, inkAt(node), `M${r(xOf(node))} ${r(top)}H${r(end)}v${r(tall)}H${r(xOf(node))}z`);
   };
   roots.forEach(bar);
   for (let i = begin; i < larger.length; i++) {
     const x = xOf(n + i);
-    for (const node of [larger[i], smaller[i]]) {
-      bar(node);
-      put(lines, inkAt(node), `M${r(x)} ${r(middle(node))}H${r(xOf(node))}`);
-    }
+    for (const node of [larger[i], smaller[i]]) bar(node);
+    if (!isThere(n + i)) continue;
+    for (const node of [larger[i], smaller[i]]) put(lines, inkAt(node), `M${r(x)} ${r(middle(node))}H${r(xOf(node))}`);
     put(lines, inkAt(n + i), `M${r(x)} ${r(middle(larger[i]))}V${r(middle(smaller[i]))}`);
   }
   const filled = Array.from(bars, ([ink, paths]) => ({ fill: ink, path: paths.join('') }));
   return [...filled, ...Array.from(lines, ([ink, paths]) => ({ stroke: ink, width: 1.2, path: paths.join('') }))];
 }
 
-// Where the cut stands, between the last height that is kept and the first that isn't.
-export function cutAt({ heights }, { kept }, scale) {
-  const right = kept ? scale.to(heights[kept - 1]) : scale.to(-Infinity), left = kept < heights.length ? scale.to(heights[kept]) : 0;
+// Where the cut is, between the last height that is kept and the first that isn't.
+function cutAt({ heights }, { kept }, scale) {
+  const right = kept ? scale.to(heights[kept - 1]) : scale.to(-Infinity);
+  const left = kept < heights.length ? scale.to(heights[kept]) : 0;
   return ((Number.isFinite(right) ? right : scale.to(scale.low)) + left) / 2;
 }
 
-const notation = it => Math.abs(it) >= 1e6 ? 'scientific' : 'standard';
-const short = it => Number(it.toPrecision(3)).toLocaleString('en', { maximumSignificantDigits: 3, notation: notation(it) });
+const short = height => Number(height.toPrecision(3)).toLocaleString('en', {
+  maximumSignificantDigits: 3, notation: Math.abs(height) >= 1e6 ? 'scientific' : 'standard',
+});
 
-function placing({ n, heights }, width, height) {
-  const scale = scaleOf({ heights }, width), most = height - FOOT - EDGE;
-  return { scale, xOf: node => node < n ? width - EDGE : scale.to(heights[node - n]), yOf: place => EDGE + most * place / n };
-}
-
-function tickShapes(shown, scale, height, { soft, line }) {
-  return ticksOf(shown, scale).flatMap(it => {
-    const x = scale.to(it);
-    return [
-      { stroke: line, width: 1, path: `M${x.toFixed(1)} ${EDGE}V${height - FOOT + 4}` },
-      { text: short(it), x, y: height - FOOT + 18, fill: soft, anchor: 'center' },
-    ];
+// Ticks whose texts don't leave the picture, nor meet each other.
+function tickShapes(shown, scale, { width, height }, { soft, line }) {
+  let free = -Infinity;
+  const ticks = ticksOf(shown, scale).map(value => ({ x: scale.to(value), text: short(value) }));
+  ticks.sort((a, b) => a.x - b.x);
+  return ticks.flatMap(({ x, text }) => {
+    const half = widthOf(text) / 2, at = Math.max(half + 2, Math.min(width - half - 2, x));
+    const tick = { stroke: line, width: 1, path: `M${x.toFixed(1)} ${EDGE}V${height - FOOT + 4}` };
+    if (at - half < free) return [tick];
+    free = at + half + 4;
+    return [tick, { text, x: at, y: height - FOOT + 18, fill: soft, anchor: 'center' }];
   });
 }
 
+// A text cut to so many pixels.
+function fitting(text, width) {
+  let end = text.length;
+  while (end > 1 && widthOf(text.slice(0, end)) > width) end--;
+  return end < text.length ? `${text.slice(0, Math.max(1, end - 1))}…` : text;
+}
+
+function nameShapes(shown, width, { end, yOf }, ink) {
+  const { names, merges: { order } } = shown, most = width - end - 4;
+  if (most < EDGE) return [];
+  const textOf = v => fitting(nameAt(names, v), most);
+  return Array.from(order, (v, place) => ({ text: textOf(v), x: end + 4, y: yOf(place + 0.5) + 4, fill: ink }));
+}
+
 function shapesOf(width, height) {
-  const { shown, clusters } = state, plain = inks();
+  const { shown, clusters, round } = state, plain = inks();
   if (!clusters || !shown.heights.length) return [];
-  const { n, heights, merges: { first, order } } = shown, { kept, colours } = clusters, { scale, xOf, yOf } = placing(shown, width, height);
-  const inkAt = node => node < n + kept ? inkOf(plain, colours[order[first[node]]]) : plain.soft;
-  const x = cutAt(shown, clusters, scale).toFixed(1);
+  const { n, heights, merges: { first, order }, rounds } = shown, { kept, colours } = clusters;
+  const through = placing(shown, width, height);
+  const ofClusters = node => node < n + kept ? inkOf(plain, colours[order[first[node]]]) : plain.soft;
+  const labels = round === null ? null : rounds.labels[Math.min(Math.floor(round), rounds.labels.length - 1)];
+  const inkAt = labels ? node => inkOf(plain, labels[order[first[node]]]) : ofClusters;
+  const x = cutAt(shown, clusters, through.scale).toFixed(1);
   return [
-    ...tickShapes(shown, scale, height, plain),
-    ...mergeShapes(shown, Math.max(0, heights.length - MOST_BRACKETS), { xOf, yOf, inkAt }),
-    { stroke: plain.mark, width: 2, dash: [5, 4], path: `M${x} 2V${height - FOOT}` },
+    ...tickShapes(shown, through.scale, { width, height }, plain),
+    ...mergeShapes(shown, Math.max(0, heights.length - MOST_BRACKETS), { ...through, inkAt }),
+    ...nameShapes(shown, width, through, plain.ink),
+    ...(labels ? [] : [{ stroke: plain.mark, width: 2, dash: [5, 4], path: `M${x} 2V${height - FOOT}` }]),
   ];
 }
 
@@ -113,11 +165,15 @@ export function dendrogramSvg(canvas) {
 }
 
 // How many clusters are left if links are cut at this pixel.
-export function countAt({ n, heights }, x, width) {
-  const most = scaleOf({ heights }, width).from(x);
-  let kept = 0;
-  while (kept < heights.length && heights[kept] <= most) kept++;
-  return n - kept;
+export function countAt(shown, x, canvas) {
+  const { n, heights } = shown, most = placing(shown, canvas.clientWidth, canvas.clientHeight).scale.from(x);
+  let low = 0, high = heights.length;
+  while (low < high) {
+    const middle = (low + high) >> 1;
+    if (heights[middle] <= most) low = middle + 1;
+    else high = middle;
+  }
+  return n - low;
 }
 
 // How many clusters are left so many different heights further down, or up if `steps` is negative.
@@ -131,10 +187,11 @@ export function countBeside({ n, heights }, { kept }, steps) {
   return n - at;
 }
 
-// The branch at a pixel: the vertices of the highest node there that is whole to the right, as places in the order.
-export function branchAt(shown, x, y, width, height) {
-  const { n, heights, merges: { larger, smaller, first, size, roots } } = shown, { scale } = placing(shown, width, height);
-  const place = (y - EDGE) * n / (height - FOOT - EDGE), most = scale.from(x);
+// The branch at a pixel: the vertices of the highest node there that is whole to the right, as indices in the order.
+export function branchAt(shown, x, y, canvas) {
+  const { n, heights, merges: { larger, smaller, first, size, roots } } = shown;
+  const { clientWidth: width, clientHeight: height } = canvas;
+  const place = (y - EDGE) * n / (height - FOOT - EDGE), most = placing(shown, width, height).scale.from(x);
   const has = node => place >= first[node] && place < first[node] + size[node];
   let node = roots.find(has);
   while (node >= n && heights[node - n] > most) node = has(larger[node - n]) ? larger[node - n] : smaller[node - n];
@@ -145,17 +202,21 @@ export function branchAt(shown, x, y, width, height) {
 
 // The greatest heights as bars, the greatest first; those that are cut in the mark's ink.
 export function drawBars(canvas) {
-  const plain = inks(), { pen } = emptied(canvas, plain.paper), { shown, clusters } = state, { clientWidth: width, clientHeight: height } = canvas;
+  const plain = inks(), { pen } = emptied(canvas, plain.paper), { shown, clusters } = state;
+  const { clientWidth: width, clientHeight: height } = canvas;
   if (!clusters || !shown.heights.length) return;
-  const all = greatest(shown), step = (width - 2 * EDGE) / all.length, cut = shown.heights.length - clusters.kept, most = all[0] || 1;
-  paint(pen, all.map((it, i) => {
-    const tall = Math.max(1, (height - 8) * Math.max(0, it) / most), [left, up, wide] = [EDGE + i * step, -tall, Math.max(1, step - 2)];
-    return { fill: i < cut ? plain.mark : plain.soft, path: `M${left.toFixed(1)} ${height}v${up.toFixed(1)}h${wide.toFixed(1)}V${height}z` };
+  const all = greatest(shown), step = (width - 2 * EDGE) / all.length, cut = shown.heights.length - clusters.kept;
+  const most = all[0] || 1;
+  paint(pen, all.map((value, i) => {
+    const tall = Math.max(1, (height - 8) * Math.max(0, value) / most), left = EDGE + i * step;
+    const wide = Math.max(1, step - 2);
+    const path = `M${left.toFixed(1)} ${height}v${(-tall).toFixed(1)}h${wide.toFixed(1)}V${height}z`;
+    return { fill: i < cut ? plain.mark : plain.soft, path };
   }));
 }
 
 // How many clusters are left if all bars up to this pixel are cut.
 export function countAtBar(shown, x, width) {
-  const step = (width - 2 * EDGE) / greatest(shown).length;
-  return shown.merges.roots.length + Math.max(0, Math.min(greatest(shown).length, Math.floor((x - EDGE) / step) + 1));
+  const count = greatest(shown).length, step = (width - 2 * EDGE) / count;
+  return shown.merges.roots.length + Math.max(0, Math.min(count, Math.floor((x - EDGE) / step) + 1));
 }

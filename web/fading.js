@@ -1,12 +1,13 @@
-// A soft change from one picture to another, where the browser has View Transitions and nobody has asked for less motion.
+// A soft change from one picture to another, where the browser has View Transitions and nobody has asked for less
+// motion.
 
 export const isStill = matchMedia('(prefers-reduced-motion: reduce)');
 
 // Calls it, now or with the next frame, and lets what was seen before fade away.
 export function fade(call) {
   if (isStill.matches || !document.startViewTransition) return call();
-  const it = document.startViewTransition(call);
+  const transition = document.startViewTransition(call);
   // (both are refused if another change comes before its end)
-  for (const promise of [it.ready, it.finished]) promise.catch(() => {});
-  return it.updateCallbackDone;
+  for (const promise of [transition.ready, transition.finished]) promise.catch(() => {});
+  return transition.updateCallbackDone;
 }

@@ -1,4 +1,4 @@
-// The points of a GeoJSON text: degrees east and north, and a name from the properties.
+// The points of a GeoJSON text: degrees east and north, a name from the properties, and the properties themselves.
 
 import { Refusal } from './boruvka.js';
 import { Points } from './tables.js';
@@ -6,14 +6,14 @@ import { Points } from './tables.js';
 const MOST_BYTES = 400_000_000; // a text longer than about 500 million letters can't be in memory
 const NAMES = ['name', 'Name', 'NAME', 'title', 'label', 'id'];
 
-// Each feature of what was parsed, with its number, from 1.
-function featuresOf(parsed) {
-  if (Array.isArray(parsed)) return parsed;
-  if (parsed?.type === 'FeatureCollection' && Array.isArray(parsed.features)) return parsed.features;
-  return [parsed];
+// Each feature of what was parsed.
+function featuresOf(given) {
+  if (Array.isArray(given)) return given;
+  if (given?.type === 'FeatureCollection' && Array.isArray(given.features)) return given.features;
+  return [given];
 }
 
-// The places of a point or of several.
+// The places of a point or of several. Features have numbers, from 1 on.
 function placesOf(feature, number) {
   const geometry = feature?.type === 'Feature' ? feature.geometry : feature;
   if (geometry?.type === 'Point') return [geometry.coordinates];
@@ -21,9 +21,12 @@ function placesOf(feature, number) {
   throw new Refusal('NoGeoPoint', 0, `feature ${number}: ${String(geometry?.type ?? 'nothing').slice(0, 40)}`);
 }
 
+// The first property of texts whose key isn't known stands for the name.
 function nameOf(feature, number) {
-  const all = feature?.properties ?? {}, key = NAMES.find(it => typeof all[it] === 'string' || typeof all[it] === 'number');
-  return String(all[key] ?? feature?.id ?? number);
+  const all = feature?.properties ?? {};
+  const isWritten = key => typeof all[key] === 'string' || typeof all[key] === 'number';
+  const known = NAMES.slice(0, -1).find(isWritten) ?? Object.keys(all).find(key => typeof all[key] === 'string');
+  return String(all[known ?? 'id'] ?? feature?.id ?? number);
 }
 
 function parsed(bytes) {
@@ -38,10 +41,19 @@ function parsed(bytes) {
 export async function readGeoJson(source) {
   const bytes = await source.whole(MOST_BYTES), points = new Points('globe', true);
   featuresOf(parsed(bytes)).forEach((feature, i) => {
-    for (const [east, north] of placesOf(feature, i + 1).map(it => Array.isArray(it) ? it : [])) {
-      if (!Number.isFinite(east) || !Number.isFinite(north)) throw new Refusal('NoGeoPoint', 0, `feature ${i + 1}: no two numbers`);
+    for (const place of placesOf(feature, i + 1)) {
+      const [east, north] = Array.isArray(place) ? place : [];
+      if (!Number.isFinite(east) || !Number.isFinite(north)) {
+        throw new Refusal('NoGeoPoint', 0, `feature ${i + 1}: no two numbers`);
+      }
       points.add(east, north, nameOf(feature, i + 1), 0);
     }
   });
-  return points.all([]);
+  return { ...points.all([]), format: 'geojson' };
+}
+
+// The properties of each point, in the order in which they are read.
+export async function propertiesOf(source) {
+  const features = featuresOf(parsed(await source.whole(MOST_BYTES)));
+  return features.flatMap((feature, i) => placesOf(feature, i + 1).map(() => Object(feature?.properties ?? {})));
 }

@@ -29,7 +29,10 @@ const wordsOf = line => line.split(/[ \t\r]+/).filter(Boolean);
 
 class Graph {
   constructor() {
-    Object.assign(this, { n: -1, count: 0, words: null, weights: null });
+    this.n = -1;
+    this.count = 0;
+    this.words = null;
+    this.weights = null;
   }
 
   start([, kind, n, m, ...rest], fault) {
@@ -45,7 +48,7 @@ class Graph {
     if (this.n < 0) throw fault('NoProblemYet');
     if (4 * this.count === this.words.length) throw fault('TooManyArcs');
     if (!DIGITS.test(u) || !DIGITS.test(v) || !/^-?\d+$/.test(weight) || rest.length) throw fault('BadArc');
-    for (const it of [u, v]) if (!(Number(it) >= 1 && Number(it) <= this.n)) throw fault('EndOutOfRange');
+    for (const end of [u, v]) if (!(Number(end) >= 1 && Number(end) <= this.n)) throw fault('EndOutOfRange');
     const digits = weight.replace(/^(-?)0+(?=\d)/, '$1');
     const exact = digits.length > 20 ? MOST_WEIGHT + 1n : BigInt(digits);
     if (exact < LEAST_WEIGHT || exact > MOST_WEIGHT) throw fault('WeightOutOfRange');
@@ -74,13 +77,13 @@ export function linksOfGraph(bytes) {
 
 // The vertices of a forest's text, and its links.
 export function linksOfForest(text) {
-  const lines = linesInParts(text), [n, k] = lines.next().value.split(' ').slice(2).map(Number);
+  const lines = linesInParts(text), [n, k] = String(lines.next().value).split(' ').slice(2).map(Number);
   const forest = new Uint32Array(4 * k), weights = new BigInt64Array(forest.buffer);
   let i = 0;
   for (const line of lines) {
     const [, low, high, weight] = line.split(' ');
-    forest[4 * i + 2] = low;
-    forest[4 * i + 3] = high;
+    forest[4 * i + 2] = Number(low);
+    forest[4 * i + 3] = Number(high);
     weights[2 * i++] = BigInt(weight);
   }
   return { n, forest };
@@ -99,7 +102,8 @@ class Places {
     if (!this.points) throw fault('NoProblemYet');
     const [v, x, y] = words.slice(1).map(Number);
     const isPlace = words.length === 4 && Number.isInteger(v) && Number.isFinite(x) && Number.isFinite(y);
-    if (!isPlace || words.some(it => /0[box]/i.test(it))) throw fault('BadPlace'); // (0x10 is a number to JavaScript alone)
+    const isOther = words.some(word => /0[box]/i.test(word)); // (0x10 is a number to JavaScript alone)
+    if (!isPlace || isOther) throw fault('BadPlace');
     if (v < 1 || v > this.points.length / 2) throw fault('EndOutOfRange');
     if (isRounded(words[2], x) || isRounded(words[3], y)) throw fault('LongPlace');
     if (!Number.isNaN(this.points[2 * v - 2])) throw fault('SecondPlace');
@@ -118,6 +122,7 @@ export function pointsOfPlaces(bytes) {
     else if (words[0] === 'v') places.put(words, fault);
     else throw fault('UnknownLine');
   }
-  if (!places.points || places.left) throw new Refusal(places.points ? 'MissingPlaces' : 'MissingProblem', lines.length + 1);
+  if (!places.points) throw new Refusal('MissingProblem', lines.length + 1);
+  if (places.left) throw new Refusal('MissingPlaces', lines.length + 1);
   return places.points;
 }

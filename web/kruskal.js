@@ -1,15 +1,17 @@
-// Kruskal's algorithm, for browsers that can't run the module. It isn't proved. Its order of links is the module's: by weight,
-// then by the lower end, then by the higher one. So the forest is the same, and so are its merges.
+// Kruskal's algorithm, for browsers that can't run the module. It isn't proved. Its order of links is the module's:
+// by weight, then by the lower end, then by the higher one. So the forest is the same, and so are its merges.
 
-function rootIn(parent, it) {
-  while (parent[it] !== it) it = parent[it] = parent[parent[it]];
-  return it;
+function rootIn(parent, node) {
+  while (parent[node] !== node) node = parent[node] = parent[parent[node]];
+  return node;
 }
 
 // The forest of links between the vertices 1 to n, as boruvka.js has them.
 export function forestByKruskal(n, links) {
-  const high = new Int32Array(links.buffer, links.byteOffset, links.length), parent = new Uint32Array(n + 1).map((_, v) => v);
-  const order = (a, b) => high[a + 1] - high[b + 1] || links[a] - links[b] || links[a + 2] - links[b + 2] || links[a + 3] - links[b + 3];
+  const high = new Int32Array(links.buffer, links.byteOffset, links.length);
+  const parent = new Uint32Array(n + 1).map((_, v) => v);
+  const byEnds = (a, b) => links[a + 2] - links[b + 2] || links[a + 3] - links[b + 3];
+  const order = (a, b) => high[a + 1] - high[b + 1] || links[a] - links[b] || byEnds(a, b);
   const forest = new Uint32Array(4 * Math.max(0, n - 1));
   let count = 0;
   for (const at of new Uint32Array(links.length / 4).map((_, i) => 4 * i).sort(order)) {

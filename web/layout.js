@@ -21,8 +21,13 @@ function neighbours(n, forest) {
 // Walks over trees, from a vertex outwards.
 class Walk {
   constructor(n, forest) {
-    Object.assign(this, neighbours(n, forest));
-    [this.queue, this.from, this.depth, this.leaves] = Array.from({ length: 4 }, () => new Uint32Array(n));
+    const { start, ends } = neighbours(n, forest);
+    this.start = start;
+    this.ends = ends;
+    this.queue = new Uint32Array(n);
+    this.from = new Uint32Array(n);
+    this.depth = new Uint32Array(n);
+    this.leaves = new Uint32Array(n);
     this.turn = new Float64Array(n);
   }
 

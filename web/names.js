@@ -4,7 +4,10 @@ const MOST_IN_NAME = 200; // characters
 
 export class Packer {
   constructor() {
-    Object.assign(this, { bytes: new Uint8Array(1024), ends: [0], encoder: new TextEncoder(), cuts: 0 });
+    this.bytes = new Uint8Array(1024);
+    this.ends = [0];
+    this.encoder = new TextEncoder();
+    this.cuts = 0;
   }
 
   add(name) {

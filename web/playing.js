@@ -1,54 +1,56 @@
-// Borůvka's rounds as a film of six seconds, and as a file.
+// Borůvka's rounds, played in six seconds or stepped by keys.
 
 import { fade, isStill } from './fading.js';
+import { counted } from './measures.js';
 import { change, state } from './state.js';
 
-const SECONDS = 6;
-
-let playing = 0;
+export const SECONDS = 6; // that all rounds take
+export const HOLD = 1.5; // seconds that the whole tree is shown for
 
 export const canPlay = () => Boolean(state.shown?.rounds && state.shown.heights.length);
 export const isPlaying = () => state.round !== null;
+export const lastRound = ({ rounds }) => rounds.labels.length - 1;
 
 export function stopPlaying() {
-  playing++;
-  if (state.round !== null) change({ round: null });
+  const playing = state.playing + 1;
+  change(state.round === null ? { playing } : { playing, round: null, isStepped: false });
 }
 
-// Plays all rounds once; it ends with the clusters. Who wants less motion sees the end alone, unless it is asked for.
+// Plays all rounds once; it ends with the whole tree, and then the clusters. Who wants less motion sees the end
+// alone, unless it is asked for.
 export function play({ isAsked = false } = {}) {
-  const id = ++playing, begun = performance.now();
+  state.playing++;
+  const { shown, playing } = state, begun = performance.now();
   if (!canPlay() || (isStill.matches && !isAsked)) return Promise.resolve();
-  const last = state.shown.rounds.labels.length - 1, { shown } = state;
+  const last = lastRound(shown);
   return new Promise(done => {
     const step = now => {
-      const time = Math.max(0, now - begun) / 1000 / SECONDS * last;
-      if (id !== playing || state.shown !== shown) return done();
-      if (time >= last) return done(fade(() => change({ round: null })));
-      change({ round: time });
+      const seconds = Math.max(0, now - begun) / 1000;
+      if (playing !== state.playing || state.shown !== shown) return done();
+      if (seconds >= SECONDS + HOLD) return done(fade(() => change({ round: null })));
+      change({ round: Math.min(last, seconds / SECONDS * last), isStepped: false });
       return requestAnimationFrame(step);
     };
     step(begun);
   });
 }
 
-// The film as WebM, from what the canvas shows while it is played.
-export async function filmed(canvas) {
-  if (!canvas.captureStream || !window.MediaRecorder) throw new Error('This browser can’t record a canvas.');
-  const parts = [], recorder = new MediaRecorder(canvas.captureStream(30), { mimeType: 'video/webm' });
-  recorder.ondataavailable = ({ data }) => parts.push(data);
-  const ended = new Promise(done => { recorder.onstop = done; });
-  recorder.start();
-  await play({ isAsked: true });
-  await new Promise(done => setTimeout(done, 500));
-  recorder.stop();
-  await ended;
-  return new Blob(parts, { type: 'video/webm' });
+// Goes a round on, or back, and stays there. Past the last one are the clusters.
+export function stepRounds(by) {
+  if (!canPlay()) return;
+  const last = lastRound(state.shown), { round } = state;
+  const now = round === null ? (by > 0 ? 0 : last) : Math.floor(round) + by;
+  state.playing++;
+  change(now < 0 || now > last ? { round: null, isStepped: false } : { round: now, isStepped: true });
 }
 
-// How the rounds stand, in words.
-export function roundsTold() {
-  const { rounds } = state.shown, now = Math.min(Math.floor(state.round), rounds.counts.length - 1);
-  const counts = rounds.counts.slice(0, now + 1).map(it => it.toLocaleString('en'));
-  return `${counts.join(', ')} ${rounds.counts[now] === 1 ? 'piece' : 'pieces'}. Each reaches for its nearest neighbour.`;
+// How many pieces there are at this time of the rounds.
+export const piecesAt = ({ rounds }, round) => rounds.counts[Math.min(Math.floor(round), rounds.counts.length - 1)];
+
+// How the rounds are at this time, in words.
+export function roundsTold({ rounds }, round) {
+  const now = Math.min(Math.floor(round), rounds.counts.length - 1), isLast = now === rounds.counts.length - 1;
+  const counts = rounds.counts.slice(0, now + 1).map(counted);
+  const next = isLast ? 'No link is left that joins two.' : 'Each reaches for its nearest neighbour.';
+  return `${counts.join(', ')} ${rounds.counts[now] === 1 ? 'piece' : 'pieces'}. ${next}`;
 }

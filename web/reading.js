@@ -1,6 +1,7 @@
-// Pointer and keys on the picture: zoom, pan, point at, and the pen that sets points.
+// Pointer and keys on the picture: zoom, pan, point at, step the rounds, and the pen that sets points.
 
 import { nameAt } from './names.js';
+import { canPlay, isPlaying, play, stepRounds, stopPlaying } from './playing.js';
 import { change, state } from './state.js';
 import { lens, moved, viewNow } from './view.js';
 
@@ -8,8 +9,10 @@ const NEAR = 12; // pixels to a point that is pointed at
 const CLICK = 4; // pixels that a pointer may move in a click
 const STEP = 40; // pixels that a key pans
 
+const isEmbedded = () => document.body.classList.contains('embed');
+
 // The vertex whose place is nearest to a pixel, or -1.
-export function vertexAt(x, y) {
+function vertexAt(x, y) {
   const { shown } = state, { across, down } = lens();
   let least = NEAR * NEAR, found = -1;
   for (let v = 0; v < (shown?.places.length ?? 0) / 2; v++) {
@@ -19,12 +22,18 @@ export function vertexAt(x, y) {
   return found;
 }
 
+// The longest of the forest's links at a vertex, or -1.
+function longestAt(v) {
+  const { forest, heights } = state.shown;
+  for (let i = heights.length - 1; i >= 0; i--) {
+    if (forest[4 * i + 2] === v + 1 || forest[4 * i + 3] === v + 1) return i;
+  }
+  return -1;
+}
+
 // What is said of a vertex: its name, its cluster and its longest link.
 export function vertexTold(v, numbers, told) {
-  const { shown: { forest, heights, names }, clusters } = state;
-  let longest = -1;
-  for (let i = heights.length - 1; i >= 0 && longest < 0; i--) if (forest[4 * i + 2] === v + 1 || forest[4 * i + 3] === v + 1) longest = i;
-  const rows = [nameAt(names, v)];
+  const { shown: { names }, clusters } = state, longest = longestAt(v), rows = [nameAt(names, v)];
   if (clusters) rows.push(`cluster ${numbers()[v].toLocaleString('en')}`);
   if (longest >= 0) rows.push(`longest link ${told(longest)}`);
   return rows.join(', ');
@@ -33,7 +42,11 @@ export function vertexTold(v, numbers, told) {
 // Pointers that are down on the picture: one pans, two zoom.
 class Gesture {
   constructor(picture, { set }) {
-    Object.assign(this, { picture, set, down: new Map(), far: 0, last: null });
+    this.picture = picture;
+    this.set = set;
+    this.down = new Map();
+    this.far = 0;
+    this.last = null;
   }
 
   begin(event) {
@@ -45,9 +58,9 @@ class Gesture {
 
   // The middle of the pointers, and how far they are apart.
   spread() {
-    const all = [...this.down.values()], middle = of => all.reduce((sum, it) => sum + of(it), 0) / all.length;
+    const all = [...this.down.values()], middle = of => all.reduce((sum, place) => sum + of(place), 0) / all.length;
     const apart = all.length > 1 ? Math.hypot(all[0].x - all[1].x, all[0].y - all[1].y) : 0;
-    return { x: middle(it => it.x), y: middle(it => it.y), apart };
+    return { x: middle(place => place.x), y: middle(place => place.y), apart };
   }
 
   move(event) {
@@ -57,7 +70,8 @@ class Gesture {
     this.far += Math.hypot(now.x - last.x, now.y - last.y) + Math.abs(now.apart - last.apart);
     this.last = now;
     if (this.far <= CLICK || (state.tool === 'pen' && this.down.size === 1)) return;
-    change({ view: moved(last.apart ? now.apart / last.apart : 1, last.x, last.y, now.x - last.x, now.y - last.y), picked: -1 });
+    const by = last.apart ? now.apart / last.apart : 1;
+    change({ view: moved(by, last.x, last.y, now.x - last.x, now.y - last.y), picked: -1 });
   }
 
   end(event) {
@@ -72,6 +86,14 @@ class Gesture {
   }
 }
 
+// The wheel zooms. In an embedded view it is left to the page around it, unless Control is pressed.
+function wheel(event) {
+  if (isEmbedded() && !event.ctrlKey) return;
+  event.preventDefault();
+  const by = Math.exp(-event.deltaY * (event.deltaMode ? 0.05 : 0.0015));
+  change({ view: moved(by, event.offsetX, event.offsetY) });
+}
+
 export function listenToPointer(picture, calls) {
   const gesture = new Gesture(picture, calls);
   picture.onpointerdown = event => gesture.begin(event);
@@ -84,40 +106,70 @@ export function listenToPointer(picture, calls) {
   };
   picture.onpointerup = picture.onpointercancel = event => gesture.end(event);
   picture.onpointerleave = event => event.pointerType === 'mouse' && state.picked >= 0 && change({ picked: -1 });
-  picture.addEventListener('wheel', event => {
-    event.preventDefault();
-    change({ view: moved(Math.exp(-event.deltaY * (event.deltaMode ? 0.05 : 0.0015)), event.offsetX, event.offsetY) });
-  }, { passive: false });
+  picture.addEventListener('wheel', wheel, { passive: false });
   picture.ondblclick = () => state.tool === 'hand' && change({ view: null });
 }
 
 const ARROWS = { ArrowLeft: [-1, 0], ArrowRight: [1, 0], ArrowUp: [0, -1], ArrowDown: [0, 1] };
+const WALK = { n: 1, p: -1, PageDown: 1, PageUp: -1 };
+
+// Points at the next vertex, or the one before: those of a cluster follow each other. The view follows to it.
+function walk(by) {
+  const { shown, picked } = state;
+  if (!shown?.places.length) return;
+  const { n } = shown, order = shown.merges?.order;
+  const at = picked < 0 ? (by > 0 ? -1 : 0) : order ? order.indexOf(picked) : picked;
+  const place = (at + by + n) % n, next = order ? order[place] : place;
+  const { across, down, left, top, free } = lens(), x = across(shown.places[2 * next]);
+  const y = down(shown.places[2 * next + 1]);
+  const isSeen = x > free.left && x < free.left + free.width && y > free.top && y < free.top + free.height;
+  change({ picked: next, ...(isSeen ? {} : { view: moved(1, left, top, left - x, top - y) }) });
+}
+
+function moveCross(picture, event, dx, dy) {
+  const by = event.shiftKey ? 1 : 10, { left, top } = lens();
+  const { x, y } = state.cross ?? { x: Math.round(left), y: Math.round(top) };
+  const within = (value, most) => Math.max(0, Math.min(most, value));
+  change({ cross: { x: within(x + dx * by, picture.clientWidth), y: within(y + dy * by, picture.clientHeight) } });
+}
+
+// What a key does with the hand and the pen alike, or nothing.
+function commonKey(key) {
+  const { left, top } = lens();
+  return {
+    '+': () => change({ view: moved(1.25, left, top) }),
+    '=': () => change({ view: moved(1.25, left, top) }),
+    '-': () => change({ view: moved(0.8, left, top) }),
+    0: () => change({ view: null }),
+    ' ': () => canPlay() && (isPlaying() && !state.isStepped ? stopPlaying() : play({ isAsked: true })),
+    '.': () => stepRounds(1),
+    ',': () => stepRounds(-1),
+    Escape: () => change({ picked: -1 }),
+  }[key];
+}
 
 // The hand pans by arrows, the pen moves a cross by them.
-export function listenToKeys(picture, { set, undo }) {
-  const moveCross = (event, dx, dy) => {
-    const by = event.shiftKey ? 1 : 10, { left, top } = lens(), { x, y } = state.cross ?? { x: Math.round(left), y: Math.round(top) };
-    const within = (it, most) => Math.max(0, Math.min(most, it));
-    change({ cross: { x: within(x + dx * by, picture.clientWidth), y: within(y + dy * by, picture.clientHeight) } });
-  };
+export function listenToKeys(picture, { set, undo: takeBack }) {
   picture.onkeydown = event => {
-    const { left, top } = lens(), [dx, dy] = ARROWS[event.key] ?? [0, 0], isPen = state.tool === 'pen';
-    if (isPen && (dx || dy)) moveCross(event, dx, dy);
+    const { left, top } = lens(), { key } = event, [dx, dy] = ARROWS[key] ?? [0, 0], isPen = state.tool === 'pen';
+    const common = commonKey(key);
+    if (event.ctrlKey || event.metaKey || event.altKey) return;
+    if (isPen && (dx || dy)) moveCross(picture, event, dx, dy);
     else if (dx || dy) change({ view: moved(1, left, top, -dx * STEP, -dy * STEP) });
-    else if (event.key === '+' || event.key === '=') change({ view: moved(1.25, left, top) });
-    else if (event.key === '-') change({ view: moved(0.8, left, top) });
-    else if (event.key === '0') change({ view: null });
-    else if (event.key === 'Enter' && isPen) set(state.cross?.x ?? Math.round(left), state.cross?.y ?? Math.round(top));
-    else if (event.key === 'Delete' && isPen) undo();
+    else if (isPen && key === 'Enter') set(state.cross?.x ?? Math.round(left), state.cross?.y ?? Math.round(top));
+    else if (isPen && key === 'Delete') takeBack();
+    else if (key in WALK) walk(WALK[key]);
+    else if (common) common();
     else return;
     event.preventDefault();
   };
-  picture.onfocus = () => state.tool === 'pen' && moveCross({}, 0, 0);
+  picture.onfocus = () => state.tool === 'pen' && moveCross(picture, {}, 0, 0);
   picture.onblur = () => state.cross && change({ cross: null });
 }
 
 // The place at a pixel, to six digits, or to as many as keep it within a tenth of the pixel.
 export function placeAt(x, y) {
-  const { placeX, placeY, zoom } = lens(viewNow()), digits = it => Math.ceil(Math.log10(Math.abs(it) * zoom)) + 2;
-  return [placeX(x), placeY(y)].map(it => Number(it.toPrecision(Math.max(6, Math.min(17, digits(it))))));
+  const { placeX, placeY, zoom } = lens(viewNow());
+  const digits = value => Math.ceil(Math.log10(Math.abs(value) * zoom)) + 2;
+  return [placeX(x), placeY(y)].map(value => Number(value.toPrecision(Math.max(6, Math.min(17, digits(value))))));
 }

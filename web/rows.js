@@ -7,14 +7,15 @@ const MOST_LINES = 20_000_000;
 const CONTROLS = /[\0-\x08\x0e-\x1f]/; // no text has them
 const BREAKS = /\r\n|\n|\r(?=[^])/; // a CR at the end may have its LF in the next piece
 
-// What parts the fields of a table, by its first row: the first of these that it has outside of quotes, or else spaces.
-export const separatorOf = row => ['\t', ';', ','].find(it => row.replace(/"[^"]*"/g, '').includes(it)) ?? ' ';
+// What separates the fields of a table, by its first row: the first of these that it has outside of quotes, or
+// spaces.
+export const separatorOf = row => ['\t', ';', '|', ','].find(mark => row.replace(/"[^"]*"/g, '').includes(mark)) ?? ' ';
 
 // The fields of a row. Quotes round a field are taken off, and two inside of it are one.
 export function fieldsOf(row, separator, line) {
   if (separator === ' ' && row.includes('\n')) throw strayQuote(row, line);
   if (separator === ' ') return row.trim().split(/\s+/).map(unquoted);
-  if (!row.includes('"')) return row.split(separator).map(it => it.trim());
+  if (!row.includes('"')) return row.split(separator).map(field => field.trim());
   const fields = [];
   let begin = 0, isInside = false;
   for (let at = 0; at <= row.length; at++) {
@@ -28,8 +29,8 @@ export function fieldsOf(row, separator, line) {
 
 const strayQuote = (text, line) => new Refusal('StrayQuote', line, `‘${text.slice(0, 40).split('\n')[0]}’`);
 
-// A field without its quotes. It goes on past a separator or a line only if quotes stand round all of it: a single mark, as of
-// inches, would take the next row in.
+// A field without its quotes. It goes on past a separator or a line only if quotes surround all of it: a single
+// mark, as of inches, would take the next row in.
 function heldTogether(field, separator, line) {
   const isWhole = isQuoted(field) && !field.slice(1, -1).replaceAll('""', '').includes('"');
   if (!isWhole && (field.includes(separator) || field.includes('\n'))) throw strayQuote(field, line);
@@ -45,17 +46,27 @@ const turnsQuotes = line => line.includes('"') && line.split('"').length % 2 ===
 // It calls `take(row, line)` for each row that says something. Lines end in LF, CR or both; within quotes they go on.
 export class Rows {
   constructor(take) {
-    Object.assign(this, { take, rest: '', held: [], length: 0, line: 0, first: 0 });
+    this.take = take;
+    this.rest = '';
+    this.held = [];
+    this.length = 0;
+    this.line = 0;
+    this.first = 0;
   }
 
   push(text) {
     const control = text.search(CONTROLS);
-    if (control >= 0) throw new Refusal('NoText', this.line + (this.rest + text.slice(0, control)).split(BREAKS).length);
+    if (control >= 0) throw this.notText(text.slice(0, control));
     const all = this.rest + text, lines = all.split(all.includes('\r') ? BREAKS : '\n');
     this.rest = lines.pop();
     if (this.line + lines.length > MOST_LINES) throw new Refusal('TooManyLines', MOST_LINES + 1);
-    for (const it of lines) this.hear(it);
+    for (const line of lines) this.hear(line);
     if (this.rest.length > MOST_IN_ROW) throw new Refusal('LongRow', this.line + 1);
+  }
+
+  // Of a text that goes on with letters that no text has.
+  notText(before) {
+    return new Refusal('NoText', this.line + (this.rest + before).split(BREAKS).length, 'a binary file');
   }
 
   hear(line) {

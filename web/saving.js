@@ -1,13 +1,16 @@
-// Files out: what can be saved of what is shown, and the Python that does the same.
+// Files out: what can be saved of what is shown, and what is copied.
 
-import { MOST_CARRIED, addressOf } from './address.js';
+import { MOST_CARRIED, addressOf, canLink, canSavePage, pageWith } from './address.js';
 import { numbersOf } from './clusters.js';
 import { dendrogramSvg } from './dendrogram.js';
+import { filmOf, whyNoFilm } from './film.js';
 import { pictureSvg } from './picture.js';
-import { canPlay, filmed } from './playing.js';
+import { canPlay, stopPlaying } from './playing.js';
+import { pythonText } from './python.js';
+import { busy } from './solver.js';
 import { state } from './state.js';
 
-const $ = id => document.getElementById(id);
+const $ = id => /** @type {any} */ (document.getElementById(id));
 
 export function save(name, content) {
   const link = document.createElement('a');
@@ -28,11 +31,31 @@ async function png(canvas) {
 const isPoints = () => state.shown?.kind === 'plane' || state.shown?.kind === 'globe';
 
 // A text that the worker makes of what is shown.
-const made = name => async solver => {
-  const { shown: { rounds: _rounds, places: _places, ...it }, clusters, file } = state;
-  const numbers = name === 'clusters.csv' ? numbersOf(state.shown, clusters) : null;
-  return solver.ask({ task: 'save', name, it, file, numbers });
+const made = name => async ({ solver }) => {
+  const { shown: { rounds: _rounds, places: _places, others: _others, ...shown }, clusters, file } = state;
+  const numbers = name.startsWith('clusters.') ? numbersOf(state.shown, clusters) : null;
+  return solver.ask({ task: 'save', name, shown, file, numbers });
 };
+
+// The page with the file that was opened inside, or with the points that were set or drawn.
+async function madePage({ solver }) {
+  const { file, shown } = state, choice = shown.choice;
+  if (file) return pageWith(file, choice);
+  const table = await made('carried.csv')({ solver });
+  return table && pageWith(new File([table], 'points.csv'));
+}
+
+async function madeFilm({ painter }) {
+  stopPlaying();
+  [$('busy').hidden, $('stop').hidden] = [false, true];
+  busy(1);
+  try {
+    return await filmOf(painter, part => { $('progress').value = part; });
+  } finally {
+    busy(-1);
+    [$('busy').hidden, $('stop').hidden] = [true, false];
+  }
+}
 
 // Of each file whether it can be saved now, and what makes it.
 const FILES = {
@@ -40,24 +63,26 @@ const FILES = {
   'picture.svg': { make: () => svg(pictureSvg($('picture'))) },
   'dendrogram.png': { can: () => state.clusters, make: () => png($('dendrogram')) },
   'dendrogram.svg': { can: () => state.clusters, make: () => svg(dendrogramSvg($('dendrogram'))) },
-  'rounds.webm': { can: canPlay, make: () => filmed($('picture')) },
+  'rounds.webm': { can: () => canPlay() && !$('nofilm').textContent, make: madeFilm },
   'clusters.csv': { can: () => state.clusters, make: made('clusters.csv') },
+  'clusters.geojson': { can: () => state.clusters && state.shown.kind === 'globe', make: made('clusters.geojson') },
   'forest.csv': { make: made('forest.csv') },
   'forest.geojson': { can: () => state.shown.kind === 'globe', make: made('forest.geojson') },
   'forest.gr': { make: made('forest.gr') },
   'links.gr': { can: isPoints, make: made('links.gr') },
   'linkage.csv': { can: () => state.clusters, make: made('linkage.csv') },
+  'boruvka.html': { can: () => canSavePage() && (state.file || isPoints()), make: madePage },
 };
 
 const idOf = name => `save-${name.replace('.', '-')}`;
 
 // (another task would stop the one that goes on)
-function waited(solver) {
+function waited({ solver }) {
   if (solver.asked) throw new Error('Wait until the forest is there.');
 }
 
 // Lets each button of a file save it; `fault` hears what fails, and null when another one begins.
-export function listenToSaving(solver, fault) {
+export async function listenToSaving(workers, fault) {
   const tried = act => async () => {
     fault(null);
     try {
@@ -69,18 +94,21 @@ export function listenToSaving(solver, fault) {
   };
   for (const [name, { make }] of Object.entries(FILES)) {
     $(idOf(name)).onclick = tried(async () => {
-      waited(solver);
+      waited(workers);
       if (name === 'rounds.webm') $('saving').close();
-      const content = await make(solver);
+      const content = await /** @type {any} */ (make)(workers);
       if (content) save(name, content);
     });
   }
   $('copylink').onclick = tried(async () => {
-    waited(solver);
-    const table = await made('carried.csv')(solver);
+    waited(workers);
+    const table = await made('carried.csv')(workers);
     if (table) await copy(await addressOf(await table.text()));
   });
-  $('copypython').onclick = tried(() => copy(pythonText()));
+  $('copypython').onclick = tried(async () => copy(await pythonText()));
+  $('linkline').hidden = !canLink();
+  $('pageline').hidden = !canSavePage();
+  $('nofilm').textContent = await whyNoFilm();
 }
 
 export function tellSaving() {
@@ -96,59 +124,4 @@ async function copy(text) {
   $('copied').hidden = false;
   $('copied').select();
   await navigator.clipboard?.writeText(text).catch(() => {});
-}
-
-// ---- Python
-
-const number = ({ commas }, column) => `float(row[${column}]${commas ? '.replace(",", ".")' : ''})`;
-
-// A file that is opened, packed or not.
-const openedInPython = (name, how) => `${/\.gz$/i.test(name) ? 'gzip.' : ''}open(${JSON.stringify(name)}, ${how})`;
-
-// Lines that read the rows of the file, or of clusters.csv as this page saves it.
-function rowsInPython(choice, file) {
-  const text = openedInPython(file?.name ?? 'clusters.csv', '"rt", encoding="utf-8-sig"'), part = JSON.stringify(choice.separator);
-  const table = `*csv.reader(${text}, delimiter=${part}, skipinitialspace=True)`;
-  const split = choice.separator === ' ' ? `line.split() for line in ${text}` : table;
-  return ['import csv, gzip', 'import numpy as np', `rows = [row for row in [${split}] if any(row)][${choice.hasHeader ? 1 : 0}:]`];
-}
-
-const linksInPython = ({ roles, ...choice }) => [
-  'from boruvka import minimum_spanning_forest',
-  'names, u, v, w = {}, [], [], []',
-  'for row in rows:',
-  `    u.append(names.setdefault(row[${roles.from}].strip(), len(names)))`,
-  `    v.append(names.setdefault(row[${roles.to}].strip(), len(names)))`,
-  `    w.append(${roles.weight >= 0 ? number(choice, roles.weight) : '1.0'})`,
-  'forest = minimum_spanning_forest(len(names), u, v, w)',
-  'print(np.asarray(w)[forest.index].sum())',
-];
-
-const GLOBE = [
-  'east, north = np.radians(points).T',
-  'points = np.stack([np.cos(north) * np.cos(east), np.cos(north) * np.sin(east), np.sin(north)], axis=1)',
-];
-
-function pointsInPython({ roles, ...choice }, kind, count) {
-  return [
-    'from boruvka.linkage import labels, spanning_tree',
-    `points = np.array([[${number(choice, roles.across)}, ${number(choice, roles.up)}] for row in rows])`,
-    ...(kind === 'globe' ? GLOBE : []),
-    'tree = spanning_tree(points)',
-    kind === 'globe' ? 'print((2 * 6371 * np.arcsin(tree.w / 2)).sum())' : 'print(tree.w.sum())',
-    `cluster = labels(len(points), tree, clusters=${count})`,
-  ];
-}
-
-// Python that finds the same forest and clusters, by the package.
-function pythonText() {
-  const { shown: { kind, choice, names }, file, clusters } = state, first = names ? 1 : 0;
-  if (kind === 'graph') {
-    const text = openedInPython(file?.name ?? 'forest.gr', '"rb"');
-    const run = `subprocess.run(["boruvka", "--plain"], input=${text}.read(), stdout=subprocess.PIPE, check=True)`;
-    return `import gzip, subprocess\nprint(${run}.stdout.decode(), end="")\n`;
-  }
-  const read = choice ?? { separator: ',', hasHeader: true, roles: { across: first, up: first + 1 } };
-  const lines = kind === 'links' ? linksInPython(read) : pointsInPython(read, kind, clusters.count);
-  return [...rowsInPython(read, choice && file), ...lines, ''].join('\n');
 }

@@ -1,15 +1,15 @@
-// What the picture has to show of the state: of each vertex its ink, and of each link how much is drawn from either end.
+// What the picture has to show at a moment: the colour of each vertex, and how much of each link is drawn from
+// either end. The moment is { kept, colours } of clusters, or { round }, a time of the rounds.
 
-import { inks, inkOf } from './inks.js';
 import { NONE } from './merges.js';
 import { HIGH, LOW } from './rounds.js';
-import { state } from './state.js';
 
-const eased = it => it < 0.5 ? 4 * it ** 3 : 1 - (2 - 2 * it) ** 3 / 2;
+const eased = part => part < 0.5 ? 4 * part ** 3 : 1 - (2 - 2 * part) ** 3 / 2;
 
 // A moment of the rounds: pieces reach for their nearest neighbours, and a link is whole from the next round on.
-function sceneOfRound({ rounds }, time) {
-  const now = Math.min(Math.floor(time), rounds.labels.length - 1), part = eased(time - now), labels = rounds.labels[now];
+function sceneOfRound(rounds, time) {
+  const now = Math.min(Math.floor(time), rounds.labels.length - 1), part = eased(time - now);
+  const labels = rounds.labels[now];
   const reach = (i, end) => {
     if (rounds.round[i] !== now) return rounds.round[i] < now ? 1 : 0;
     if (!(rounds.ends[i] & end)) return 0;
@@ -19,14 +19,29 @@ function sceneOfRound({ rounds }, time) {
 }
 
 // Clusters: the links that were cut are still seen, in a soft ink.
-function sceneOfClusters(clusters) {
-  const { kept, colours } = clusters ?? { kept: Infinity };
+function sceneOfClusters({ kept = Infinity, colours = null }) {
   return { colourOf: v => colours ? colours[v] : NONE, lowPart: () => 1, highPart: () => 0, isCut: i => i >= kept };
 }
 
-// The scene of now.
-export function sceneNow() {
-  const { shown, clusters, round } = state, plain = inks();
-  const scene = round === null ? sceneOfClusters(clusters) : sceneOfRound(shown, round);
-  return { ...scene, shown, plain, inkAt: v => inkOf(plain, scene.colourOf(v)) };
+export function sceneAt({ rounds }, moment) {
+  return moment.round === undefined ? sceneOfClusters(moment) : sceneOfRound(rounds, moment.round);
+}
+
+// By how much the end of a link is shifted that leaves a map of the globe on one side and comes back on the other,
+// or 0.
+const shiftOf = ({ turn }, x, toX) => turn && Math.abs(toX - x) > turn / 2 ? Math.sign(x - toX) * turn : 0;
+
+// Hands each line that is drawn to `line(ends, part, whose, isCut)`: from a place towards another one, as much of that
+// way as `part` says, in the ink of the vertex `whose`. The ends are x and y of the one, and x and y of the other.
+export function linesOf(shown, scene, i, line) {
+  const { places, forest } = shown, u = forest[4 * i + 2] - 1, v = forest[4 * i + 3] - 1;
+  const x = places[2 * u], y = places[2 * u + 1], toX = places[2 * v], toY = places[2 * v + 1];
+  const low = scene.lowPart(i), high = scene.highPart(i), isCut = scene.isCut(i), shift = shiftOf(shown, x, toX);
+  if (shift) {
+    line([x, y, toX + shift, toY], Math.min(low, 0.5), u, isCut);
+    line([toX, toY, x - shift, y], low === 1 ? 0.5 : Math.min(high, 0.5), low === 1 ? u : v, isCut);
+  } else {
+    if (low) line([x, y, toX, toY], low, u, isCut);
+    if (high && low < 1) line([toX, toY, x, y], high, v, isCut);
+  }
 }

@@ -1,7 +1,12 @@
 // What a table says, row by row: points with their names, or links between names.
 
+/**
+ * @typedef {import('./types.js').Choice} Choice
+ * @typedef {import('./sources.js').Source} Source
+ */
+
 import { Refusal } from './boruvka.js';
-import { chosenBy, degreesTold, hasComma, headerTold, isRounded, numberOf } from './columns.js';
+import { chosenBy, degreesTold, hasComma, headerTold, isMissing, isRounded, numberOf, rankOfNames } from './columns.js';
 import { Packer } from './names.js';
 import { fieldsOf, separatorOf } from './rows.js';
 
@@ -9,32 +14,38 @@ export const MOST_POINTS = 1_000_000;
 const MOST_LINKS = 16_000_000;
 const MOST_COLUMNS = 1000;
 const SAMPLE = 6; // rows that are looked at before columns are chosen
+const SEPARATES = /^sep=(.)\s*$/i; // a first line by which Excel says what separates fields
+const COMMENT = /^\s*#/;
 
 // Reads fields of one table, and refuses those that it can't read.
 class Reader {
   constructor(separator) {
-    Object.assign(this, { separator, commas: separator !== ',', point: '', comma: '' });
+    this.separator = separator;
+    this.commas = separator !== ',';
+    this.point = '';
+    this.comma = '';
   }
 
   fields(row, line, count) {
     const fields = fieldsOf(row, this.separator, line);
     if (fields.length > MOST_COLUMNS) throw new Refusal('TooManyColumns', line, String(fields.length));
-    if (count && fields.length !== count) throw new Refusal('OtherColumns', line, `${fields.length} in place of ${count}`);
+    const isOther = count && fields.length !== count;
+    if (isOther) throw new Refusal('OtherColumns', line, `${fields.length} instead of ${count}`);
     return fields;
   }
 
   number(field, line) {
-    const it = numberOf(field, this.commas);
-    if (!Number.isFinite(it)) throw new Refusal('NoNumber', line, `‘${field.slice(0, 40)}’`);
+    const number = numberOf(field, this.commas);
+    if (!Number.isFinite(number)) throw new Refusal('NoNumber', line, `‘${field.slice(0, 40)}’`);
     if (this.commas) this.hearPoint(field, line);
-    return it;
+    return number;
   }
 
   // The number. A whole one that doubles round is refused.
   whole(field, line, kind) {
-    const it = this.number(field, line);
-    if (isRounded(field, it)) throw new Refusal(kind, line, field.slice(0, 40));
-    return it;
+    const number = this.number(field, line);
+    if (isRounded(field, number)) throw new Refusal(kind, line, field.slice(0, 40));
+    return number;
   }
 
   // Within a table all numbers have a point, or all have a comma.
@@ -45,14 +56,17 @@ class Reader {
   }
 
   notes() {
-    return this.comma ? [`A comma is read as the decimal point: ${this.comma} is ${this.comma.replace(',', '.')}.`] : [];
+    const { comma } = this;
+    return comma ? [`A comma is read as the decimal point: ${comma} is ${comma.replace(',', '.')}.`] : [];
   }
 }
 
 // Points with their names, as they are added.
 export class Points {
   constructor(kind, hasNames) {
-    Object.assign(this, { kind, places: [], names: hasNames ? new Packer() : null });
+    this.kind = kind;
+    this.places = [];
+    this.names = hasNames ? new Packer() : null;
   }
 
   add(across, up, name, line) {
@@ -73,19 +87,25 @@ export class Points {
 class PointTable extends Points {
   constructor(reader, { kind, roles }) {
     super(kind, roles.name >= 0);
-    Object.assign(this, { reader, roles });
+    this.reader = reader;
+    this.roles = roles;
   }
 
   take(fields, line) {
-    const { across, up, name } = this.roles, number = it => this.reader.whole(fields[it], line, 'LongPlace');
+    const { across, up, name } = this.roles, number = column => this.reader.whole(fields[column], line, 'LongPlace');
     this.add(number(across), number(up), fields[name], line);
   }
 }
 
-// Links between names, which are numbered as they come.
+// Links between names, which are numbered as they come, and by their order in the end.
 class LinkTable {
   constructor(reader, { roles }) {
-    Object.assign(this, { reader, roles, ids: new Map(), names: new Packer(), ends: [], weights: [], loops: 0 });
+    this.reader = reader;
+    this.roles = roles;
+    this.ids = new Map();
+    this.ends = [];
+    this.weights = [];
+    this.loops = 0;
   }
 
   id(name, line) {
@@ -93,66 +113,165 @@ class LinkTable {
     if (known !== undefined) return known;
     if (name === '') throw new Refusal('NoName', line);
     if (this.ids.size >= MOST_POINTS) throw new Refusal('TooManyPoints', line);
-    this.names.add(name);
     this.ids.set(name, this.ids.size);
     return this.ids.size - 1;
   }
 
   take(fields, line) {
     const { from, to, weight } = this.roles, u = this.id(fields[from], line), v = this.id(fields[to], line);
-    const it = weight >= 0 ? this.reader.whole(fields[weight], line, 'LongWeight') : 1;
+    const number = weight >= 0 ? this.reader.whole(fields[weight], line, 'LongWeight') : 1;
     if (this.weights.length >= MOST_LINKS) throw new Refusal('TooManyLinks', line);
     if (u === v) this.loops++;
     this.ends.push(u, v);
-    this.weights.push(it);
+    this.weights.push(number);
   }
 
   all(notes) {
     if (!this.weights.length) throw new Refusal('NoLink');
     if (this.loops) notes.push(`${this.loops} of the links join a name with itself, and are left out.`);
     if (this.roles.weight < 0) notes.push('No column is a weight: each link weighs 1.');
-    notes.push(...this.names.notes());
-    return { kind: 'links', ends: new Uint32Array(this.ends), weights: new Float64Array(this.weights), names: this.names.packed(), notes };
+    const all = [...this.ids.keys()], order = rankOfNames(all), rank = new Uint32Array(all.length);
+    const names = new Packer();
+    order.forEach((id, place) => {
+      rank[id] = place;
+      names.add(all[id]);
+    });
+    const ends = Uint32Array.from(this.ends, id => rank[id]), weights = new Float64Array(this.weights);
+    return { kind: 'links', ends, weights, names: names.packed(), notes: [...notes, ...names.notes()] };
   }
 }
 
+// The first rows of a table, what separates its fields, and its line that names the columns if that is a comment.
 async function sampleOf(source) {
   const rows = [];
+  let separator = '', comment = /** @type {any} */ (null);
   await source.rows((row, line) => {
-    rows.push({ row, line });
+    const told = !rows.length && !separator && SEPARATES.exec(row);
+    if (told) [, separator] = told;
+    else if (!rows.length && COMMENT.test(row)) comment = { row: row.replace(COMMENT, ''), line };
+    else rows.push({ row, line });
     return rows.length < SAMPLE;
   });
+  if (!rows.length && comment) rows.push({ row: comment.row, line: comment.line });
   if (!rows.length) throw new Refusal('NoPoint');
-  return rows;
+  return { rows, separator: separator || separatorOf(rows[0].row), comment };
 }
 
-// The points or links of a table; or { ask } with its first rows, where its columns have to be chosen.
-export async function readTable(source, choice) {
-  const sample = await sampleOf(source), separator = separatorOf(sample[0].row), reader = new Reader(separator);
-  const count = reader.fields(sample[0].row, sample[0].line).length, rows = sample.map(it => reader.fields(it.row, it.line, count));
+// The table's fields, row by row. A comment before them whose fields are as many, and no numbers, names the columns.
+class Table {
+  constructor({ rows, separator, comment }) {
+    const [first] = rows;
+    this.separator = separator;
+    this.reader = new Reader(separator);
+    this.first = first.line;
+    this.comments = 0;
+    this.marked = 0;
+    this.left = null;
+    this.hasComment = Boolean(comment);
+    this.count = this.reader.fields(first.row, first.line).length;
+    this.sample = rows.filter(({ row }) => row === first.row || !COMMENT.test(row) || this.isRow(row))
+      .map(({ row, line }) => this.reader.fields(row, line, this.count));
+    const named = comment ? fieldsOf(comment.row, separator, comment.line) : [];
+    const isNumber = field => !Number.isNaN(numberOf(field, this.reader.commas));
+    this.named = named.length === this.count && this.count > 1 && !named.some(isNumber) && comment.line !== first.line;
+    if (this.named) this.sample.unshift(named);
+  }
+
+  isRow(row) {
+    return fieldsOf(row, this.separator, 0).length === this.count;
+  }
+
+  // Whether a row is data. A comment between rows is none, unless it has as many fields as they have.
+  isData(row, line, hasHeader) {
+    if (line < this.first || (line === this.first && hasHeader && !this.named)) return false;
+    if (line === this.first || !COMMENT.test(row)) return true;
+    const isRow = this.isRow(row);
+    if (isRow) this.marked++;
+    else this.comments++;
+    return isRow;
+  }
+
+  // Whether a row lacks what it is read for. Such rows are counted.
+  lacks(fields, line, { roles }) {
+    const isName = role => role === 'from' || role === 'to';
+    const isEmpty = (role, field) => isName(role) ? !field : isMissing(field);
+    const lacked = Object.entries(roles).find(([role, at]) => role !== 'name' && at >= 0 && isEmpty(role, fields[at]));
+    if (!lacked) return false;
+    this.left ??= { line, field: fields[lacked[1]], count: 0, isName: isName(lacked[0]) };
+    this.left.count++;
+    return true;
+  }
+
+  // What a reader of the rows skips: comments, one of which may name the columns.
+  skips() {
+    if (this.named) return 'header';
+    return this.hasComment || this.comments ? 'comments' : '';
+  }
+
+  notes(rows, cut) {
+    const told = this.reader.notes(), { left } = this;
+    if (left?.count === 1) told.push(`1 of ${rows} rows is left out: line ${left.line} lacks a value.`);
+    else if (left) {
+      told.push(`${left.count} of ${rows} rows are left out: they lack a value. The first is in line ${left.line}.`);
+    }
+    if (this.comments) told.push(`Comments (#) between the rows are left out: ${this.comments}.`);
+    if (this.marked) told.push(`Rows that begin with # are read as the others: ${this.marked}.`);
+    if (cut) told.push(`Letters are read as Windows-1252: ‘${cut}’.`);
+    return told;
+  }
+}
+
+// The points or links of a table; or { ask } where its columns have to be chosen, or rows that lack a value be left
+// out.
+async function read(source, choice) {
+  const table = new Table(await sampleOf(source)), { reader, sample, count, separator } = table;
   if (!choice) {
-    const { choice: plain, guess } = chosenBy(rows, reader.commas);
-    if (!plain && count < 2) throw new Refusal('OneColumn', sample[0].line, `‘${sample[0].row.slice(0, 40)}’`);
-    if (!plain) return { ask: { rows, guess } };
+    const { choice: plain, guess } = chosenBy(sample, reader.commas);
+    if (!plain && count < 2) throw new Refusal('OneColumn', table.first, `‘${sample[0][0].slice(0, 40)}’`);
+    if (!plain) return { ask: { rows: sample, guess } };
     choice = plain;
   }
-  const table = choice.kind === 'links' ? new LinkTable(reader, choice) : new PointTable(reader, choice);
-  const { line: head } = sample[0];
+  const all = choice.kind === 'links' ? new LinkTable(reader, choice) : new PointTable(reader, choice);
+  let rows = 0;
   await source.rows((row, line) => {
+    if (!table.isData(row, line, choice.hasHeader)) return;
     const fields = reader.fields(row, line, count);
-    if (!choice.hasHeader || line > head) table.take(fields, line);
+    rows++;
+    if (!table.lacks(fields, line, choice)) all.take(fields, line);
   });
-  const told = [...(choice.hasHeader ? headerTold(rows[0], choice) : []), ...degreesTold(rows.slice(choice.hasHeader ? 1 : 0), choice, reader.commas)];
-  return { ...table.all([...told, ...reader.notes()]), choice: { ...choice, separator, commas: Boolean(reader.comma) } };
+  if (table.left && table.left.count === rows) throw lacking(table.left);
+  if (table.left && !choice.leavesOut) return { ask: { missing: { ...table.left, rows }, choice } };
+  const head = choice.hasHeader ? headerTold(sample[0], choice) : [];
+  const degrees = degreesTold(sample.slice(choice.hasHeader ? 1 : 0), choice, reader.commas);
+  const more = {
+    separator, commas: Boolean(reader.comma), encoding: source.encoding, skips: table.skips(),
+  };
+  return { ...all.all([...head, ...degrees, ...table.notes(rows, source.foreign)]), choice: { ...choice, ...more } };
 }
 
-// The table again, each row with one more field, as a file. `cell` answers that of each row of data.
-export async function widened(source, { hasHeader }, title, cell) {
-  const { separator } = new Reader(separatorOf((await sampleOf(source))[0].row)), parts = [];
-  let at = hasHeader ? -1 : 0, text = '';
-  await source.rows(row => {
-    text += `${row}${separator}${at < 0 ? title : cell(at)}\n`;
-    at++;
+const lacking = ({ line, field, isName }) =>
+  isName ? new Refusal('NoName', line) : new Refusal('NoNumber', line, `‘${field}’`);
+
+export async function readTable(source, choice) {
+  try {
+    return await read(source, choice);
+  } catch (error) {
+    if (!(error instanceof Refusal) || error.kind !== 'NoUtf8' || !source.turnsToWindows()) throw error;
+    return read(source, choice);
+  }
+}
+
+// The table again, each row with one more field, as a file. `cell` returns that of each row of data that was read.
+export async function widened(source, choice, title, cell) {
+  source.encoding = choice.encoding;
+  const table = new Table(await sampleOf(source)), { separator, reader, count } = table, parts = [];
+  let at = 0, text = '';
+  const add = (row, more) => { text += `${row}${separator}${more}\n`; };
+  if (choice.hasHeader && table.named) add(table.sample[0].join(separator), title);
+  await source.rows((row, line) => {
+    if (table.isData(row, line, choice.hasHeader)) {
+      add(row, table.lacks(reader.fields(row, line, count), line, choice) ? '' : cell(at++));
+    } else if (line === table.first) add(row, title);
     if (text.length > 2 ** 20) {
       parts.push(text);
       text = '';

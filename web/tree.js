@@ -8,13 +8,17 @@
 
 const LEAF = 8; // so few points are looked through one by one
 
-// The points of a space in an order, as places, where each node has those from `low` to `high`. Its first child follows it, and
-// `second` is the other one, or 0 for a leaf. Its `box` has the least and the greatest of each coordinate.
+// The points of a space in an order, as places, where each node has those from `low` to `high`. Its first child
+// follows it, and `second` is the other one, or 0 for a leaf. Its `box` has the least and the greatest of each
+// coordinate.
 class Tree {
   constructor(space) {
     const n = space.coordinates.length / space.width, nodes = Math.max(1, Math.ceil(4 * n / LEAF));
     this.ids = new Uint32Array(n).map((_, i) => i);
-    [this.low, this.high, this.second, this.parent] = Array.from({ length: 4 }, () => new Uint32Array(nodes));
+    this.low = new Uint32Array(nodes);
+    this.high = new Uint32Array(nodes);
+    this.second = new Uint32Array(nodes);
+    this.parent = new Uint32Array(nodes);
     this.leaf = new Uint32Array(n);
     this.coordinates = space.coordinates.slice();
     this.width = space.width;
@@ -30,7 +34,8 @@ class Tree {
     [this.low[node], this.high[node]] = [low, high];
     if (high - low <= LEAF) this.leaf.fill(node, low, high);
     else {
-      const middle = this.partAtMiddle(longest, low, high), first = this.build(low, middle), second = this.build(middle, high);
+      const middle = this.partAtMiddle(longest, low, high), first = this.build(low, middle);
+      const second = this.build(middle, high);
       this.second[node] = second;
       this.parent[first] = this.parent[second] = node;
     }
@@ -44,9 +49,9 @@ class Tree {
     for (let axis = 0; axis < width; axis++) {
       let least = Infinity, greatest = -Infinity;
       for (let at = low * width + axis; at < high * width; at += width) {
-        const it = coordinates[at];
-        if (it < least) least = it;
-        if (it > greatest) greatest = it;
+        const value = coordinates[at];
+        if (value < least) least = value;
+        if (value > greatest) greatest = value;
       }
       box[2 * (node * width + axis)] = least;
       box[2 * (node * width + axis) + 1] = greatest;
@@ -78,9 +83,9 @@ class Tree {
     ids[one] = ids[other];
     ids[other] = id;
     for (let axis = 0; axis < width; axis++) {
-      const it = coordinates[one * width + axis];
+      const value = coordinates[one * width + axis];
       coordinates[one * width + axis] = coordinates[other * width + axis];
-      coordinates[other * width + axis] = it;
+      coordinates[other * width + axis] = value;
     }
   }
 
@@ -89,7 +94,8 @@ class Tree {
     const { coordinates, box, width } = this;
     let sum = 0;
     for (let i = 0, at = 2 * node * width, from = place * width; i < width; i++, at += 2) {
-      const it = coordinates[from + i], out = it < box[at] ? box[at] - it : it > box[at + 1] ? it - box[at + 1] : 0;
+      const value = coordinates[from + i], low = box[at], high = box[at + 1];
+      const out = value < low ? low - value : value > high ? value - high : 0;
       sum += out * out;
     }
     return sum;
@@ -106,11 +112,12 @@ class Tree {
     return sum;
   }
 
-  // Whether all that is nearer to a place than this square lies between the sides of a node's box, and so in the node.
+  // Whether all that is nearer to a place than this square lies between the sides of a node's box, and so in the
+  // node.
   holds(node, place, square) {
     const { coordinates, box, width } = this;
     for (let i = 0, at = 2 * node * width, from = place * width; i < width; i++, at += 2) {
-      const it = coordinates[from + i], low = it - box[at], high = box[at + 1] - it;
+      const value = coordinates[from + i], low = value - box[at], high = box[at + 1] - value;
       if (low * low < square || high * high < square) return false;
     }
     return true;
@@ -127,16 +134,23 @@ class Tree {
 class Rounds {
   constructor(tree) {
     const n = tree.ids.length;
-    Object.assign(this, { tree, left: n, inside: new Int32Array(tree.count) });
+    this.tree = tree;
+    this.left = n;
+    this.inside = new Int32Array(tree.count);
     this.parent = new Int32Array(n).map((_, i) => i);
     this.component = this.parent.slice();
-    [this.from, this.to] = [new Int32Array(n), new Int32Array(n)];
+    this.from = new Int32Array(n);
+    this.to = new Int32Array(n);
     this.best = new Float64Array(n);
     // of each place the nearest outside that it found last, or -1; what lies outside now is as far as that at least
     this.seen = new Int32Array(n).fill(-1);
     this.far = new Float64Array(n);
     // the search that goes on: for a place, what it has found, its square, and that of the gaps that are worth a look
-    Object.assign(this, { place: 0, own: 0, hit: -1, least: 0, within: 0 });
+    this.place = 0;
+    this.own = 0;
+    this.hit = -1;
+    this.least = 0;
+    this.within = 0;
   }
 
   root(place) {
@@ -147,13 +161,18 @@ class Rounds {
 
   // Tells of each node in which component it lies whole, or -1.
   mark() {
-    const { component, inside, tree: { low, high, second, count } } = this;
+    const { inside, tree: { second, count } } = this;
     for (let node = count - 1; node >= 0; node--) {
-      let all = second[node] ? inside[node + 1] : component[low[node]];
-      if (second[node] && inside[second[node]] !== all) all = -1;
-      if (!second[node]) for (let at = low[node]; at < high[node]; at++) if (component[at] !== all) all = -1;
-      inside[node] = all;
+      if (!second[node]) inside[node] = this.componentOf(node);
+      else inside[node] = inside[node + 1] === inside[second[node]] ? inside[node + 1] : -1;
     }
+  }
+
+  // The component in which all of a leaf's places lie, or -1.
+  componentOf(leaf) {
+    const { component, tree: { low, high } } = this, first = component[low[leaf]];
+    for (let at = low[leaf]; at < high[leaf]; at++) if (component[at] !== first) return -1;
+    return first;
   }
 
   // Whether what a place found last still lies outside of its component: then nothing outside is nearer.
@@ -175,7 +194,8 @@ class Rounds {
     this.to[own] = other;
   }
 
-  // Finds for the places of a node. `top` is the highest node around it that lies in one component, or the node itself.
+  // Finds for the places of a node. `top` is the highest node around it that lies in one component, or the node
+  // itself.
   visit(node, top) {
     const { tree, inside, best } = this, own = inside[node], second = tree.second[node];
     if (own >= 0 && best[own] < Infinity && !this.reaches(node, top)) return;
@@ -188,24 +208,29 @@ class Rounds {
   // Whether a place outside of a node's component may be nearer to the node than the component's best.
   reaches(node, top) {
     const { tree, inside } = this, within = tree.space.within(this.best[inside[node]]);
-    for (let it = top; it > 0; it = tree.parent[it]) if (this.meets(node, tree.sibling(it), within)) return true;
+    for (let above = top; above > 0; above = tree.parent[above]) {
+      if (this.meets(node, tree.sibling(above), within)) return true;
+    }
     return false;
   }
 
   meets(node, other, within) {
     const { tree, inside } = this, second = tree.second[other];
     if (inside[other] === inside[node] || tree.apart(node, other) >= within) return false;
-    return second ? this.meets(node, other + 1, within) || this.meets(node, second, within) : this.meetsPlace(node, other, within);
+    if (!second) return this.meetsPlace(node, other, within);
+    return this.meets(node, other + 1, within) || this.meets(node, second, within);
   }
 
   meetsPlace(node, leaf, within) {
     const { tree, component } = this, own = this.inside[node];
-    for (let at = tree.low[leaf]; at < tree.high[leaf]; at++) if (component[at] !== own && tree.gap(node, at) < within) return true;
+    for (let at = tree.low[leaf]; at < tree.high[leaf]; at++) {
+      if (component[at] !== own && tree.gap(node, at) < within) return true;
+    }
     return false;
   }
 
-  // The nearest place outside the component of a place, if it is nearer than the component's best. `top` is a node around the
-  // place: a leaf, or one that lies in the component.
+  // The nearest place outside the component of a place, if it is nearer than the component's best. `top` is a node
+  // around the place: a leaf, or one that lies in the component.
   find(place, top) {
     const { tree, far, seen } = this, own = this.component[place], best = this.best[own];
     if (far[place] >= best || this.isOut(place)) return;
@@ -215,8 +240,8 @@ class Rounds {
     this.least = best;
     this.within = tree.space.within(best);
     if (this.inside[top] !== own) this.look(tree.low[top], tree.high[top]);
-    for (let it = top; it > 0 && !tree.holds(it, place, this.within); it = tree.parent[it]) {
-      const other = tree.sibling(it);
+    for (let above = top; above > 0 && !tree.holds(above, place, this.within); above = tree.parent[above]) {
+      const other = tree.sibling(above);
       if (this.gap(other) < this.within) this.search(other);
     }
     far[place] = Math.max(far[place], this.least);
@@ -272,9 +297,9 @@ class Rounds {
   }
 }
 
-// The candidates of a space's points: two ids and the square of their distance, one after the other. `tell` hears which part
-// of the work is done.
-export function candidates(space, tell = () => {}) {
+// The candidates of a space's points: two ids and the square of their distance, one after the other. `tell` hears
+// which part of the work is done.
+export function candidates(space, tell = _part => {}) {
   const tree = new Tree(space), rounds = new Rounds(tree), links = [];
   while (rounds.left > 1) {
     rounds.run(links);

@@ -40,8 +40,8 @@ function sumOf(values) {
     parts.length = count;
     parts.push(sum);
   }
-  const sum = parts.reduceRight((sum, it) => sum + it, 0);
-  return Number.isNaN(sum) ? values.reduce((sum, it) => sum + it, 0) : sum; // past what doubles hold
+  const sum = parts.reduceRight((all, part) => all + part, 0);
+  return Number.isNaN(sum) ? values.reduce((all, value) => all + value, 0) : sum; // past what doubles hold
 }
 
 // The sum of a forest's weights; of whole numbers it is exact, a BigInt.

@@ -1,24 +1,34 @@
-// The page's worker: it reads files, joins points, finds forests, and makes the longer files. The page asks by messages.
+// The page's worker: it reads files, joins points, finds forests, and makes the longer files. The page asks by
+// messages.
 //
-// The first message is { module }, compiled, or null where the browser can't run it. Each later one is a task, answered by
-// { progress } any number of times, then by { answer }, or by { refusal }. A worker keeps nothing between tasks.
+// The first message is { module }, compiled, or null where the browser can't run it. Each later one is a task,
+// answered by { progress } any number of times, then by { answer }, or by { refusal }. A worker keeps nothing
+// between tasks.
 //
 // What a forest is shown by, in an answer:
 // - `kind`: `plane`, `globe`, `links` (between names) or `graph` (from a .gr); `n` vertices, `names` or null
 // - `points`: x and y of each as they came; `places`: where they are drawn, y upwards; both empty for too large a graph
-// - `turn`: how wide all degrees east are in a map of the globe, or 0
-// - `forest`: links as boruvka.js has them; `heights`: their weights; `isExact`: these were whole numbers; `total`: their sum
-// - `links`: how many were looked at; `merges`: see merges.js; `rounds`: see rounds.js, or null for more than MOST_PLAYED
-// - `isProved`: the module chose the links, in `milliseconds`, and merged clusters; `notes`: what is to be said of the file
+// - `turn`: how wide all degrees east are in a map of the globe, or 0; `cut`: where that map is cut open, in degrees
+// - `forest`: links as boruvka.js has them; `heights`: their weights; `total`: the sum
+// - `isExact`: the weights were whole numbers
+// - `others`: both ends, from 0 on, of a small graph's links that aren't in the forest, or null
+// - `links`: how many were looked at; `merges`: see merges.js
+// - `rounds`: see rounds.js, or null for more than MOST_PLAYED vertices
+// - `isProved`: the module chose the links, in `milliseconds`, and merged clusters
+// - `notes`: what is to be said of the file
+//
+// A worker that draws pictures gets { task: 'see', shown } first, and then { task: 'draw', job }; see pixels.js.
 
 import { Refusal, forestOfLinks, forestOfText, mergesOfLinks } from './boruvka.js';
-import { readGeoJson } from './geojson.js';
+import { propertiesOf, readGeoJson } from './geojson.js';
+import { readGeoXml } from './geoxml.js';
 import { linksOfForest, linksOfGraph, pointsOfPlaces } from './graphs.js';
 import { forestByKruskal, mergesByKruskal } from './kruskal.js';
 import { placed } from './layout.js';
 import { mergesOf } from './merges.js';
-import { carriedCsv, pointsCsv, forestCsv, forestGeoJson, grOf, linkageCsv } from './out.js';
-import { roundsOf } from './rounds.js';
+import { carriedCsv, clustersGeoJson, forestCsv, forestGeoJson, grOf, linkageCsv, pointsCsv } from './out.js';
+import { drawn } from './pixels.js';
+import { bornOf, roundsOf } from './rounds.js';
 import { Source, kindOf } from './sources.js';
 import { Globe, Plane, drawnGlobe, namedOnce } from './spaces.js';
 import { MOST_POINTS, readTable, widened } from './tables.js';
@@ -27,7 +37,8 @@ import { putWeights, totalOf, weightsOf } from './weights.js';
 
 const LEAST_SQUARE = 2 ** -1000; // of a distance, where the longest side of the box around all points is 1 to 2
 const MOST_CUT = 2 ** 22; // vertices of a graph that is cut into clusters
-const MOST_PLAYED = 200_000;
+const MOST_PLAYED = 1_000_000;
+const MOST_OTHERS = 4000; // links of a graph; of one with more only the forest is drawn
 
 let module;
 const told = part => postMessage({ progress: part });
@@ -38,7 +49,8 @@ function linksOfPoints(kind, points) {
   const space = (kind === 'globe' ? Globe : Plane).of(points);
   if (!space) throw new Refusal('TooFarApart');
   const single = kind === 'globe' ? namedOnce(points) : points;
-  const found = candidates(space, told), links = new Uint32Array(4 * found.length / 3), lengths = new Float64Array(found.length / 3);
+  const found = candidates(space, told), links = new Uint32Array(4 * found.length / 3);
+  const lengths = new Float64Array(found.length / 3);
   for (let i = 0; i < lengths.length; i++) {
     const u = found[3 * i], v = found[3 * i + 1];
     if (found[3 * i + 2] < LEAST_SQUARE && isApart(single, u, v)) throw new Refusal('TooNear');
@@ -62,45 +74,70 @@ function linksOfEnds(ends, weights) {
 
 const treeOf = (n, forest) => mergesOf(n, module ? mergesOfLinks(module, n, forest) : mergesByKruskal(n, forest));
 
+// The links that aren't in the forest, both ends of each from 0 on; null if they are too many.
+function othersOf(forest, links) {
+  if (links.length > 4 * MOST_OTHERS) return null;
+  const key = (all, i) => `${all[i + 2]} ${all[i + 3]}`, taken = new Set();
+  for (let i = 0; i < forest.length; i += 4) taken.add(key(forest, i));
+  const ends = new Map();
+  for (let i = 0; i < links.length; i += 4) {
+    const isLoop = links[i + 2] === links[i + 3];
+    if (!isLoop && !taken.has(key(links, i))) ends.set(key(links, i), [links[i + 2] - 1, links[i + 3] - 1]);
+  }
+  return Uint32Array.from([...ends.values()].flat());
+}
+
 // What is shown by a forest, with `more` of where it came from.
 function shown(n, forest, begun, more) {
   const milliseconds = performance.now() - begun, { isExact = false, kind, points } = more;
   const merges = n <= MOST_CUT ? treeOf(n, forest) : null, isDrawn = n <= MOST_POINTS;
-  const drawn = kind === 'globe' && isDrawn ? drawnGlobe(points) : { turn: 0 };
-  const places = !isDrawn ? new Float64Array() : drawn.places ?? points ?? placed(n, forest, merges);
-  const rounds = n <= MOST_PLAYED ? roundsOf(n, forest) : null, heights = weightsOf(forest, isExact), total = totalOf(forest, isExact);
-  const found = { n, forest, merges, rounds, heights, total, milliseconds, isExact, isProved: !!module, turn: drawn.turn };
-  return { ...found, names: null, notes: [], ...more, points: points ?? new Float64Array(), places };
+  const isMap = kind === 'globe' && isDrawn;
+  const { places: onMap, turn, cut } = isMap ? drawnGlobe(points) : { places: null, turn: 0, cut: 0 };
+  const places = !isDrawn ? new Float64Array() : onMap ?? points ?? placed(n, forest, merges);
+  const rounds = n <= MOST_PLAYED ? roundsOf(n, forest) : null;
+  if (rounds) rounds.born = bornOf(n, rounds, merges);
+  const heights = weightsOf(forest, isExact), total = totalOf(forest, isExact), isProved = Boolean(module);
+  const found = { n, forest, merges, rounds, heights, total, milliseconds, isExact, isProved, turn, cut };
+  return { ...found, names: null, others: null, notes: [], ...more, points: points ?? new Float64Array(), places };
 }
 
 function solved(n, links, more) {
   told(null);
   const begun = performance.now(), forest = module ? forestOfLinks(module, n, links) : forestByKruskal(n, links);
-  return shown(n, forest, begun, { links: links.length / 4, ...more });
+  const others = more.kind === 'links' ? othersOf(forest, links) : null;
+  return shown(n, forest, begun, { links: links.length / 4, others, ...more });
 }
 
 function solvedGraph(text) {
   told(null);
   const begun = performance.now(), more = { kind: 'graph', isExact: true };
   if (!module) {
-    const { n, links } = linksOfGraph(text);
-    return shown(n, forestByKruskal(n, links), begun, more);
+    const { n, links } = linksOfGraph(text), forest = forestByKruskal(n, links);
+    return shown(n, forest, begun, { ...more, others: othersOf(forest, links) });
   }
-  const { n, forest } = linksOfForest(forestOfText(module, text));
-  return shown(n, forest, begun, more);
+  const { n, forest } = linksOfForest(forestOfText(module, text)), result = shown(n, forest, begun, more);
+  const isSmall = text.length < MOST_OTHERS * 60;
+  return isSmall ? { ...result, others: othersOf(forest, linksOfGraph(text).links) } : result;
 }
 
-const solvedPoints = ({ kind, points, ...more }) => solved(points.length / 2, linksOfPoints(kind, points), { kind, points, ...more });
+const solvedPoints = ({ kind, points, ...more }) =>
+  solved(points.length / 2, linksOfPoints(kind, points), { kind, points, ...more });
+
+const readers = { geojson: readGeoJson, xml: readGeoXml, table: readTable };
 
 async function opened(file, choice) {
   const source = await Source.of(file), kind = kindOf(source.name, await source.head());
   if (kind === 'gr') return solvedGraph(await source.whole());
   if (kind === 'co') return { kind: 'places', points: pointsOfPlaces(await source.whole()) };
-  const read = kind === 'geojson' ? await readGeoJson(source) : await readTable(source, choice);
+  const read = await readers[kind](source, choice);
   if (read.ask) return read;
   const { ends, weights, ...more } = read;
   return ends ? solved(more.names.ends.length - 1, linksOfEnds(ends, weights), more) : solvedPoints(more);
 }
+
+// The properties of a GeoJSON's points, or null.
+const properties = async ({ format }, file) =>
+  format === 'geojson' && file ? propertiesOf(await Source.of(file)) : null;
 
 // Texts of what is shown, by the names that the page asks for.
 const texts = {
@@ -110,22 +147,27 @@ const texts = {
   'forest.geojson': forestGeoJson,
   'linkage.csv': linkageCsv,
   'carried.csv': carriedCsv,
-  async 'clusters.csv'(it, { file, numbers }) {
-    if (it.choice && it.kind !== 'links' && file) return widened(await Source.of(file), it.choice, 'cluster', at => numbers[at]);
-    return pointsCsv(it, numbers);
+  async 'clusters.csv'(of, { file, numbers }) {
+    const isTable = of.choice && of.kind !== 'links' && file;
+    if (isTable) return widened(await Source.of(file), of.choice, 'cluster', at => numbers[at]);
+    return pointsCsv(of, numbers, await properties(of, file));
   },
+  'clusters.geojson': async (of, { file, numbers }) => clustersGeoJson(of, numbers, await properties(of, file)),
 };
 
+let seen; // what pictures are drawn of
+
 const tasks = {
-  points: it => solvedPoints({ kind: 'plane', ...it }),
+  points: given => solvedPoints({ kind: 'plane', ...given }),
   open: ({ file, choice }) => opened(file, choice),
-  save: ({ name, it, ...more }) => texts[name](it, more),
+  save: ({ name, shown: of, ...more }) => texts[name](of, more),
+  draw: ({ job }) => ({ words: drawn(seen, job) }),
 };
 
 // The memory of all arrays in an answer, which goes to the page with it.
 function memoryOf(answer) {
-  const values = Object.values(answer).filter(it => it instanceof Object && !(it instanceof Blob));
-  return [...new Set(values.flatMap(it => ArrayBuffer.isView(it) ? it.buffer : memoryOf(it)))];
+  const values = Object.values(answer).filter(value => value instanceof Object && !(value instanceof Blob));
+  return [...new Set(values.flatMap(value => ArrayBuffer.isView(value) ? value.buffer : memoryOf(value)))];
 }
 
 function refused(error) {
@@ -137,6 +179,10 @@ function refused(error) {
 onmessage = async ({ data }) => {
   if (data.module !== undefined) {
     ({ module } = data);
+    return;
+  }
+  if (data.task === 'see') {
+    seen = data.shown;
     return;
   }
   try {

@@ -146,6 +146,23 @@ class Page:
     def shown(self, *names):
         return [self.text(it) for it in names or SHOWN]
 
+    def refusal(self):
+        """What was refused: its line and kind, and what is there. The page's words don't have the kind."""
+        kind, line, what = self.browser.run("const { kind, line, what } = document.getElementById('fault').dataset; return [kind, line, what]")
+        if kind and kind in self.text("fault"):
+            raise AssertionError(f"an internal name is shown: {self.text('fault')}")
+        return f"{f'line {line}: ' if line not in ('0', '', None) else ''}{kind}{f' ({what})' if what else ''}"
+
+    def ask(self, *files):
+        """Drops files, and waits for the dialog that asks about them."""
+        self.browser.run(DROP, [(name, base64.b64encode(text).decode()) for name, text in files])
+        self.browser.wait("document.querySelector('dialog[open]')", seconds=10)
+
+    def answer(self, dialog, value="take"):
+        """Presses a button of a dialog."""
+        self.browser.run("document.querySelector(`#${arguments[0]} button[value='${arguments[1]}']`).click()", dialog, value)
+        self.settle()
+
     def drop(self, *files, seconds=SECONDS):
         """Drops files, each a name and its bytes."""
         self.browser.run(DROP, [(name, base64.b64encode(text).decode()) for name, text in files])

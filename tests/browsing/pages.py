@@ -12,7 +12,7 @@ import zlib
 from browsing.page import Page, forest_by_program, is_so
 from cases.running import ROOT, SMALL_FOREST, SMALL_NET, Skipped, case
 
-MOST_BYTES = 160_000
+MOST_BYTES = 200_000
 # one that has numpy, if there is one
 PYTHON = "/usr/bin/python3" if os.path.exists("/usr/bin/python3") else sys.executable
 TOWNS = f"{ROOT}/python/examples/towns.csv"
@@ -44,7 +44,7 @@ def the_page_begins_with_an_example(_room):
     for width, height in [(1280, 800), (390, 844)]:
         for scheme in ("light", "dark"):
             page = Page.opened(width=width, height=height, scheme=scheme)
-            page.expect(points="1,500", size="1,499")
+            page.expect(points="67", size="66")
             page.keep(f"begin_{width}_{scheme}")
             is_so(page.browser.run("return [document.documentElement.scrollHeight, document.documentElement.scrollWidth]"), [height, width])
     page = Page.opened()
@@ -230,7 +230,7 @@ def data_too_long_for_the_address(_room):
         page.click("save")
         page.click("copylink")
         page.browser.wait("document.getElementById('fault').textContent")
-        is_so((page.text("fault").split(".")[0], page.value("copied")), ("LongAddress", ""))
+        is_so((page.refusal(), page.value("copied")), ("LongAddress", ""))
         # no dialog lies over what is told
         is_so(page.browser.run("return document.getElementById('saving').open"), False)
         # nor does it stay after what goes well
@@ -246,17 +246,17 @@ def addresses_that_are_no_data(_room):
         (address_of(b"1,2\n")[:-3], "BadAddress"),
         (address_of(b"0" * 50_000_000), "LongAddress"),
         ("#d=" + "A" * 500_000, "LongAddress"),
-        (address_of(b"<script>alert(1)</script>"), "link.csv: line 1: OneColumn"),
-        (address_of(b"x,y\n"), "link.csv: NoPoint"),
+        (address_of(b"<script>alert(1)</script>"), "line 1: OneColumn"),
+        (address_of(b"x,y\n"), "NoPoint"),
     ]:
         page = Page.opened(more)
-        is_so((page.text("fault")[: len(told)], page.text("points")), (told, "0"))
+        is_so((page.refusal()[: len(told)], page.text("points")), (told, "0"))
     page.browser.complaints()
     # where the page is open already
     page = Page.opened()
     page.browser.run("location.hash = '#d=AAAA'")
-    page.browser.wait("document.getElementById('fault').textContent.startsWith('BadAddress')", seconds=5)
-    is_so((page.text("points"), page.browser.complaints()), ("1,500", []))
+    page.browser.wait("document.getElementById('fault').dataset.kind === 'BadAddress'", seconds=5)
+    is_so((page.text("points"), page.browser.complaints()), ("67", []))
 
 
 @case
@@ -267,7 +267,7 @@ def an_embedded_page_has_no_controls(_room):
     page.keep("embed")
     # but it says why it shows nothing
     page = Page.opened("?embed#d=AAAA")
-    is_so((page.browser.run(shown), page.text("fault")[:10]), (["head"], "BadAddress"))
+    is_so((page.browser.run(shown), page.refusal()), (["head"], "BadAddress"))
 
 
 @case

@@ -11,7 +11,7 @@ TAB = "\ue004"
 MOST_POINTS = 100_000
 # milliseconds that the page's thread may work until the forest is there, and for a step of the slider
 MOST_WORKED, MOST_STEP = 600, 80
-SHOWN = [(1280, 800), (390, 844)]
+SHOWN = [(1280, 800), (390, 844), (844, 390), (640, 400)]
 
 CONTROLS = "return [...document.querySelectorAll('button, input, select, textarea, canvas[tabindex]')].filter(it => it.checkVisibility({ visibilityProperty: true }) && !it.disabled"
 

@@ -47,21 +47,21 @@ def rounds_of_the_forest_are_those_of_the_graph(_room):
 
 @case
 def the_rounds_are_played_once(_room):
-    """Six seconds from the beginning; the caption counts the pieces down, and clusters follow."""
+    """Six seconds from the beginning; the caption counts the pieces down to one, and clusters follow."""
     page, said = Page.opened(), []
     page.look(motion="no-preference")
     page.browser.open("about:blank")
     begun = time.monotonic()
     page.browser.open(page.address)
     while "clusters, of " not in (told := page.text("say")):
-        if told.endswith("neighbour.") and told not in said:
+        if " piece" in told and told not in said:
             said.append(told)
             page.keep(f"round_{len(said)}")
         if time.monotonic() > begun + 60:
             raise AssertionError(f"it isn't done: {said}")
     counts = [[int(it.replace(",", "")) for it in re.findall(r"\d[\d,]*\d|\d", told.split(" piece")[0])] for told in said]
     last = counts[-1]
-    is_so((last[0], all(2 * b <= a for a, b in zip(last, last[1:])), len(last) >= 4, "clusters, of " in page.text("say")), (1500, True, True, True))
+    is_so((last[0], last[-1], all(2 * b <= a for a, b in zip(last, last[1:])), "clusters, of " in page.text("say")), (67, 1, True, True))
     for shorter in counts:
         is_so(shorter, last[: len(shorter)])
     is_so(time.monotonic() - begun > 5, True)
@@ -82,7 +82,8 @@ def another_picture_fades_in(_room):
     """The one before fades away, with as few points, unless somebody wants less motion. What is shown is the same."""
     count = "window.fades = 0; const real = document.startViewTransition.bind(document); document.startViewTransition = call => { window.fades++; return real(call); }"
     many = drawn_points(7, 5000)[1]
-    for motion, wanted in [("no-preference", [1, 2, 2]), ("reduce", [0, 0, 0])]:
+    # (each is played, and the end of that fades too)
+    for motion, wanted in [("no-preference", [2, 4, 5]), ("reduce", [0, 0, 0])]:
         page, found = Page.opened(), []
         page.look(motion=motion)
         page.browser.run(count)
