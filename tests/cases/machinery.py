@@ -179,6 +179,11 @@ class Begun(Folder):
         self.put_program("bin/sudo", '[ "$1" = -n ] && shift && exec "$@"')
         for name in ("zsh", "fish", "mawk", "gawk", "busybox", "cmake", "lintian", "chromium", "chromedriver", "python"):
             self.put_program(f"bin/{name}", "")
+        for name in ("firefox-esr", "eslint", "WebKitWebDriver", "Xvfb", "tsc"):
+            self.put_program(f"bin/{name}", "")
+        self.put_program("usr/lib/postgresql/16/bin/postgres", "")
+        self.put("usr/share/postgresql/16/extension/pgrouting.control", "")
+        self.put_program("bin/pg_config", f"echo '{room}/bin/pg_config'")
 
     def put_apt_get(self, body):
         self.put_program("bin/apt-get", f'echo "$*" | tr " " "\\n" | tail -n 1 >> "{self.room}/calls"\n{body}')
@@ -189,7 +194,7 @@ class Begun(Folder):
     def run(self):
         """The lines that it prints, the last of them of `make`, and the calls of apt-get."""
         self.put("calls", "")
-        env = {"PATH": f"{self.room}/bin", "PYTHON": f"{self.room}/bin/python"}
+        env = {"PATH": f"{self.room}/bin", "PYTHON": f"{self.room}/bin/python", "SYSTEM": self.room}
         ended = subprocess.run([f"{self.room}/.ci/run"], env=env, stdin=subprocess.DEVNULL, capture_output=True, text=True, timeout=SECONDS, check=False)
         *lines, last = ended.stdout.splitlines()
         expect((ended.returncode, last, ended.stderr), (7, "made test", ""))
@@ -202,10 +207,13 @@ def what_cases_would_skip_is_installed(room):
     expect(it.run(), ([], []))
     it.put_apt_get("exit 0")
     expect(it.run(), ([], []))
-    for name in ("fish", "chromedriver"):
+    for name in ("fish", "chromedriver", "WebKitWebDriver", "tsc", "pg_config"):
         os.remove(f"{room}/bin/{name}")
+    os.remove(f"{room}/usr/share/postgresql/16/extension/pgrouting.control")
     it.put_program("bin/python", "exit 1")
-    lacking = ["fish", "chromium-driver", "python3-scipy", "python3-sklearn", "python3-pandas", "python3-psycopg2", "python3-gdal"]
+    modules = ("scipy", "sklearn", "pandas", "matplotlib", "pytest", "psycopg2", "gdal", "dask", "distributed", "networkx", "mypy")
+    lacking = ["fish", "chromium-driver", "webkit2gtk-driver", "libwebkit2gtk-4.1-0", "node-typescript", *(f"python3-{name}" for name in modules)]
+    lacking += ["postgresql-server-dev-16", "postgresql-16-pgrouting"]
     expect(it.run(), ([f"installs {' '.join(lacking)}"], ["update", *lacking]))
     # no network, a package that isn't known, and no apt-get: the gate runs all the same
     it.put_apt_get("exit 100")
