@@ -11,11 +11,12 @@ import decimal
 import fractions
 import math
 import numbers
+import operator
 import sys
 from collections import defaultdict
 from collections.abc import Hashable, Iterable, Sequence
 from difflib import get_close_matches
-from itertools import count
+from itertools import count, islice
 from typing import Any, Union
 
 import numpy as np
@@ -108,13 +109,14 @@ def _ranked(values: NDArray[Any]) -> tuple[NDArray[Any], NDArray[np.int32]]:
 def _of_objects(columns: Columns) -> tuple[list[Any], list[NDArray[np.int32]]]:
     """The same of columns of anything that can be a key of a dict."""
     names, codes = _coded_by_pandas(columns) or _coded([(name, listed(it)) for name, it in columns])
-    if {*map(type, names)} in _PLAIN:
+    types = {*map(type, names)}
+    if types in _PLAIN:
         order = sorted(range(len(names)), key=names.__getitem__)
     else:
         _expect_one_kind_of_times(names)
         order = _order_of(names)
     names = list(map(names.__getitem__, order))
-    _warn_of_texts(names)
+    _warn_of_texts(names, names if types == {str} else [it for it in names if isinstance(it, str)])
     ranks = np.empty(len(order), np.int32)
     ranks[order] = np.arange(len(order), dtype=np.int32)
     return names, [_fixed(ranks[it]) for it in codes]
@@ -284,19 +286,18 @@ def _expect_one_kind_of_times(names: Iterable[Any]) -> None:
                 raise TypeError(f"the ends are times of numpy ({units[0]}), and of the type {others[0]}: numpy.asarray(column, {str(units[0])!r}) of each makes one of them")
 
 
-def _warn_of_texts(names: list[Any]) -> None:
-    """Warn if a text is the text of another name, of a missing entry, or of another text but for outer spaces."""
-    texts = [it for it in names if isinstance(it, str)]
+def _warn_of_texts(names: list[Any], texts: list[str]) -> None:
+    """Warn if one of the texts is the text of another name, of a missing entry, or of another text but for outer spaces."""
     if len(texts) < len(names) and texts:
         _warn_of_texts_of_others(texts, names)
     missing = _TEXTS_OF_MISSING.intersection(texts)
     if missing:
         warn(f"the text {min(missing)!r} names a vertex, and is the text of a missing entry: leave edges without names out first")
-    stripped = [*map(str.strip, texts)]
-    if len({*stripped}) < len(texts):
+    if any(map(operator.ne, texts, map(str.strip, texts))):
         first: dict[str, str] = {}
-        one, other = next((first[short], it) for short, it in zip(stripped, texts) if first.setdefault(short, it) != it)
-        warn(f"the texts {one!r} and {other!r} name two vertices: .str.strip() of both columns makes them one")
+        pairs = ((first[short], it) for short, it in zip(map(str.strip, texts), texts) if first.setdefault(short, it) != it)
+        for one, other in islice(pairs, 1):
+            warn(f"the texts {one!r} and {other!r} name two vertices: .str.strip() of both columns makes them one")
 
 
 def _warn_of_texts_of_others(texts: list[str], names: list[Any]) -> None:
