@@ -119,17 +119,16 @@ def clustered(n, dimensions):
 
 
 def points(kind, n, dimensions):
-    """A line for each of the two libraries that find single linkage of points without all their distances, and of core distances."""
-    given, what = kind(n, dimensions), f"{kind.__name__} points, {dimensions}-D"
+    """A line of the table of trees of points, with mutual reachability too: scikit-learn's are plain."""
+    given = kind(n, dimensions)
     ours, core, fast, theirs = least(
         lambda: spanning_tree(given),
         lambda: spanning_tree(given, min_samples=5),
         lambda: fastcluster.linkage_vector(given, "single"),
         lambda: AgglomerativeClustering(2, linkage="single").fit(given),
     )
-    row([what], f"{n:,}", "fastcluster", [ours, fast])
-    row([what], f"{n:,}", "scikit-learn", [ours, theirs])
-    row([f"{what}, `min_samples=5`"], f"{n:,}", "scikit-learn, plain", [core, theirs])
+    cells = [kind.__name__, dimensions, *map(brief, (ours, fast, ours / fast, theirs, ours / theirs, core, core / theirs))]
+    print(f"| {' | '.join(map(str, cells))} |", flush=True)
 
 
 def few(n, dimensions):
@@ -154,13 +153,15 @@ def main():
     print("|---|---|---|---|---|---|")
     arrays(EDGES)
     graphs(100_000)
+    for n in (10, 100, 1000):
+        few(n, 2)
+    distances(2_000)
+    print("\n| 10,000 points | Dimensions | ms | fastcluster, ms | Ratio | scikit-learn, ms | Ratio | `min_samples=5`, ms | Ratio |")
+    print("|---|---|---|---|---|---|---|---|---|")
     for dimensions in (2, 5, 10):
         points(uniform, 10_000, dimensions)
     for dimensions in (2, 5, 8, 10, 11, 20):
         points(clustered, 10_000, dimensions)
-    for n in (10, 100, 1000):
-        few(n, 2)
-    distances(2_000)
     print()
     for n, dimensions in [(1_000_000, 2), (1_000_000, 3), (100_000, 5), (10_000, 100)]:
         alone(n, dimensions)

@@ -11,6 +11,7 @@ import numbers
 import sys
 import warnings
 from functools import lru_cache
+from itertools import product
 from typing import Any, Protocol, SupportsIndex, overload
 
 import numpy as np
@@ -20,7 +21,7 @@ from boruvka import _library
 from boruvka._entries import expect_no_filling
 from boruvka._forest import Forest, Real, held, is_array, is_masked, minimum_spanning_forest, of_each, vertices, whole
 from boruvka._metrics import Metric, expect_metric, has_longitude_first, metric_of, why_perhaps_swapped
-from boruvka._points import FEW, heights_of_pairs, pieces, tree_of_points
+from boruvka._points import FEW, heights_of_pairs, tree_of_points
 from boruvka._rows import tree_of_distances
 from boruvka._weights import ordered, why_none
 
@@ -30,6 +31,7 @@ __all__ = ["labels", "merges", "single_linkage", "spanning_tree"]
 _EXACT = 1 << 53
 # by how much a distance may differ both ways: of the greatest of all, as products of matrices round, and of itself
 _ROUNDING, _NEARLY = 1e-7, 1e-5
+_BLOCK = 256
 
 
 class SparseMatrix(Protocol):
@@ -135,12 +137,13 @@ def spanning_tree(y: ArrayLike | SparseMatrix, *, metric: str = "euclidean", p: 
     1e-15, and near the antipode by 1e-7. Every length that is compared with another is computed by one function, in
     which coordinates are added in their order, and so are core distances: equal pairs have equal lengths.
 
-    Cost: if scipy is there, points in few dimensions, and clustered points in up to 32, take time about n log n, and 200
+    Cost: if scipy is there, points in few dimensions, and clustered points in up to 32, take time about n log n, and 500
     bytes a point. A sample of the points decides: others take n^2 d steps, of which a processor does a thousand million
     a second, and memory of 5 times their own. So do all points but those of one dimension if p (53 + b) is 950 or more,
     where sizes of coordinates other than 0 differ up to 2^b times, and an infinite p counts as 1. For p = 2 they are
     1e127 times, for p = 10 4e12 times, and from p = 18 on any: set tiny coordinates to 0 first.
-    Distances take about 40 bytes and 100 nanoseconds a pair: scipy's own linkage is several times as fast.
+    Distances take about 40 bytes and 100 nanoseconds a pair: scipy's own linkage is several times as fast. A square matrix
+    of them takes as long, and memory of twice its own.
 
     Examples
     --------
@@ -460,25 +463,24 @@ def expect_distances(given: NDArray[np.float64]) -> NDArray[np.float64]:
     if (given.diagonal() > _ROUNDING * greatest).any():
         row = int((given.diagonal() > _ROUNDING * greatest).argmax())
         raise ValueError(f'y[{row}, {row}] is {given[row, row]}, and the distance of a point to itself is 0: metric="precomputed" takes distances, not points or similarities')
-    for some in pieces(np.arange(len(given)), len(given)):
-        part = least[some[0] : some[-1] + 1]
-        np.minimum(given[some], given[:, some].T, out=part)
-        _expect_same_both_ways(given, some, part, greatest)
+    # (a block and the one opposite fit into a processor's cache)
+    parts = [slice(start, start + _BLOCK) for start in range(0, len(given), _BLOCK)]
+    for rows, columns in product(parts, parts):
+        np.minimum(given[rows, columns], given[columns, rows].T, out=least[rows, columns])
+        _expect_same_both_ways(given, rows, columns, least[rows, columns], greatest)
     np.fill_diagonal(least, 0)
     return least
 
 
-def _expect_same_both_ways(given: NDArray[np.float64], some: NDArray[np.intp], least: NDArray[np.float64], greatest: float) -> None:
-    """A ValueError if a distance in some rows isn't the lesser of both ways, up to rounding, or is none."""
-    rows = given[some]
-    is_wrong = ~np.isfinite(rows) | (rows < 0)
+def _expect_same_both_ways(given: NDArray[np.float64], rows: slice, columns: slice, least: NDArray[np.float64], greatest: float) -> None:
+    """A ValueError if a distance of a block isn't the lesser of both ways, up to rounding, or is none."""
+    block = given[rows, columns]
+    if not 0 <= block.min() <= block.max() < np.inf:
+        row, column = np.unravel_index((~np.isfinite(block) | (block < 0)).argmax(), block.shape)
+        raise ValueError(f"y[{rows.start + row}, {columns.start + column}] is {block[row, column]}: a distance isn't finite, or is negative")
+    is_wrong = block - least > _ROUNDING * greatest + _NEARLY * least
     if is_wrong.any():
-        row, column = np.unravel_index(is_wrong.argmax(), rows.shape)
-        raise ValueError(f"y[{some[row]}, {column}] is {rows[row, column]}: a distance isn't finite, or is negative")
-    is_wrong = rows - least > _ROUNDING * greatest + _NEARLY * least
-    if is_wrong.any():
-        row, column = np.unravel_index(is_wrong.argmax(), rows.shape)
-        row = some[row]
+        row, column = np.add(np.unravel_index(is_wrong.argmax(), block.shape), (rows.start, columns.start))
         raise ValueError(f"y[{row}, {column}] is {given[row, column]}, and y[{column}, {row}] is {given[column, row]}: a distance is the same both ways, as numpy.minimum(y, y.T) makes it")
 
 

@@ -593,6 +593,17 @@ class Metrics(unittest.TestCase):
                         self.assertEqual((low[tree.index].tolist(), high[tree.index].tolist()), (tree.u.tolist(), tree.v.tolist()))
             self.assertEqual(single_linkage(square, metric="precomputed").tolist(), single_linkage(square[low, high]).tolist())
         self.assertEqual(len(spanning_tree([[0.0]], metric="precomputed")), 0)
+        # (more of them, which are looked at a block at a time)
+        points = draw.normal(size=(600, 2))
+        one, other = np.triu_indices(600, 1)
+        square = np.zeros((600, 600))
+        square[one, other] = square[other, one] = [math.dist(points[i], points[j]) for i, j in zip(one.tolist(), other.tolist())]
+        np.testing.assert_allclose(spanning_tree(square, metric="precomputed").w, spanning_tree(points).w, rtol=1e-12)
+        for place, number in [((590, 270), 7.25), ((3, 599), -1.0)]:
+            wrong = square.copy()
+            wrong[place] = number
+            with self.assertRaisesRegex(ValueError, rf"y\[{place[0]}, {place[1]}\] is {number}"):
+                spanning_tree(wrong, metric="precomputed")
         # (of (i, j) and (j, i) the lesser, and what is given stays)
         given = np.array([[0, 1 + 1e-7], [1.0, 1e-9]])
         self.assertEqual(spanning_tree(given, metric="precomputed").w.tolist(), [1.0])
@@ -698,6 +709,18 @@ class Scipys(unittest.TestCase):
         if is_exact:
             self.assertEqual(found[:, [0, 1, 3]].tolist(), wanted[:, [0, 1, 3]].tolist())
         np.testing.assert_allclose(hierarchy.cophenet(found), hierarchy.cophenet(wanted), rtol=1e-9, atol=1e-9)
+
+    @unittest.skipUnless(there("fastcluster"), "there is no fastcluster")
+    def test_points_beside_fastclusters(self):
+        import fastcluster
+
+        draw = np.random.default_rng(32)
+        for n, dimensions in [(100, 2), (400, 3), (400, 10), (400, 40)]:
+            centres = draw.random((8, dimensions)) * 10
+            points = centres[draw.integers(8, size=n)] + draw.normal(size=(n, dimensions))
+            found, wanted = single_linkage(points), fastcluster.linkage_vector(points, "single")
+            self.assertEqual(found[:, [0, 1, 3]].tolist(), wanted[:, [0, 1, 3]].tolist())
+            np.testing.assert_allclose(found[:, 2], wanted[:, 2], rtol=1e-12)
 
     def test_distances_of_a_sparse_matrix(self):
         from scipy.sparse import coo_matrix

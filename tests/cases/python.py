@@ -333,7 +333,12 @@ def linkage_and_clusters(room):
 
 @case
 def exact_trees_of_points(room):
-    expect_tests(room, "test_linkage.Exact", "test_linkage.Metrics")
+    expect_tests(room, "test_linkage.Exact")
+
+
+@case
+def trees_under_each_metric(room):
+    expect_tests(room, "test_linkage.Metrics")
 
 
 @case
