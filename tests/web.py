@@ -11,7 +11,6 @@ The last line is `N passed, M failed`, without those that were skipped, and the 
 """
 import argparse
 import os
-import subprocess
 import sys
 import tempfile
 import time
@@ -38,9 +37,10 @@ def tried(chosen, strict):
             except Skipped as why:
                 failed, skipped = failed + strict, skipped + (not strict)
                 print(f"web: {name}: skipped: {why}", flush=True)
-            except (AssertionError, OSError, subprocess.SubprocessError) as error:
+            except Exception as error:  # noqa: BLE001 (a case that ends so has failed, and the others are tried)
                 failed += 1
-                print(f"web: {name}: FAILED: {error}", flush=True)
+                kind = "" if isinstance(error, AssertionError) else f"{type(error).__name__}: "
+                print(f"web: {name}: FAILED: {kind}{error}", flush=True)
     return failed, skipped
 
 

@@ -13,6 +13,7 @@ import { viewToKeep } from './view.js';
 const MOST_BYTES = 2_000_000; // decompressed
 const MOST_LETTERS = 400_000;
 export const MOST_CARRIED = 5_000; // points
+const MOST_INSIDE = 200_000_000; // bytes of a file in a page
 export const LINKED = 'link.csv'; // what a file is called that a link carries
 const SCALES = ['root', 'even', 'log'];
 
@@ -119,6 +120,7 @@ async function packedFile(file) {
 
 // This page with a file inside, its places if it is a graph's, and how it is left.
 export async function pageWith(file, columns) {
+  if ((file.size ?? file.content.length) > MOST_INSIDE) throw new Refused({ kind: 'LongPage' });
   const { clusters, smallest, scale, placesFile } = state;
   const places = placesFile ? { places: await packedFile(placesFile) } : {};
   const left = { columns, clusters: clusters?.count, smallest, view: viewToKeep(), scale };

@@ -57,6 +57,7 @@ const CAUSES = {
   // addresses, and the page itself
   BadAddress: 'What follows #d= in the address isn’t data of this page. Was the link cut off?',
   LongAddress: 'An address carries at most 5,000 points, with short names. Save the page with its points instead.',
+  LongPage: 'A page carries a file of 200 MB at most. Send the file itself, and the page without it.',
   BadInside: 'The data inside of this page can’t be read. Was the file cut off?',
   Broken: 'The page has a fault of its own: {}. Please report it.',
   'no memory': 'The browser gives no more memory.',

@@ -134,9 +134,13 @@ export function listenToWindow(opening, fault) {
   };
 }
 
-// Prints on light paper, the picture in the shape that it has.
-export function listenToPrinting() {
-  const turn = isPrinted => change({ isPrinted });
+// Prints on light paper, the picture in the shape that it has. Nothing is drawn between this event and the print,
+// unless `showNow` draws it.
+export function listenToPrinting(showNow) {
+  const turn = isPrinted => {
+    change({ isPrinted });
+    showNow();
+  };
   addEventListener('beforeprint', () => turn(true));
   addEventListener('afterprint', () => turn(false));
   matchMedia('print').addEventListener('change', ({ matches }) => turn(matches));

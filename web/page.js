@@ -24,11 +24,11 @@ import { onChange } from './state.js';
 
 const $ = id => /** @type {any} */ (document.getElementById(id));
 
-// Says and draws what is so, once before the next frame, however often the state changes.
+// Says and draws what is so: now, or once before the next frame, however often the state changes.
 function showing(painter) {
   const picture = new Picture($('picture'), painter, fault);
   let awaited = 0;
-  return () => {
+  const showSoon = () => {
     if (!awaited) {
       awaited = requestAnimationFrame(() => {
         awaited = 0;
@@ -37,9 +37,14 @@ function showing(painter) {
     }
     picture.soon(); // after what is said, below which it has its place
   };
+  const showNow = () => {
+    tell();
+    picture.draw();
+  };
+  return { showSoon, showNow };
 }
 
-function listen(opening, solver, painter) {
+function listen(opening, { solver, painter, showNow }) {
   const pen = { set: (x, y) => opening.addPoint(placeAt(x, y)), undo: () => opening.undo() };
   listenToPointer($('picture'), pen);
   listenToKeys($('picture'), pen);
@@ -48,17 +53,17 @@ function listen(opening, solver, painter) {
   listenToSheet();
   listenToDendrogram();
   listenToWindow(opening, fault);
-  listenToPrinting();
+  listenToPrinting(showNow);
   return listenToSaving({ solver, painter }, fault);
 }
 
 async function begin() {
   if (new URLSearchParams(location.search).has('embed')) document.body.classList.add('embed');
   const solver = await Solver.begin(), painter = new Painter(solver.starts), opening = new Opening(solver);
-  const showSoon = showing(painter);
+  const { showSoon, showNow } = showing(painter);
   onChange(showSoon);
   onInks(showSoon);
-  await listen(opening, solver, painter);
+  await listen(opening, { solver, painter, showNow });
   settle();
   $('unproved').hidden = Boolean(solver.module);
   await tellSums(solver.bytes);

@@ -2,6 +2,7 @@
 // few milliseconds they are drawn at once, since a worker has to be waited for.
 
 import { drawn } from './pixels.js';
+import { state } from './state.js';
 
 const MOST_AT_ONCE = 20_000; // places
 
@@ -17,7 +18,7 @@ export class Painter {
 
   // The words of a picture, or null if the worker failed.
   draw(shown, job) {
-    if (shown.places.length <= 2 * MOST_AT_ONCE) return drawn(shown, job);
+    if (shown.places.length <= 2 * MOST_AT_ONCE || state.isPrinted) return drawn(shown, job);
     const words = this.last.then(() => this.askFor(shown, job));
     this.last = words;
     return words;

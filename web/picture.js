@@ -163,7 +163,7 @@ export class Picture {
   }
 
   drawPixels(pen, sharp, through, plain) {
-    if (this.isOld && !this.isDrawing) this.begin(sharp, through);
+    if (this.isOld && (!this.isDrawing || state.isPrinted)) this.begin(sharp, through);
     if (this.of !== state.shown) return;
     this.drawMoved(pen, sharp, through);
     paint(pen, textShapes(state.shown, through, plain));

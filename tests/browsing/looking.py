@@ -107,7 +107,7 @@ def other_edges_are_drawn_faintly(_room):
     for name, text in [("links.csv", b"source,target,weight\na,b,1\nb,c,2\na,c,3\nc,d,1\na,d,9\nb,a,4\n"), ("graph.gr", b"p sp 4 6\na 1 2 1\na 2 3 2\na 1 3 3\na 3 4 1\na 1 4 9\na 2 2 1\n")]:
         page.drop((name, text))
         strokes, _ = drawn_marks(page.saved("picture.svg"))
-        is_so((name, strokes["#dcd7cc"], sum(strokes.values())), (name, 2, 2 + 3))
+        is_so((name, strokes.get("#dcd7cc"), sum(strokes.values())), (name, 2, 2 + 3))
         page.click("others")
         strokes, _ = drawn_marks(page.saved("picture.svg"))
         is_so((name, "#dcd7cc" in strokes), (name, False))
@@ -123,9 +123,8 @@ def a_scale_bar(_room):
         page.drop((name, text))
         svg = page.saved("picture.svg").decode()
         found = re.search(r'<path fill="none" stroke="#67635b" stroke-width="1.5" d="M([\d.]+) ([\d.]+)v5h([\d.]+)v-5"/>\s*<text[^>]*>([\d,]+)( km)?</text>', svg)
-        if unit is None:
-            is_so(found, None)
-        else:
+        is_so((name, found is None), (name, unit is None))
+        if unit:
             pixels, length = float(found[3]), float(found[4].replace(",", ""))
             is_so((name, 50 < pixels < 170, abs(pixels / page.browser.run(zoom) * unit / length - 1) < 0.01, found[5] == " km"), (name, True, True, unit > 1))
 

@@ -166,16 +166,6 @@ def merges_as_scipy_has_them(_room):
 
 
 @case
-def the_rounds_as_a_film(_room):
-    page = opened_towns()
-    page.click("save")
-    page.browser.click("save-rounds-webm")
-    content = page.browser.downloaded("rounds.webm")
-    is_so((content[:4], b"webm" in content[:100], len(content) > 10_000), (b"\x1a\x45\xdf\xa3", True, True))
-    page.settle()
-
-
-@case
 def python_that_does_the_same(room):
     """It runs, with the package of this repository, and finds the same total."""
     library = f"{ROOT}/crates/boruvka_c/out/libboruvka.so"

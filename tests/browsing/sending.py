@@ -156,7 +156,11 @@ def a_film_to_its_end(_room):
     page = Page.opened()
     for name, text in [("towns.csv", open(TOWNS, "rb").read()), ("points.csv", drawn_points(8, 5000)[1])]:
         page.drop((name, text))
-        film = page.saved("rounds.webm")
+        page.click("save")
+        page.browser.click("save-rounds-webm")
+        page.settle(300)
+        film = page.browser.downloaded("rounds.webm")
+        is_so((film[:4], b"webm" in film[:100], len(film) > 10_000), (b"\x1a\x45\xdf\xa3", True, True))
         length, times = times_of(film)
         is_so((length, times[0], times == sorted(times), length - times[-1] < 50, len(times) > 100), (7500.0, 0, True, True, True))
         content = base64.b64encode(film).decode()
@@ -187,6 +191,12 @@ return [corner, hex(getComputedStyle(document.body).backgroundColor), style.obje
 """
 
 
+PRINTED_THEN = """
+const light = (x, y) => { const [r, g, b] = document.getElementById('picture').getContext('2d').getImageData(x, y, 1, 1).data; return r + g + b > 600; };
+addEventListener('beforeprint', () => { window.printed = [light(2, 2), light(3, document.getElementById('picture').height - 3)]; });
+"""
+
+
 @case
 def a_printed_page(_room):
     """On light paper, without controls, and the picture in its shape. Afterwards all is as before."""
@@ -197,10 +207,15 @@ def a_printed_page(_room):
         page.frames()
         is_so((scheme, page.browser.run(PRINTED)), (scheme, ["251,250,247", "251,250,247", "contain", "static", ["head", "points"]]))
         page.keep(f"print_{scheme}")
-        is_so(len(base64.b64decode(page.browser.devtools("Page.printToPDF", printBackground=True)["data"])) > 10_000, True)
         page.browser.devtools("Emulation.setEmulatedMedia", media="", features=[{"name": "prefers-color-scheme", "value": scheme}, {"name": "prefers-reduced-motion", "value": "reduce"}])
         page.frames()
         is_so((scheme, page.saved("picture.png") == before), (scheme, True))
+    # what is printed is drawn before the print, also of many points in a dark page
+    for text in (b"x,y\n0,0\n3,4\n", drawn_points(31, 30_000)[1]):
+        page.drop(("points.csv", text))
+        page.browser.run(PRINTED_THEN)
+        is_so(len(base64.b64decode(page.browser.devtools("Page.printToPDF", printBackground=True)["data"])) > 10_000, True)
+        is_so(page.browser.run("return window.printed"), [True, True])
 
 
 @case
