@@ -141,6 +141,10 @@ class Begun(Folder):
         self.put_program("bin/sudo", '[ "$1" = -n ] && shift && exec "$@"')
         for name in ("zsh", "fish", "mawk", "gawk", "busybox", "cmake", "lintian", "chromium", "chromedriver", "python"):
             self.put_program(f"bin/{name}", "")
+        # (one folder has all of PostgreSQL)
+        self.put_program("bin/pg_config", f'[ "$1" = --version ] && echo "PostgreSQL 16.1" || echo "{room}/postgres"')
+        for name in ("initdb", "extension/pgrouting.control"):
+            self.put(f"postgres/{name}", "")
 
     def put_apt_get(self, body):
         self.put_program("bin/apt-get", f'echo "$*" | tr " " "\\n" | tail -n 1 >> "{self.room}/calls"\n{body}')
@@ -167,13 +171,16 @@ def what_cases_would_skip_is_installed(room):
     for name in ("fish", "chromedriver"):
         os.remove(f"{room}/bin/{name}")
     it.put_program("bin/python", "exit 1")
-    lacking = ["fish", "chromium-driver", "python3-scipy", "python3-sklearn"]
+    os.remove(f"{room}/postgres/extension/pgrouting.control")
+    lacking = ["fish", "chromium-driver", "python3-scipy", "python3-sklearn", "postgresql-16-pgrouting"]
     expect(it.run(), ([f"installs {' '.join(lacking)}"], ["update", *lacking]))
     # no network, a package that isn't known, and no apt-get: the gate runs all the same
     it.put_apt_get("exit 100")
     expect(it.run(), ([f"installs {' '.join(lacking)}", *(f"{name} can't be installed here" for name in lacking)], ["update", *lacking]))
     it.put_apt_get('case "$*" in *fish) exit 100;; esac')
     expect(it.run()[0][1:], ["fish can't be installed here"])
+    os.remove(f"{room}/bin/pg_config")
+    expect(it.run()[1][-3:], ["postgresql-15", "postgresql-server-dev-15", "postgresql-15-pgrouting"])
     os.remove(f"{room}/bin/apt-get")
     expect(it.run(), ([], []))
 
