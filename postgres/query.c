@@ -12,8 +12,8 @@
 #include "utils/memutils.h"
 #include "utils/tuplesort.h"
 
-/* The ids of most tables: two megabytes, and much faster than a sort. */
-#define SEEN_IDS (1 << 24)
+/* The ids of most tables: a megabyte, and much faster than a sort. */
+#define SEEN_IDS (1 << 23)
 
 typedef struct EdgeReceiver {
     DestReceiver pub;

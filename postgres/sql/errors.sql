@@ -52,9 +52,9 @@ SELECT * FROM boruvka_kruskal('SELECT 7 AS id, 1 AS source, 3 AS target, 9223372
 SELECT * FROM boruvka_components('SELECT 7 AS id, 1 AS source, 3 AS target, 9223372036854775807 AS cost');
 SELECT * FROM boruvka_kruskal('TABLE good UNION ALL VALUES (2, 1, 3, 40)');
 \echo :LAST_ERROR_SQLSTATE
-SELECT * FROM boruvka_kruskal('TABLE good UNION ALL VALUES (-9223372036854775808, 1, 3, 40), (16777216, 1, 3, 1), (-9223372036854775808, 1, 3, 41)');
+SELECT * FROM boruvka_kruskal('TABLE good UNION ALL VALUES (-9223372036854775808, 1, 3, 40), (8388608, 1, 3, 1), (-9223372036854775808, 1, 3, 41)');
 \echo :LAST_ERROR_SQLSTATE
-SELECT * FROM boruvka_kruskal('TABLE good UNION ALL VALUES (16777215, 1, 3, 40), (0, 1, 4, 1), (16777215, 1, 3, 41)');
+SELECT * FROM boruvka_kruskal('TABLE good UNION ALL VALUES (8388607, 1, 3, 40), (0, 1, 4, 1), (8388607, 1, 3, 41)');
 \echo :LAST_ERROR_SQLSTATE
 SELECT * FROM boruvka_kruskal('SELECT *, cost AS reverse_cost FROM good');
 \echo :LAST_ERROR_SQLSTATE

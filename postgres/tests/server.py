@@ -3,10 +3,14 @@ was built. Nothing is installed: the server's programs are copied into the folde
 import os
 import pwd
 import shutil
+import signal
 import subprocess
+import sys
 import tempfile
 import time
 
+# (so that a server is stopped, too, whoever ends the tests)
+signal.signal(signal.SIGTERM, lambda *_: sys.exit(1))
 HERE = os.path.dirname(os.path.dirname(os.path.realpath(__file__)))
 SETTINGS = ["listen_addresses=", "fsync=off", "jit=off", "max_connections=40", "logging_collector=off"]
 
@@ -59,7 +63,7 @@ class Server:
             try:
                 started.wait(5)
             except subprocess.TimeoutExpired:
-                started.send_signal(3)
+                started.send_signal(signal.SIGQUIT)
                 started.wait(20)
         shutil.rmtree(self.folder, ignore_errors=True)
 

@@ -1,6 +1,6 @@
 #!/usr/bin/env python3
 """What takes too long for `make installcheck`: each function over ten million edges, where timeouts have to end it in time;
-a server whose processes may use little memory; and each function under valgrind, and under gcc's sanitizers.
+a server whose processes may use little memory; and each function under valgrind, and with gcc's checks of undefined behaviour.
 
 usage: tests/stress.py [NAME..]
 
@@ -75,17 +75,15 @@ def under_valgrind(room):
         raise AssertionError("\n".join(reports[:5]))
 
 
-def under_sanitizers(room):
-    preload = subprocess.run(["gcc", "-print-file-name=libasan.so"], check=True, capture_output=True, text=True).stdout.strip()
-    flags = "-g -DBATCH_EDGES=50 -fsanitize=address,undefined -fno-sanitize-recover=all"
-    words = ["env", f"LD_PRELOAD={os.path.realpath(preload)}", "ASAN_OPTIONS=detect_leaks=0:detect_stack_use_after_return=0"]
-    with Server(library=built(f"{room}/sanitized", COPT=flags), wrapper=words) as server:
+def under_a_sanitizer(room):
+    """An overflow, a shift or an alignment that C leaves undefined ends the server's process."""
+    with Server(library=built(f"{room}/sanitized", COPT="-g -DBATCH_EDGES=50 -fsanitize=undefined -fno-sanitize-recover=all")) as server:
         every_function(server)
-        if re.search(r"Sanitizer|runtime error", server.logged()):
+        if "runtime error" in server.logged():
             raise AssertionError(server.logged()[-3000:])
 
 
-STEPS = [timeouts_of_ten_million_edges, little_address_space, under_valgrind, under_sanitizers]
+STEPS = [timeouts_of_ten_million_edges, little_address_space, under_valgrind, under_a_sanitizer]
 
 
 def main(names):

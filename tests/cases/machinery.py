@@ -181,9 +181,10 @@ class Begun(Folder):
             self.put_program(f"bin/{name}", "")
         for name in ("firefox-esr", "eslint", "WebKitWebDriver", "Xvfb", "tsc"):
             self.put_program(f"bin/{name}", "")
-        self.put_program("usr/lib/postgresql/16/bin/postgres", "")
-        self.put("usr/share/postgresql/16/extension/pgrouting.control", "")
-        self.put_program("bin/pg_config", f"echo '{room}/bin/pg_config'")
+        # (one folder has all of PostgreSQL)
+        self.put_program("bin/pg_config", f'[ "$1" = --version ] && echo "PostgreSQL 16.1" || echo "{room}/postgres"')
+        for name in ("initdb", "extension/pgrouting.control"):
+            self.put(f"postgres/{name}", "")
 
     def put_apt_get(self, body):
         self.put_program("bin/apt-get", f'echo "$*" | tr " " "\\n" | tail -n 1 >> "{self.room}/calls"\n{body}')
@@ -194,7 +195,7 @@ class Begun(Folder):
     def run(self):
         """The lines that it prints, the last of them of `make`, and the calls of apt-get."""
         self.put("calls", "")
-        env = {"PATH": f"{self.room}/bin", "PYTHON": f"{self.room}/bin/python", "SYSTEM": self.room}
+        env = {"PATH": f"{self.room}/bin", "PYTHON": f"{self.room}/bin/python"}
         ended = subprocess.run([f"{self.room}/.ci/run"], env=env, stdin=subprocess.DEVNULL, capture_output=True, text=True, timeout=SECONDS, check=False)
         *lines, last = ended.stdout.splitlines()
         expect((ended.returncode, last, ended.stderr), (7, "made test", ""))
@@ -207,19 +208,21 @@ def what_cases_would_skip_is_installed(room):
     expect(it.run(), ([], []))
     it.put_apt_get("exit 0")
     expect(it.run(), ([], []))
-    for name in ("fish", "chromedriver", "WebKitWebDriver", "tsc", "pg_config"):
+    for name in ("fish", "chromedriver", "WebKitWebDriver", "tsc"):
         os.remove(f"{room}/bin/{name}")
-    os.remove(f"{room}/usr/share/postgresql/16/extension/pgrouting.control")
     it.put_program("bin/python", "exit 1")
+    os.remove(f"{room}/postgres/extension/pgrouting.control")
     modules = ("scipy", "sklearn", "pandas", "matplotlib", "pytest", "psycopg2", "gdal", "dask", "distributed", "networkx", "mypy")
     lacking = ["fish", "chromium-driver", "webkit2gtk-driver", "libwebkit2gtk-4.1-0", "node-typescript", *(f"python3-{name}" for name in modules)]
-    lacking += ["postgresql-server-dev-16", "postgresql-16-pgrouting"]
+    lacking += ["postgresql-16-pgrouting"]
     expect(it.run(), ([f"installs {' '.join(lacking)}"], ["update", *lacking]))
     # no network, a package that isn't known, and no apt-get: the gate runs all the same
     it.put_apt_get("exit 100")
     expect(it.run(), ([f"installs {' '.join(lacking)}", *(f"{name} can't be installed here" for name in lacking)], ["update", *lacking]))
     it.put_apt_get('case "$*" in *fish) exit 100;; esac')
     expect(it.run()[0][1:], ["fish can't be installed here"])
+    os.remove(f"{room}/bin/pg_config")
+    expect(it.run()[1][-3:], ["postgresql-15", "postgresql-server-dev-15", "postgresql-15-pgrouting"])
     os.remove(f"{room}/bin/apt-get")
     expect(it.run(), ([], []))
 
