@@ -1,6 +1,7 @@
 #!/usr/bin/env python3
 """What takes too long for `make installcheck`: each function over ten million edges, where timeouts have to end it in time;
-a server whose processes may use little memory; and each function under valgrind, and with gcc's checks of undefined behaviour.
+a server whose processes may use little memory; each function under valgrind, and with gcc's checks of undefined
+behaviour; and clang-tidy.
 
 usage: tests/stress.py [NAME..]
 
@@ -18,7 +19,7 @@ sys.dont_write_bytecode = True
 import drawn
 import trouble
 from installcheck import built
-from server import Server
+from server import HERE, Server, configured
 
 TEN_MILLION = 10_000_000
 FRACTIONS = [0.2, 0.35, 0.5, 0.65, 0.8, 0.9]  # of the time that a call takes without a timeout
@@ -83,7 +84,16 @@ def under_a_sanitizer(room):
             raise AssertionError(server.logged()[-3000:])
 
 
-STEPS = [timeouts_of_ten_million_edges, little_address_space, under_valgrind, under_a_sanitizer]
+def clang_tidy(_room):
+    base = os.environ.get("HEADERS", f"{os.path.dirname(HERE)}/include")
+    words = ["clang-tidy", "--quiet", "--warnings-as-errors=*", *(it for it in os.listdir(HERE) if it.endswith(".c"))]
+    words += ["--", "-std=gnu11", "-isystem", configured("includedir-server"), f"-I{base}"]
+    ended = subprocess.run(words, cwd=HERE, capture_output=True, text=True, check=False)
+    if ended.returncode:
+        raise AssertionError(ended.stdout[-3000:])
+
+
+STEPS = [clang_tidy, timeouts_of_ten_million_edges, little_address_space, under_valgrind, under_a_sanitizer]
 
 
 def main(names):

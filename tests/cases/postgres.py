@@ -61,17 +61,6 @@ def the_extension_compiles_without_a_warning(_room):
 
 
 @case
-def clang_tidy_finds_nothing_in_the_extension(_room):
-    folder = configured("includedir-server")
-    if not shutil.which("clang-tidy"):
-        raise Skipped("there is no clang-tidy")
-    words = ["clang-tidy", "--quiet", "--warnings-as-errors=*", *(it for it in sources() if it.endswith(".c"))]
-    status, output, errors = run([*words, "--", "-std=gnu11", "-isystem", folder, f"-I{ROOT}/include"], cwd=SOURCES, env=PLAIN, seconds=300)
-    if status:
-        raise AssertionError((output + errors).decode()[-4000:])
-
-
-@case
 def the_functions_of_the_extension_are_short(_room):
     long = []
     for name in sources():
