@@ -52,8 +52,10 @@ def a_fault_begins_a_line(_room):
         expect(ran([*words, "--progress"], malformed), 1, b"", told)
         # (nothing was told, or its line was ended)
         expect(ran([*words, "--progress"], COMMENT + b"x\n"), 1, b"", b"boruvka: line 2: UnknownLine\n")
-        cut = b"read 16 MB\rread 32 MB\rread 40 MB\nboruvka: line 40010: MissingArcs\n"
-        expect(ran([*words, "--progress"], LONG_NET[: -len(b"a 6 5 20\n")]), 1, b"", cut)
+        # (it is reported one line past the end)
+        file = LONG_NET[: -len(b"a 6 5 20\n")]
+        cut = b"read 16 MB\rread 32 MB\rread 40 MB\nboruvka: line %d: MissingArcs\n" % (file.count(b"\n") + 1)
+        expect(ran([*words, "--progress"], file), 1, b"", cut)
 
 
 @case
