@@ -76,7 +76,8 @@ def libraries():
     """Builds the libraries, where they aren't built, and answers their paths."""
     status, said, told = run(["make", "-s", "-C", ROOT, "lib"], env=ENVIRONMENT, seconds=60 * MINUTES)
     # where they are built which crate is under way goes to standard error
-    expect((status, said, told if status else b""), 0, b"", b"")
+    built = b"built crates/boruvka_c/out/libboruvka.a, crates/boruvka_c/out/libboruvka.so and crates/boruvka_within/out/libboruvka_within.a\n"
+    expect((status, said, told if status else b""), 0, built, b"")
     return f"{LIBRARIES}/libboruvka.a", f"{LIBRARIES}/libboruvka.so"
 
 

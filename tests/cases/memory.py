@@ -218,7 +218,7 @@ def threads_take_no_more_address_space_than_is_documented(room):
     # beside what a run without threads needs. Of few vertices and many arcs the list of links is longer by threads; the last
     # graph's list is then past a power of two, so that its room is twice as large
     with open(f"{ROOT}/SECURITY.md", encoding="utf-8") as it:
-        told = re.search(r"For `--threads` allow twice what `--plain` takes, (\d+) MB, and for each further thread a stack \(`ulimit -s`\) and (0\.\d) MB\.", it.read())
+        told = re.search(r"With `--threads`, allow twice the memory of `--plain`, and (\d+) MB more\. For each further thread, allow one stack \(`ulimit -s`\) and (0\.\d) MB\.", it.read())
     beside, each, stack = int(told[1]) * 10**6, int(float(told[2]) * 10**6), 8 << 20
 
     def limit(space):

@@ -23,7 +23,7 @@ def library():
 def module():
     """Builds the module, where it isn't built, and answers its path."""
     status, said, told = run(["make", "-s", "-C", ROOT, "wasm"], env=ENVIRONMENT, seconds=60 * MINUTES)
-    expect((status, said, told if status else b""), 0, b"", b"")
+    expect((status, said, told if status else b""), 0, b"built crates/boruvka_within/out/boruvka.wasm\n", b"")
     return f"{BUILT}/boruvka.wasm"
 
 
@@ -179,7 +179,7 @@ def the_modules_texts_of_refusals(room):
 
 @case
 def the_page_has_a_remedy_for_each_refusal_of_a_line(room):
-    with open(f"{ROOT}/web/solver.js", encoding="utf-8") as it:
+    with open(f"{ROOT}/web/causes.js", encoding="utf-8") as it:
         causes = it.read().partition("const CAUSES = {")[2].partition("\n};")[0]
     told = {word or name for word, name in re.findall(r"^  (?:'([^']+)'|(\w+)): '", causes, re.M)}
     expect((({it for _, it in REFUSALS[5:16]} | {"no memory"}) - told, b"", b""), set(), b"", b"")
