@@ -5,7 +5,7 @@ usage: tools/wasm.py
 
 The module is the same crate in a room of its own, below .git: there crates.txt says `wasm64` where it says `staticlib`,
 and all else is the same. So what was proved for the library stays proved, and the module is built over it, in less than a
-minute. The same sources give the same bytes.
+minute. The names of its functions are left out, which only a debugger would show. The same sources give the same bytes.
 
 If the crate isn't proved, or the module can't be built, what `rt` said goes to standard error, and the status is 1.
 """
@@ -40,6 +40,29 @@ def fill(room, lines):
     prove.linked(f"{ROOT}/{OWN}/out", f"{room}/{OWN}/out")
 
 
+def number_at(content, at):
+    """The number that begins there in LEB128, and where it ends."""
+    value = shift = 0
+    while True:
+        byte = content[at]
+        value, shift, at = value | (byte & 127) << shift, shift + 7, at + 1
+        if byte < 128:
+            return value, at
+
+
+def without_names(content):
+    """The module without the sections that say how functions are called and what made it; no engine needs them."""
+    kept, at = content[:8], 8
+    while at < len(content):
+        size, begins = number_at(content, at + 1)
+        section, name = content[at : begins + size], b""
+        if section[0] == 0:
+            length, first = number_at(content, begins)
+            name = content[first : first + length]
+        kept, at = kept + (b"" if name in (b"name", b"producers") else section), begins + size
+    return kept
+
+
 def main(words):
     if words:
         print(__doc__, end="", file=sys.stderr)
@@ -54,7 +77,10 @@ def main(words):
         if made.returncode:
             print(f"{made.stdout}{made.stderr}the WebAssembly module was not built", file=sys.stderr)
             return 1
-        shutil.move(f"{room}/{OWN}/out/{CRATE}.wasm", MODULE)
+        with open(f"{room}/{OWN}/out/{CRATE}.wasm", "rb") as it:
+            content = without_names(it.read())
+        with open(MODULE, "wb") as it:
+            it.write(content)
     return 0
 
 

@@ -153,9 +153,9 @@ def data_inside_of_the_page(room):
 
 @case
 def points_that_python_shows(room):
-    """The file that the Python package writes is the page with the points, their names and kilometres."""
+    """The file that the Python package writes is the page with the points, their names and kilometres. (Latitudes come first.)"""
     page, packed = Page.opened(), packed_page(room)
-    for more, total in [({}, "12.81025"), ({"globe": True}, "1,420.811 km")]:
+    for more, total in [({}, "12.81025"), ({"globe": True}, "1,422.158 km")]:
         given = {"points": [[0, 0], [3, 4], [9, 9]], "names": ["</script>", "b", 'c"']}
         script = "import json, sys; sys.path.insert(0, sys.argv[1]); import boruvka; boruvka.show(**json.load(sys.stdin))"
         words = json.dumps({**given, **more, "into": f"{room}/shown.html", "page": packed})
