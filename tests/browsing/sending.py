@@ -42,6 +42,11 @@ def a_link_keeps_how_it_was_left(_room):
     for width, height in [(1280, 800), (390, 844)]:
         page = Page.opened(link[len(page.address) :], width=width, height=height)
         page.expect(points="300")
+        # (the view moves to its place)
+        for _ in range(100):
+            if page.browser.run(LEFT_AS) == left:
+                break
+            page.frames()
         is_so((width, page.browser.run(LEFT_AS)), (width, left))
         is_so((page.value("clusters"), page.value("smallest"), page.value("scale")), ("7", "12", "log"))
     # what is no number of these is as at first
