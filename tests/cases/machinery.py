@@ -155,7 +155,7 @@ def an_interrupted_run_says_so_in_one_line(room):
     bodies.put_edit("a", turned("give(1)", "give(7)"))
     go_on = "interrupted; run the same command to continue"
     for folder, words, told in [(gate, ["tests/gate.py"], go_on), (chain, ["tools/prove.py", "program"], go_on), (bodies, ["tests/wrong_bodies.py"], "interrupted")]:
-        folder.put_program("waits", f"[ $1 = version ] && exit 0\ntouch '{folder.room}/begun'\nexec sleep 60")
+        folder.put_program("waits", f"[ $1 = version ] && exit 0\ntrap 'exit 1' INT\ntouch '{folder.room}/begun'\nwhile :; do sleep 0.1; done")
         command = [sys.executable, *(f"{folder.room}/{it}" if "/" in it else it for it in words)]
         how = {"stdin": subprocess.DEVNULL, "stdout": subprocess.PIPE, "stderr": subprocess.STDOUT, "text": True, "start_new_session": True}
         with subprocess.Popen(command, env={**os.environ, "RT": f"{folder.room}/waits"}, **how) as begun:
