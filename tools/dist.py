@@ -492,7 +492,7 @@ def main(words):
         release = Release(program, libraries)
         packs = [tarball, wheel]
         if shutil.which("dpkg-deb"):
-            packs += [debian, debian_of_python, *([extension] if server() else [])]
+            packs += [debian, *([extension] if server() else []), debian_of_python]
             if not server():
                 print("PostgreSQL's headers are not there, so no .deb of its extension was made", file=sys.stderr)
         else:

@@ -539,7 +539,7 @@ def packed(into, env=KIT, **more):
     module()
     words = [sys.executable, f"{ROOT}/tools/dist.py", "--program", Program.path, "--libraries", LIBRARIES, into]
     status, output, errors = run(words, env=env, **more)
-    said = {2: b"dpkg-deb is not there, so no .deb was made\n", 3: b"PostgreSQL's headers are not there, so no .deb of its extension was made\n", 4: b""}
+    said = {2: b"dpkg-deb is not there, so no .deb was made\n", 4: b"PostgreSQL's headers are not there, so no .deb of its extension was made\n", 5: b""}
     expect((status, b"", errors), 0, b"", said[packages()])
     found = {}
     for name in os.listdir(into):
