@@ -279,7 +279,7 @@ def faults_as_the_program_tells_them(room):
 @case
 def refusals_as_the_library_tells_them(room):
     env = {**WITHOUT, "PYTHONPATH": site(room), "PYTHONDONTWRITEBYTECODE": "1"}
-    code = "from boruvka import _library\nfor code in range(-21, 4):\n    print(code, _library._named(code))"
+    code = "from boruvka import _library\nfor code in range(-22, 4):\n    print(code, _library._named(code))"
     expect(run([python(), "-c", code], env=env), 0, TEXTS, b"")
 
 
