@@ -16,8 +16,8 @@ pub fn held_once()
     ensures { HeldOnce }
 {}
 
-/// Between any two steps each event of the run is one that some seat's token knows of: no event is of a seat that nobody
-/// holds.
+/// Between any two steps each event of the run is one that some seat's token knows of: no event has a number that no
+/// token was made for.
 pub fn no_other_events()
     ensures { NoOtherEvents }
 {}

@@ -48,7 +48,7 @@ impl PartialLine {
     /// Takes the bytes up to the next line feed. It answers the whole line and the bytes behind its line feed, of which
     /// nothing is kept then; where no line ends among the bytes, it keeps them all. A usual arc line is read at once,
     /// any other byte by byte; a byte takes constant time.
-    #[inline]
+    #[inline(always)]
     pub(crate) fn next_line<'a>(&mut self, bytes: &'a [u8]) -> Option<(LineFields, &'a [u8])>
         ensures shorter { IfSome result (λ next. length next.1.now < length bytes.now) }
         ensures ends { (part : List ℕ) → IsKeptAs self.old part

@@ -20,7 +20,7 @@ use std::thread::Threads;
 const READ_ROOM: usize = 65_536;
 
 // The number of bytes that are read at once where threads share them.
-const PAR_READ_ROOM: usize = 1 << 22;
+const PAR_READ_ROOM: usize = 1 << 20;
 
 // So many bytes of a source one thread reads before threads share the others.
 const ALONE: u64 = 1 << 20;
@@ -93,9 +93,9 @@ fn read_kept_upto<K: Keep<A>, S: Source, A: Allocator>(
 
 /// The graph of a source of at most 2^40 bytes, read by at most so many threads; 0 means one.
 ///
-/// As [`read_graph`], and so the first MiB is read. Of the others 4 MiB are read at a time, and shared where all of their
+/// As [`read_graph`], and so the first MiB is read. Of the others 1 MiB is read at a time, and shared where all of its
 /// lines but the first and the last are arc lines `a U V W` with single spaces, and nothing is wrong with them; any other
-/// piece, and one of less than 128 KiB, goes by one thread. From the second MiB on it takes 12 MiB more; where these are
+/// piece, and one of less than 128 KiB, goes by one thread. From the second MiB on it takes 3 MiB more; where these are
 /// refused, one thread reads.
 pub fn read_graph_par<R: Threads + Sync, S: Source, A: Allocator + Copy>(
     rt: &R,

@@ -1,11 +1,11 @@
 //! A worker's session in memory.
-ghost use Rattle.std.specs.Prelude.{◌≡◌, ℕ, ◌++◌, List, length, IfOk, IfErr, OnOk};
+ghost use Rattle.std.specs.Prelude.{◌≡◌, ℕ, ◌++◌, List, length, IfOk, IfErr, OnOk, OnErr};
 ghost use Rattle.frames.specs.FrameValue.{value_of};
 ghost use Rattle.frames.specs.FrameText.{text_of};
 ghost use Rattle.frames.specs.Lawful.{IsLawful};
 ghost use Rattle.frames.specs.FrameStream.{texts_of, AreLawful, BeginsNone, IsOfStream};
 ghost use Rattle.frames.specs.Refusals.{StreamRefused};
-ghost use Rattle.worker_replies.specs.Serving.{shelf_of, shelf_with, MayFollow, replies_in};
+ghost use Rattle.worker_replies.specs.Serving.{IsShardFrame, shelf_of, shelf_with, MayFollow, replies_in};
 ghost use Rattle.ports.specs.EngineLines.{rest_of, GoesOn, Extends};
 
 use frames::{Frame, FrameFault, encode, read_frame};
@@ -75,6 +75,8 @@ fn hear<A: Allocator + Copy>(
     ensures shelf { OnOk result (shelf_of engine.new ≡ shelf_with (shelf_of engine.old) (value_of frame)) }
     ensures reply { IfOk result (λ reply. MayFollow (shelf_of engine.old) (value_of frame) (replies_in reply)) }
     ensures lawful { IfOk result (λ reply. AreLawful (replies_in reply)) }
+    ensures unchanged { OnErr result (engine.new ≡ engine.old) }
+    ensures wants_memory { OnErr result (IsShardFrame (value_of frame)) }
 {
     match frame {
         Frame::Ask {

@@ -2,3 +2,4 @@ pub mod Offering
 pub mod Versions
 pub mod Replying
 pub mod Sessions
+pub mod FirstVersion

@@ -1,3 +1,4 @@
 pub mod Serving
 pub mod Session
 pub mod Laws
+pub mod Examples
