@@ -23,7 +23,6 @@
 //!
 //! To change what the contracts show of a stream, or what a call does to it, start with `specs/Streams` and the traits
 //! in `traits`. To add a new kind of stream, see `memory` and `devices`. The loops are in `transfer`.
-//! `traits`; `memory` and `devices` for a new kind of stream; `transfer` for the loops.
 #![tactic(auto)]
 
 mod devices;
