@@ -10,12 +10,10 @@ use borrow.Rule.Slice.PartMut.{put_mid, post_of}
 
 -- ---- counts
 
--- no call at all
 pub rises-none : (a : Option ℕ) → RisesBy 0 a a
 rises-none None = tt
 rises-none (Some n) = omega arith
 
--- one call after another
 pub rises-then : (m n : ℕ) (a b c : Option ℕ) → RisesBy m a b → RisesBy n b c → RisesBy (m + n) a c
 rises-then m n None b c first second = tt
 rises-then m n (Some x) None c first second = absurd first
@@ -39,7 +37,6 @@ consumes-known None b xs bs known came = cc
 consumes-known (Some zs) None xs bs known came = absurd came
 consumes-known (Some zs) (Some ys) xs bs known came = let same : zs ≡ xs = cc in (ys, refl, sym same ∙ came)
 
--- nothing was called
 pub gave_nothing : (s : SourceState) → Gave 0 0 [] s s
 gave_nothing s = record {
   left = Consumes-nil s.left;
@@ -62,7 +59,6 @@ ends_together (suc e) f (Some all) (Some rest) xs ys came first second (Some lef
     let none : length ys ≡ 0 = omega (arith, ap length more, length-append ys left) in
     first (omega arith) ∙ sym (append-nil xs) ∙ ap (λ l. xs ++ l) (sym (nil_from_length ys none))
 
--- one call after another
 pub gave_then : (m e n f : ℕ) (xs ys : List ℕ) (s t u : SourceState) → Gave m e xs s t → Gave n f ys t u → Gave (m + n) (e + f) (xs ++ ys) s u
 gave_then m e n f xs ys s t u first second = record {
   left = Consumes-trans s.left t.left u.left xs ys first.left second.left;
@@ -107,11 +103,9 @@ gave_into_rest m e s t u at k n buf part within fits first second =
 
 -- ---- sinks
 
--- nothing was called
 pub took_nothing : (s : SinkState) → Took 0 [] s s
 took_nothing s = record { held = Appends-nil s.held; setbacks = rises-none s.setbacks }
 
--- one call after another
 pub took_then : (m n : ℕ) (xs ys : List ℕ) (s t u : SinkState) → Took m xs s t → Took n ys t u → Took (m + n) (xs ++ ys) s u
 took_then m n xs ys s t u first second = record {
   held = Appends-trans s.held t.held u.held xs ys first.held second.held;

@@ -1,5 +1,5 @@
-//! Streams over memory. Reading from a slice never fails. Writing to a `Vec` fails only if it can't grow, and no count
-//! of such failures exists. The state of a sink over a vector shows which of its bytes wait for a flush.
+//! Streams over memory. Reading from a slice never fails. Writing to a `Vec` fails only if it can't grow, and nothing
+//! counts these failures. A [`BufferedSink`] shows which of its bytes wait for a flush.
 ghost use Rattle.std.specs.Prelude.{◌≡◌, ◌+◌, ◌<◌, ◌≤◌, take, drop, length, Some, None, IsOk, IfOk, OnOk, OnErr, vec_len, vec_capacity};
 ghost use Rattle.std.specs.Io.{WritesAtMost};
 ghost use Rattle.byte_streams.specs.Streams.{only_held, WriteTook, FlushTook, IsFlushed};

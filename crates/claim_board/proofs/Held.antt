@@ -39,7 +39,6 @@ next_once run (Turned by of to) seat true is is_run allowed old = subst (AllPair
 next_once run (GiveBack by of) seat true is is_run allowed old = subst (AllPairs (λ a b. a ≢ b)) (sym (held-push (of_seat seat run) (GiveBack by of)))
     (AllPairs-filter (λ a b. a ≢ b) (λ s. not (s == of)) (held (of_seat seat run)) old)
 
--- the first part of a run is a run
 IsRun-front : (run later : List Event) → IsRun (run ++ later) → IsRun run
 IsRun-front run later is before event rest e = is before event (rest ++ later) (ap (λ es. es ++ later) e ∙ append_assoc before (event ∷ rest) later)
 

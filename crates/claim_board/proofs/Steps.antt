@@ -22,7 +22,6 @@ use Rattle.claim_board.specs.Kept.{among, IsSeat}
 use Rattle.claim_board.proofs.Lists.{at_within, among_decides}
 use Rattle.claim_board.proofs.Runs.{owner-push, held-push, of_seat-mine, of_seat-other, IsRun-push, owns, Some-owns, owner_has}
 
--- the shard of an event
 abbrev pub shard_of : Event → ℕ
 shard_of (Win seat shard) = shard
 shard_of (Turned seat shard by) = shard

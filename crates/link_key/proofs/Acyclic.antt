@@ -20,7 +20,6 @@ use Rattle.link_key.proofs.Opened.{some_link, links_opened, opened_of}
 use Rattle.link_key.proofs.Owns.{own_of, own_is, renamed_own}
 use Rattle.link_key.proofs.Stages.{stage_end, stage_start, own_labels}
 
--- the tail of marks
 all_tail : (b : Bool) (marks : List Bool) → All IsTrue (b ∷ marks) → All IsTrue marks
 all_tail b marks all k d lt = all (suc k) d (omega (arith, lt))
 

@@ -43,7 +43,6 @@ pub firsts_put : (numbers firsts : List ℕ) (count v first : ℕ) → AreFirsts
     → IsFirstWith numbers (get_or numbers v 0) first → first < v + 1 → AreFirsts numbers count (v + 1) (set firsts (get_or numbers v 0) first)
 firsts_put numbers firsts count v first are number_in is lt c c_in = search (arith, cases_eq, set, get_or-set_same, get_or-set_other, same_first)
 
--- one more label
 pub label_more : (numbers labels : List ℕ) (v label : ℕ) → length labels + 1 ≡ v → ((u : ℕ) → 1 ≤ u → u < v → IsFirstWith numbers (get_or numbers u 0) (label_of labels u))
     → IsFirstWith numbers (get_or numbers v 0) label → (u : ℕ) → 1 ≤ u → u < v + 1 → IsFirstWith numbers (get_or numbers u 0) (label_of (labels ++ label ∷ []) u)
 label_more numbers labels v label len are is u from_one lt = search (arith, cases_eq, get_or_push, get_or_append_left)

@@ -31,7 +31,6 @@ marked_if (m ∷ links) (false ∷ marks) l (zero, k_in, has, is) = absurd (fals
 marked_if (m ∷ links) (true ∷ marks) l (suc k, k_in, has, is) = contains_tail m l (marked links marks) (marked_if links marks l (k, omega (arith, k_in), has, is))
 marked_if (m ∷ links) (false ∷ marks) l (suc k, k_in, has, is) = marked_if links marks l (k, omega (arith, k_in), has, is)
 
--- before any link is marked
 pub marked_none : (links : List Link) (n : ℕ) → marked links (replicate n false) ≡ []
 marked_none [] n = refl
 marked_none (m ∷ links) zero = refl

@@ -196,7 +196,6 @@ pub renamed_numbers : {count last : ℕ} {numbers further : List ℕ} → AreAll
     → length further ≡ count + 1 → last ≤ count → AreAllNumbers last further → AreAllNumbers last (renamed further numbers)
 renamed_numbers {count} {last} {numbers} {further} are len few all = search (arith, renamed_at, renamed_len)
 
--- no links are left
 pub none_left : {X : Type 0} (xs : List X) → length xs ≡ 0 → xs ≡ []
 none_left [] none = refl
 none_left (x ∷ xs) none = absurd (omega (arith, none))

@@ -72,7 +72,6 @@ renamed_to numbers labels v v_in = get_or-map (λ (c : ℕ). get_or numbers c 0)
 pub renamed_len : (numbers labels : List ℕ) → length (renamed numbers labels) ≡ length labels
 renamed_len numbers labels = length-map labels (λ (c : ℕ). get_or numbers c 0)
 
--- equal labels stay equal
 renamed_same : (numbers labels : List ℕ) (u v : ℕ) → u < length labels → v < length labels
     → get_or labels u 0 ≡ get_or labels v 0 → get_or (renamed numbers labels) u 0 ≡ get_or (renamed numbers labels) v 0
 renamed_same numbers labels u v u_in v_in same = renamed_to numbers labels u u_in ∙ ap (λ c. get_or numbers c 0) same ∙ sym (renamed_to numbers labels v v_in)

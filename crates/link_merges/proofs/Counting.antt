@@ -18,7 +18,6 @@ use Rattle.link_merges.proofs.Unions.{merge_of_ends}
 abbrev no_row : Merge
 no_row = record { first = 0; second = 0; size = 0 }
 
--- a single number
 one : (r : ℕ) → HasSize (λ v. v ≡ r) 1
 one r = record {
   numbers = r ∷ [];
@@ -33,7 +32,6 @@ one r = record {
   counted = refl;
 }
 
--- a point has one vertex
 size_point : (n : ℕ) (links : List Link) (c : ℕ) → c < n → HasSize (IsInCluster n links c) 1
 size_point n links c lt = size_same (λ v. v ≡ c + 1) (IsInCluster n links c) 1 (one (c + 1)) (λ v. (λ is. inl (lt, is), of_point v))
   where

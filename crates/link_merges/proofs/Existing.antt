@@ -15,7 +15,6 @@ use Rattle.link_merges.proofs.Merging.{link_there, ends_in, ends_apart}
 use Rattle.link_merges.proofs.Rows.{one_more}
 use Rattle.link_merges.proofs.Unions.{merge_of_ends}
 
--- merges of the first k links
 record Built (n : ℕ) (links : List Link) (k : ℕ) : Type 0 where
   merges : List Merge
   rows : length merges ≡ k

@@ -11,7 +11,6 @@ use Rattle.links.proofs.Greatest.{greatest_of}
 use Rattle.links.proofs.Spanning.{walked}
 use Rattle.links.proofs.Sublists.{part_in}
 
--- a part of a set without a cycle has no cycle
 pub no_cycle_part : (S T : LinkSet) → IsPartOf S T → HasNoCycle T → HasNoCycle S
 no_cycle_part S T part none l is_in joined =
     none l (part l is_in) (joins_more (Without S l) (Without T l) (λ m within. (part m within.0, within.1)) l.low l.high joined)

@@ -11,7 +11,6 @@ use Rattle.links.specs.LinkSet.{LinkSet, Either, IsPartOf, SameLinks, HasNoCycle
 use Rattle.links.proofs.Sublists.{without_one}
 use Rattle.links.proofs.Cycles.{no_cycle_part, no_cycle_either}
 
--- no link at all
 abbrev NoLink : LinkSet
 NoLink l = ⊥
 
@@ -58,6 +57,5 @@ forest_joins_ends links l is_in = ends_joined links (length links) links (omega 
 pub forest_spans : (links : List Link) → Spans (IsForestLink links) links
 forest_spans links = joins_replace (Contains links) (IsForestLink links) (λ l is_in. joins_more (ForestNotAbove links l) (IsForestLink links) (λ m m_is. m_is.0) l.low l.high (forest_joins_ends links l is_in))
 
--- a part of the forest that spans the list is the whole forest
 pub spanning_part_is_forest : (links : List Link) (P : LinkSet) → IsPartOf P (IsForestLink links) → Spans P links → SameLinks P (IsForestLink links)
 spanning_part_is_forest = spanning_part

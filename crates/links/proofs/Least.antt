@@ -223,7 +223,6 @@ record Holding (links taken others : List Link) : Type 0 where
   distinct : AreDistinct others
   apart : (m : Link) → Contains others m → ¬ (Contains taken m)
 
--- one more link is taken
 take_next : (links taken : List Link) (l : Link) (left : List Link) → Taking links taken (l ∷ left) → Taking links (l ∷ taken) left
 take_next links taken l left taking = record {
   are = λ m m_in. taking.are m (elim m_in [

@@ -19,7 +19,6 @@ joins_link S l is_in = (l ∷ [], (is_in, tt), inl (refl, refl))
 pub joins_link_back : (S : Link → Type 0) (l : Link) → S l → Joins S l.high l.low
 joins_link_back S l is_in = (l ∷ [], (is_in, tt), inr (refl, refl))
 
--- one walk after the other
 pub joins_trans : (S : Link → Type 0) (u v w : ℕ) → Joins S u v → Joins S v w → Joins S u w
 joins_trans S u v w (walk, all, leads) then_on = along u walk all leads
   where
@@ -38,7 +37,6 @@ joins_least S R same back on ends u v (walk, all, leads) = along u walk all lead
     along u (l ∷ walk) (is_in, all) (inl (at, leads)) = subst (λ x. R x v) (sym at) (on l.low l.high v (ends l is_in) (along l.high walk all leads))
     along u (l ∷ walk) (is_in, all) (inr (at, leads)) = subst (λ x. R x v) (sym at) (on l.high l.low v (back l.low l.high (ends l is_in)) (along l.low walk all leads))
 
--- a walk in the other direction
 pub joins_symm : (S : Link → Type 0) (u v : ℕ) → Joins S u v → Joins S v u
 joins_symm S u v (walk, all, leads) = along u walk all leads
   where
@@ -54,7 +52,6 @@ joins_replace S R by_walk = joins_least S (Joins R) (joins_refl R) (joins_symm R
 pub joins_more : (S R : Link → Type 0) → ((l : Link) → S l → R l) → (u v : ℕ) → Joins S u v → Joins R u v
 joins_more S R more = joins_replace S R (λ l is_in. joins_link R l (more l is_in))
 
--- two sets with the same links join the same vertices
 pub joins_alike : (S R : Link → Type 0) → ((l : Link) → S l ↔ R l) → (u v : ℕ) → Joins S u v ↔ Joins R u v
 joins_alike S R alike u v = (joins_more S R (λ l. (alike l).0) u v, joins_more R S (λ l. (alike l).1) u v)
 
@@ -80,7 +77,6 @@ through_after S l u v w first (inl joined) = inl (joins_trans S u v w first join
 through_after S l u v w first (inr (inl (to, from))) = inr (inl (joins_trans S u v l.low first to, from))
 through_after S l u v w first (inr (inr (to, from))) = inr (inr (joins_trans S u v l.high first to, from))
 
--- the set with one added link
 abbrev pub WithLink : (Link → Type 0) → Link → Link → Type 0
 WithLink S l m = S m ⊎ (m ≡ l)
 

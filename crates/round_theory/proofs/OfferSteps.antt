@@ -14,11 +14,9 @@ use Rattle.round_theory.proofs.Lists.{set_ends}
 use Rattle.round_theory.proofs.Labels.{low_vertex, high_vertex}
 use Rattle.round_theory.proofs.Leaving.{leaves_end, least_leaving_unique}
 
--- a link has only one first index
 first_place_unique : (links : List Link) (l : Link) (i j : ℕ) → IsFirstPlace links l i → IsFirstPlace links l j → i ≡ j
 first_place_unique links l i j at_i at_j = search (arith, cases_lt)
 
--- a label has at most one light offer
 light_offer_unique : (links : List Link) (labels : List ℕ) (c i j : ℕ) → IsLightOffer links labels c i → IsLightOffer links labels c j → i ≡ j
 light_offer_unique links labels c i j (l, least, at) (m, least', at') =
     let same = least_leaving_unique labels (Contains links) c l m least least' in

@@ -14,11 +14,9 @@ use Rattle.round_theory.proofs.Labels.{labelling_alike}
 use Rattle.round_theory.proofs.Leaving.{least_leaving_exists}
 use Rattle.round_theory.proofs.Rounds.{round_by_round, adds_nothing}
 
--- nothing is taken before the first round
 pub nothing_taken : (n : ℕ) (links : List Link) → SameLinks (Contains []) (TakenAfter n links 0)
 nothing_taken n links l = (contains_none l, λ none. absurd none)
 
--- one more round
 pub taken_more : (n : ℕ) (links taken added : List Link) (i : ℕ) → SameLinks (Contains taken) (TakenAfter n links i)
     → AreRoundPicks n links taken added → SameLinks (Contains (taken ++ added)) (TakenAfter n links (i + 1))
 taken_more n links taken added i before picks = rw (add-one) (round_by_round n links taken added i before picks)

@@ -123,7 +123,6 @@ module _ (n : ℕ) (links : List Link) where
               let same : labels ≡ by_labels.0 = labelling_unique n (TakenAfter n links i) labels by_labels.0 is by_labels.1 in
               Contains-append_right before.members picks.members l ((picks.same l).1 (subst (λ x. IsPick x (Contains links) l) same pick))
 
-  -- the labelling by what is taken
   pub round_labelling : (i : ℕ) → (labels : List ℕ) × IsLabelling n (TakenAfter n links i) labels
   round_labelling i = labelling_exists n (TakenAfter n links i) (listed_joins_dec (TakenAfter n links i) (taken_listed i))
 
@@ -272,7 +271,6 @@ module _ (n : ℕ) (links : List Link) where
           pow-suc 2 i,
         )
 
-    -- whether a round adds nothing is decidable
     pub still_dec : (i : ℕ) → Decided (SameLinks (TakenAfter n links (suc i)) (TakenAfter n links i))
     still_dec i =
         let (labels, is) = round_labelling i in

@@ -179,7 +179,6 @@ added_close_no_cycle O n taken added labels ends is none part =
     to : IsPartOf (Contains (taken ++ added)) (Either (Contains taken) (IsPick labels O))
     to l is_in = elim ((append_either taken added l).0 is_in) [ inl in_taken ↦ inl in_taken | inr in_added ↦ inr (part l in_added) ]
 
--- a pick is an offered link that isn't taken yet
 pub pick_is_new : (O : LinkSet) (n : ℕ) (taken : List Link) (labels : List ℕ) → EndsUpTo n taken → IsLabelling n (Contains taken) labels → (l : Link) → IsPick labels O l → O l × ¬ (Contains taken l)
 pick_is_new O n taken labels ends is l pick = (pick.1.member, pick_apart n (Contains taken) O labels (set_ends n taken ends) is l pick)
 
