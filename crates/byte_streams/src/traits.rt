@@ -1,4 +1,3 @@
-//! The traits of sources and sinks.
 ghost use Rattle.std.specs.Prelude.{ℕ, ◌<◌, List, Option, length, None, IfOk, OnOk};
 ghost use Rattle.std.specs.Io.{ReadsAtMost, WritesAtMost};
 ghost use Rattle.byte_streams.specs.Streams.{SourceState, SinkState, only_left, only_held, ReadGave, WriteTook, FlushTook, IsFlushed, IsRefusal};

@@ -36,7 +36,7 @@ pub record IsSeat (me : Me (Unit {0}) View) (number : ℕ) (bits : List ℕ) : T
   pub number_of_board : number < me.0.size.seats
   pub list : (shard : ℕ) → has_shard bits shard ≡ among shard (held (first_events me.0.lists))
 
--- a word for each shard
+-- a board's table has one word per shard, and no slots
 pub record IsBoard (table : TableId) (size : Size) : Type 0 where
   pub range : IsInRange size
   pub words : table.words ≡ size.shards

@@ -19,7 +19,7 @@ owner_after shard now (GiveBack seat s) = if s == shard then None else now
 abbrev pub owner : List Event → ℕ → Option ℕ
 owner run shard = fold (owner_after shard) None run
 
--- a free shard can be won, only the owner makes another claim fail, and only the owner can give the shard back
+-- a free shard can be won, a claim of an owned shard fails, and only the owner can give a shard back
 abbrev pub IsAllowed : List Event → Event → Type 0
 IsAllowed run (Win seat shard) = owner run shard ≡ None
 IsAllowed run (Turned seat shard by) = owner run shard ≡ Some by

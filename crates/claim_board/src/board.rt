@@ -38,7 +38,6 @@ impl<A: Allocator> Model for Board<A> {
     ghost invariant = { λ b. IsBoard b.table.shared.table_id b.table.shared.key };
 }
 
-// Returns a table with the word 0 for each shard, and one token with the numbers of all seats.
 fn free_words<A: Allocator>(
     alloc: A,
     size: &Size,

@@ -1,4 +1,3 @@
-//! Who owned each shard when the board was closed.
 ghost use Rattle.std.specs.Prelude.{◌≡◌};
 ghost use Rattle.claim_board.specs.State.{owner_in};
 

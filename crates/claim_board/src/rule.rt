@@ -3,7 +3,6 @@ use crate::event::Event;
 use atomic_table::{Join, Play, Shared, Split, TableRule};
 use std::collections::LinkedList;
 
-/// The numbers of shards and seats of a board.
 #[derive(Clone, Copy)]
 pub struct Size {
     pub shards: u32,

@@ -1,4 +1,3 @@
-//! A seat of a board.
 ghost use Rattle.std.specs.Prelude.{◌≡◌, ◌<◌, ◌↔◌, [], IsTrue, Contains};
 ghost use Rattle.claim_board.specs.Machine.{held};
 
@@ -32,7 +31,6 @@ impl Seat {
     ghost use Rattle.claim_board.specs.Rule.{lone};
     ghost use Rattle.claim_board.specs.Kept.{board_state, IsInRange, IsTokenOf};
 
-    /// Returns a seat that has done nothing yet, with the token of its number.
     pub(crate) fn fresh(token: Token, number: u32) -> Seat
         requires view { token.me ≡ (lone token.me.0.size number [], []) }
         requires range { IsInRange token.me.0.size }

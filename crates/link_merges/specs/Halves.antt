@@ -4,7 +4,6 @@ use Rattle.links.specs.declared.links.Link.{Link}
 use Rattle.link_merges.specs.Merges.{FirstJoin, IsClusterOf, IsMerge}
 use Rattle.link_merges.specs.declared.merges.Merge.{Merge}
 
--- row j
 abbrev pub row_at : List Merge → ℕ → Merge
 row_at rows j = slice_index_or rows j (record { first = 0; second = 0; size = 0 })
 

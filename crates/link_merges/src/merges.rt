@@ -1,4 +1,3 @@
-//! The merges that links make, one after the other.
 ghost use Rattle.std.specs.Prelude.{◌≡◌, ◌+◌, ◌<◌, ◌≤◌, ◌↔◌, length, map, IfOk, IfSome, IsSome};
 ghost use Rattle.limits.specs.declared.TheConstants.{MAX_VERTICES, MAX_ARCS};
 ghost use Rattle.links.specs.Link.{EndsUpTo};
@@ -36,7 +35,6 @@ fn points_of_ends<A: Allocator>(alloc: A, links: &[Link]) -> Result<Vec<Merge, A
     Ok(rows)
 }
 
-// Maps each of `clusters` clusters to itself.
 fn apart<A: Allocator>(alloc: A, clusters: u32) -> Result<Vec<u32, A>, AllocError>
     ensures as_many { IfOk result (λ now. length now.items ≡ clusters) }
     ensures own { IfOk result (λ now. AreThemselves now.items) }
@@ -48,7 +46,6 @@ fn apart<A: Allocator>(alloc: A, clusters: u32) -> Result<Vec<u32, A>, AllocErro
     Ok(now)
 }
 
-// How many points cluster c has, according to the rows of the earlier links.
 fn count_points(rows: &[Merge], n: u32, c: u32) -> u32
     requires in_range { c < n + length rows.now }
     ensures { result ≡ points_in n rows.now c }

@@ -1,4 +1,3 @@
-//! A worker's answer.
 use crate::offered::Offers;
 use std::alloc::{Allocator, Global};
 use std::marker::Model;

@@ -155,7 +155,7 @@ fn ends_at(places: &[usize], links: usize, number: u32) -> usize
 }
 
 /// Checks whether a list of `length` links can be cut into `count` even shards. Returns the error that `Cut::even`
-/// would return, but for `Memory`, and allocates nothing.
+/// would return, except `Memory`, and allocates nothing.
 pub fn check_even(length: usize, count: u32) -> Result<(), CutFault>
     requires few_links { length ≤ MAX_ARCS }
     ensures allowed { OnOk result (even_refusal length count ≡ None) }
@@ -174,7 +174,7 @@ pub fn check_even(length: usize, count: u32) -> Result<(), CutFault>
 }
 
 /// Checks whether a list of `length` links can be cut at the given indices. Returns the error that `Cut::at` would
-/// return, but for `Memory`. It looks at each index once and allocates nothing.
+/// return, except `Memory`. It looks at each index once and allocates nothing.
 pub fn check_places(length: usize, places: &[usize]) -> Result<(), CutFault>
     requires few_links { length ≤ MAX_ARCS }
     ensures allowed { OnOk result (places_refusal length places.now ≡ None) }
@@ -192,7 +192,6 @@ pub fn check_places(length: usize, places: &[usize]) -> Result<(), CutFault>
     Ok(())
 }
 
-// Returns whether no index is less than the one before it or past the end.
 fn are_in_order(length: usize, places: &[usize]) -> bool
     ensures { result ≡ list_all is_in_order (spans_from 0 length places.now) }
 {
@@ -206,7 +205,6 @@ fn are_in_order(length: usize, places: &[usize]) -> bool
     from <= length
 }
 
-// Returns whether no shard has too many links, for indices that are in order.
 fn are_small(length: usize, places: &[usize]) -> bool
     requires { IsTrue (list_all is_in_order (spans_from 0 length places.now)) }
     ensures { result ≡ list_all is_small (spans_from 0 length places.now) }
@@ -221,7 +219,6 @@ fn are_small(length: usize, places: &[usize]) -> bool
     length.saturating_sub(from) <= MAX_SHARD_LINKS
 }
 
-// The indices between `count` even shards of a list.
 fn even_places<A: Allocator + Copy>(
     alloc: A,
     links: usize,

@@ -157,7 +157,6 @@ impl<A: Allocator> Labels<A> {
     }
 }
 
-// The four bytes of each label, the most significant first.
 fn cells_of<A: Allocator>(alloc: A, labels: &[u32]) -> Result<Vec<[u8; 4], A>, AllocError>
     ensures { IfOk result (λ cells. cells.items ≡ map (to_be_bytes w32) labels.now) }
 {
@@ -168,7 +167,6 @@ fn cells_of<A: Allocator>(alloc: A, labels: &[u32]) -> Result<Vec<[u8; 4], A>, A
     Ok(cells)
 }
 
-// Replaces each label by its name.
 fn rename_each(labels: &mut [u32], names: &[u32])
     requires { All (λ c. c < length names.now) labels.old }
     ensures { labels.new ≡ renamed names.now labels.old }
@@ -178,7 +176,6 @@ fn rename_each(labels: &mut [u32], names: &[u32])
     }
 }
 
-// Writes the four bytes of each label, the most significant first.
 fn spell_each(cells: &mut [[u8; 4]], labels: &[u32])
     requires { length cells.old ≡ length labels.now }
     ensures { cells.new ≡ map (to_be_bytes w32) labels.now }
@@ -188,7 +185,6 @@ fn spell_each(cells: &mut [[u8; 4]], labels: &[u32])
     }
 }
 
-// Returns whether the list has valid labels of the vertices 1, 2, .. in order.
 fn are_labels(labels: &[u32]) -> bool
     ensures { IsTrue result ↔ AreLabels labels.now }
 {

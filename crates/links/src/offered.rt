@@ -54,7 +54,6 @@ impl<A: Allocator> Offers<A> {
     }
 }
 
-// Returns whether each component is below the next, and so below all later ones.
 fn are_offers(pairs: &[(u32, u32)]) -> bool
     ensures { IsTrue result ↔ AreOffers pairs.now }
 {

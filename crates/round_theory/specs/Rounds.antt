@@ -10,7 +10,7 @@ abbrev pub AreRoundPicks : ℕ → List Link → List Link → List Link → Typ
 AreRoundPicks n links taken added =
     (labels : List ℕ) × IsLabelling n (Contains taken) labels × SameLinks (Contains added) (IsPick labels (Contains links))
 
--- the links taken after a number of rounds: each round adds the picks of the list under the current labelling
+-- the links taken after a number of rounds, at first none: each round adds the list's picks under the current labelling
 abbrev pub TakenAfter : ℕ → List Link → ℕ → LinkSet
 TakenAfter n links zero l = ⊥
 TakenAfter n links (suc i) l =

@@ -1,4 +1,3 @@
-//! What the rounds ask about a shard.
 ghost use Rattle.std.specs.Prelude.{◌≡◌, ℕ, ◌+◌, ◌-◌, ◌<◌, ◌≤◌, ◌^◌, List, length, false, IfOk, OnErr};
 ghost use Rattle.links.specs.Link.{EndsUpTo};
 ghost use Rattle.links.specs.Cut.{links_at};

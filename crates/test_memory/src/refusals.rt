@@ -36,7 +36,6 @@ impl Refusals {
         }
     }
 
-    /// Returns whether the allocation with this number is made to fail.
     pub(crate) fn include(self, number: u64) -> bool
         ensures { IsTrue result ↔ IsRefused self number }
     {

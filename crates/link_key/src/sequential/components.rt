@@ -95,7 +95,6 @@ fn first_vertices<A: Allocator + Copy>(
     Ok(labels)
 }
 
-// The first vertex that was found, or this one if there was none yet (0).
 fn first_or(found: u32, v: u32) -> u32
     ensures new { found ≡ 0 → result ≡ v }
     ensures old { found ≢ 0 → result ≡ found }

@@ -36,7 +36,6 @@ pub(crate) struct Renaming<A: Allocator> {
     pub count: u32,
 }
 
-// The table's entry at c, or 0 if it has none.
 #[inline]
 fn entry(table: &[u32], c: u32) -> u32
     ensures { result ≡ slice_index table.now c }
@@ -194,7 +193,6 @@ fn number_rest(numbers: &mut [u32], last: u32) -> u32
     count
 }
 
-// Replaces each label by its number.
 pub(crate) fn rename(labels: &mut [u32], numbers: &[u32])
     ensures { labels.new ≡ renamed numbers.now labels.old }
 {

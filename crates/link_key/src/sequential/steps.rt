@@ -16,12 +16,10 @@ use links::{Link, sorting};
 use std::alloc::{AllocError, Allocator};
 use std::thread::Threads;
 
-/// Who does the steps.
 pub(crate) trait Steps {
     // What threads need of the runtime that starts them.
     ghost ready: { Self → Type 0 } = { λ _. ⊤ };
 
-    /// Puts the links in the order of their keys.
     fn sort(&self, links: &mut [Link])
         requires ready { ready self.now }
         ensures same { IsPermutation links.old links.new }
