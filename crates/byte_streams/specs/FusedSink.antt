@@ -1,9 +1,10 @@
--- A sink over memory that fails, or takes nothing, once it has so many bytes.
+-- The state of a sink over memory that fails, or takes nothing, after a chosen number of bytes.
 use Rattle.std.specs.Prelude.{ℕ, ◌+◌, ◌-◌, min, Bool, ◌&&◌, List, [], ◌++◌, length, take, Some, Result, Ok, Err, ◌==◌, nat_lt, if◌then◌else◌}
 use Rattle.byte_streams.specs.Streams.{SinkState}
 use Rattle.byte_streams.specs.declared.traits.Failed.{Failed}
 
--- the bytes taken, how many it takes in all, the most that a write takes, whether it fails once it is full, and the count
+-- the bytes taken, how many bytes it takes in all, the most that a write takes, whether it fails when full, and its
+-- setbacks
 pub record FusedSinkState : Type 0 where
   pub held : List ℕ
   pub passes : ℕ
@@ -11,15 +12,15 @@ pub record FusedSinkState : Type 0 where
   pub fails_when_full : Bool
   pub setbacks : ℕ
 
--- a sink that took nothing yet
+-- a sink that has taken nothing yet
 abbrev pub fresh_sink : ℕ → ℕ → Bool → FusedSinkState
 fresh_sink passes piece fails = record { held = []; passes = passes; piece = piece; fails_when_full = fails; setbacks = 0 }
 
--- what is known of it: everything
+-- its state shows both parts
 abbrev pub known_sink : FusedSinkState → SinkState
 known_sink s = record { held = Some s.held; setbacks = Some s.setbacks }
 
--- it is full, and one that fails then
+-- it is full, and fails when it is full
 abbrev pub is_blown : FusedSinkState → Bool
 is_blown s = (length s.held == s.passes) && s.fails_when_full
 
@@ -27,7 +28,7 @@ is_blown s = (length s.held == s.passes) && s.fails_when_full
 abbrev pub taken_of : FusedSinkState → ℕ → ℕ
 taken_of s len = min (min len s.piece) (s.passes - length s.held)
 
--- what a write of `buf` answers
+-- what a write of `buf` returns
 abbrev pub write_answer : FusedSinkState → List ℕ → Result ℕ Failed
 write_answer s buf = if is_blown s then Err (record {}) else Ok (taken_of s (length buf))
 
@@ -35,7 +36,7 @@ write_answer s buf = if is_blown s then Err (record {}) else Ok (taken_of s (len
 abbrev pub set_back : FusedSinkState → FusedSinkState
 set_back s = record s { setbacks = s.setbacks + 1 }
 
--- the sink after a write of `buf`: a failure or a refusal is counted, and bytes taken come last
+-- the sink after a write of `buf`: a setback is counted, or the bytes taken are appended
 abbrev pub after_write : FusedSinkState → List ℕ → FusedSinkState
 after_write s buf = if is_blown s then set_back s
     else if nat_lt 0 (length buf) && (taken_of s (length buf) == 0) then set_back s

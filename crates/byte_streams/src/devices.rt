@@ -1,7 +1,9 @@
-//! Files, standard streams, sockets and any other reader or writer of std, all by one generic wrapper. Its clauses
-//! speak of every reader and writer, among them those whose bytes std says, so its body can't turn, drop or add a byte
-//! of any. Nobody counts the failures of a device. So no clause sees that a device is called once, nor that its failure
-//! isn't returned as its end. That is tested by readers and writers that fail once.
+//! One generic wrapper for files, standard streams, sockets and every other reader or writer of std. Its clauses hold
+//! for every reader and writer, including those whose bytes std's contracts show. So its body can't change, drop or add
+//! a byte.
+//!
+//! Nothing counts a device's failures. So no clause shows that a device is called only once, or that its failure isn't
+//! returned as the end of the stream. Tests check both with readers and writers that fail once.
 ghost use Rattle.std.specs.Prelude.{◌<◌, length, None};
 ghost use Rattle.std.specs.Io.{ReadsAtMost, WritesAtMost};
 ghost use Rattle.byte_streams.specs.Streams.{only_left, only_held, ReadGave, WriteTook, FlushTook};
@@ -9,11 +11,11 @@ ghost use Rattle.byte_streams.specs.Streams.{only_left, only_held, ReadGave, Wri
 use crate::{Failed, Sink, Source};
 use std::io::{Read, Write};
 
-/// A reader or writer of std. Of it the bytes are known that std says, and no failures.
+/// A reader or writer of std. Its state has the bytes that std's contracts show, and no count of failures.
 #[derive(Debug, Drop)]
 pub struct Uncounted<T>(pub T);
 
-// One call of std's, with no second try: an interrupted one has failed too.
+// Calls std once and never retries. An interrupted call is a failure too.
 fn read_from<R: Read>(reader: &mut R, buf: &mut [u8]) -> Result<usize, Failed>
     requires { 0 < length buf.old }
     ensures bound { ReadsAtMost result buf.new }

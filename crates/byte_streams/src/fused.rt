@@ -1,5 +1,5 @@
-//! Sources and sinks over memory that fail at a chosen byte, for the tests of the crates above. Their
-//! counts are fields, so all is known of them that can be known of a stream.
+//! Sources and sinks over memory that fail at a chosen byte, for the tests of the crates that use this one. Their
+//! counts are fields, so their states have every part.
 ghost use Rattle.std.specs.Prelude.{◌≡◌, ◌-◌, ◌^◌, ◌<◌, ◌≤◌, true, false, take, drop, length, IfOk, OnOk, IsErr, IsTrue, ◌↔◌, vec_len, vec_capacity, if◌then◌else◌};
 ghost use Rattle.std.specs.Io.{ReadsAtMost, WritesAtMost};
 ghost use Rattle.byte_streams.specs.Streams.{ReadGave, WriteTook, FlushTook, IsRefusal};
@@ -10,7 +10,7 @@ use crate::{Failed, Sink, Source};
 use std::alloc::{AllocError, Allocator, Global};
 use std::marker::Model;
 
-/// A source over memory that gives its bytes in small pieces, and fails once so many were given.
+/// A source over memory that gives its bytes in small pieces, and fails after a chosen number of them.
 #[derive(Drop)]
 pub struct FusedSource<A: Allocator = Global> {
     bytes: Vec<u8, A>,
@@ -37,8 +37,8 @@ impl<A: Allocator> Model for FusedSource<A> {
 }
 
 impl<A: Allocator> FusedSource<A> {
-    /// A source of `bytes` whose reads give at most `piece` bytes each, and fail once `passes` bytes
-    /// were given. Where the bytes end before that, a read gives 0.
+    /// Returns a source of `bytes` whose reads give at most `piece` bytes each. After `passes` bytes, every read fails.
+    /// If `bytes` has fewer than `passes` bytes, a read after the last of them returns 0.
     pub fn new(bytes: Vec<u8, A>, passes: usize, piece: usize) -> Self
         requires { 1 ≤ piece }
         ensures { result ≡ fresh_source bytes.items passes piece }
@@ -70,7 +70,7 @@ impl<A: Allocator> Source for FusedSource<A> {
         ensures again { IfOk result
             (λ n. 0 < n → (self.new.failures < 2 ^ 64 - 1) × (self.new.ends < 2 ^ 64 - 1)) }
 
-        // What each read does, to the byte.
+        // Exactly what each read returns and does.
         ensures answer { result ≡ read_answer self.old (length buf.old) }
         ensures after { self.new ≡ after_read self.old (length buf.old) }
     {
@@ -91,8 +91,7 @@ impl<A: Allocator> Source for FusedSource<A> {
     }
 }
 
-/// A sink over memory that takes its bytes in small pieces, and fails once it has so many, or then
-/// takes nothing.
+/// A sink over memory that takes its bytes in small pieces. After a chosen number of bytes it fails, or takes no more.
 #[derive(Drop)]
 pub struct FusedSink<A: Allocator = Global> {
     held: Vec<u8, A>,
@@ -118,8 +117,8 @@ impl<A: Allocator> Model for FusedSink<A> {
 }
 
 impl<A: Allocator> FusedSink<A> {
-    /// A sink with room for `passes` bytes, whose writes take at most `piece` bytes each. Once it has
-    /// `passes` bytes, each write and each flush fails.
+    /// Returns a sink with capacity for `passes` bytes, whose writes take at most `piece` bytes each. When it has
+    /// `passes` bytes, every write and every flush fails. Returns an error if out of memory.
     pub fn new(alloc: A, passes: usize, piece: usize) -> Result<Self, AllocError>
         requires { 1 ≤ piece }
         ensures { IfOk result (λ sink. sink ≡ fresh_sink passes piece true) }
@@ -133,7 +132,7 @@ impl<A: Allocator> FusedSink<A> {
         })
     }
 
-    /// The same sink, but once it has `passes` bytes a write takes none, and a flush passes.
+    /// Like [`FusedSink::new`], but when the sink has `passes` bytes, a write takes no bytes and a flush succeeds.
     pub fn stopped(alloc: A, passes: usize, piece: usize) -> Result<Self, AllocError>
         requires { 1 ≤ piece }
         ensures { IfOk result (λ sink. sink ≡ fresh_sink passes piece false) }
@@ -143,7 +142,7 @@ impl<A: Allocator> FusedSink<A> {
         Ok(sink)
     }
 
-    /// The bytes that it took.
+    /// The bytes that the sink took.
     pub fn held(&self) -> &[u8]
         ensures { result.now ≡ self.now.held }
     {
@@ -170,7 +169,7 @@ impl<A: Allocator> Sink for FusedSink<A> {
         ensures again { IfOk result
             (λ n. ¬ IsRefusal n buf.now → self.new.setbacks < 2 ^ 64 - 1) }
 
-        // What each write does, to the byte.
+        // Exactly what each write returns and does.
         ensures answer { result ≡ write_answer self.old buf.now }
         ensures after { self.new ≡ after_write self.old buf.now }
     {

@@ -1,5 +1,6 @@
-//! Sources and sinks whose bytes and failures contracts know. Of std's `Read` and `Write` they know no failures; of a
-//! [`Source`] and a [`Sink`] both stand in one value, their state, each part where it is known.
+//! Sources and sinks whose bytes and failures are visible to the contracts. The contracts of std's `Read` and `Write`
+//! show no failures. A [`Source`] or a [`Sink`] has a state that describes both its bytes and its failures. Each part
+//! of the state is optional, because not every stream shows it to the contracts.
 //!
 //! ```text
 //!   &[u8]   Uncounted(file, stdin, socket)          Vec   Uncounted(file, stdout, socket)
@@ -10,14 +11,18 @@
 //! ```
 //!
 //! What it promises:
-//! - What a call does is one relation from the state before to the state after (`Gave`, `Took`), which composes.
-//! - [`fill`] fills a buffer with the next bytes, or says whether a read failed or the stream ended, and after how many.
-//! - [`put`] writes a text, or says how many of its bytes went out; it stops only where a write failed or took nothing.
-//! - [`FusedSource`] and [`FusedSink`], which fail at a chosen byte, are known whole; of a device nothing is known.
-//! - A flush that ends well leaves no byte waiting, where it is known which do, as of a [`BufferedSink`].
+//! - What a call does is one relation from the state before to the state after (`Gave`, `Took`). These relations
+//!   compose.
+//! - [`fill`] fills a buffer with the next bytes. Otherwise, it reports whether a read failed or the stream ended, and
+//!   after how many bytes.
+//! - [`put`] writes a whole text, or reports how many bytes the sink took. It stops early only if a write failed or
+//!   took nothing.
+//! - [`FusedSource`] and [`FusedSink`] fail at a chosen byte. Their contracts show everything about them, those of a
+//!   device nothing.
+//! - After a flush that succeeds, no byte waits in a sink that shows which bytes wait, as a [`BufferedSink`] does.
 //!
-//! Where to start a change: `specs/Streams` for what is known of a stream and what a call does to it, with the traits in
-//! `traits`; `memory` and `devices` for a new kind of stream; `transfer` for the loops.
+//! To change what the contracts show of a stream, or what a call does to it, start with `specs/Streams` and the traits
+//! in `traits`. To add a new kind of stream, see `memory` and `devices`. The loops are in `transfer`.
 #![tactic(auto)]
 
 mod devices;

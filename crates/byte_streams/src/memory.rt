@@ -1,5 +1,5 @@
-//! Bytes in memory. A slice never fails. A vector fails only where its growth is refused, and keeps
-//! no count of that. A sink over a vector knows which of its bytes wait for a flush.
+//! Streams over memory. Reading from a slice never fails. Writing to a `Vec` fails only if it can't grow, and nothing
+//! counts these failures. A [`BufferedSink`] shows which of its bytes wait for a flush.
 ghost use Rattle.std.specs.Prelude.{◌≡◌, ◌+◌, ◌<◌, ◌≤◌, take, drop, length, Some, None, IsOk, IfOk, OnOk, OnErr, vec_len, vec_capacity};
 ghost use Rattle.std.specs.Io.{WritesAtMost};
 ghost use Rattle.byte_streams.specs.Streams.{only_held, WriteTook, FlushTook, IsFlushed};
@@ -28,7 +28,7 @@ impl<A: Allocator> Sink for Vec<u8, A> {
         ensures took { WriteTook result buf.now (only_held (Some self.old.items))
             (only_held (Some self.new.items)) }
 
-        // It takes the whole buffer, and fails only where it has no room for it.
+        // A write takes the whole buffer. It fails only if the vector's capacity is too small for it.
         ensures whole { IfOk result (λ n. n ≡ length buf.now) }
         ensures full { OnErr result
             (vec_capacity self.old < vec_len self.old + length buf.now) }
@@ -47,7 +47,7 @@ impl<A: Allocator> Sink for Vec<u8, A> {
     }
 }
 
-/// A sink over a vector whose bytes wait until it is flushed, for the tests of the crates above.
+/// A sink over a vector whose bytes wait until it is flushed, for the tests of the crates that use this one.
 #[derive(Drop)]
 pub struct BufferedSink<A: Allocator = Global> {
     held: Vec<u8, A>,
@@ -63,7 +63,7 @@ impl<A: Allocator> Model for BufferedSink<A> {
 }
 
 impl<A: Allocator> BufferedSink<A> {
-    /// A sink that has taken these bytes, all of which wait.
+    /// Returns a sink that took these bytes, all of which wait for a flush.
     pub fn new(held: Vec<u8, A>) -> Self
         ensures { result ≡ record { held = held.items; flushed = 0; capacity = vec_capacity held } }
     {
@@ -88,7 +88,7 @@ impl<A: Allocator> Sink for BufferedSink<A> {
         ensures took { WriteTook result buf.now (only_held (Some self.old.held))
             (only_held (Some self.new.held)) }
 
-        // It takes the whole buffer, which then waits, and fails only where it has no room for it.
+        // A write takes the whole buffer, which then waits. It fails only if the vector's capacity is too small for it.
         ensures whole { IfOk result (λ n. n ≡ length buf.now) }
         ensures waits { self.new.flushed ≡ self.old.flushed }
         ensures full { OnErr result

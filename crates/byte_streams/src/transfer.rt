@@ -1,11 +1,11 @@
-//! Whole buffers, in and out: loops over `read` and `write` that stop at the first setback.
+//! Reads and writes of whole buffers: loops over `read` and `write` that stop at the first error.
 ghost use Rattle.std.specs.Prelude.{◌<◌, length, IsOk, IfErr, OnOk};
 ghost use Rattle.byte_streams.specs.Streams.{FillGave, EndsOkWhereLeft, Took, WentOut, HadNoSetback};
 
 use crate::{Failed, Sink, Source};
 use thiserror::Error;
 
-/// Why [`fill`] didn't fill its buffer, with the number of bytes that had come by then.
+/// Why [`fill`] didn't fill its buffer, with the number of bytes that had been read by then.
 #[derive(Clone, Copy, Debug, PartialEq, Eq, Error)]
 pub enum FillFault {
     /// A read failed.
@@ -17,7 +17,7 @@ pub enum FillFault {
     Ended(usize),
 }
 
-/// A write failed, or took no byte of what was left.
+/// A write failed, or took none of the bytes that were left.
 #[derive(Clone, Copy, Debug, PartialEq, Eq, Error)]
 #[error("write failed after {written} bytes")]
 pub struct PutFault {
@@ -27,16 +27,16 @@ pub struct PutFault {
 
 /// Fills the whole of `buf` with the next bytes of the source.
 ///
-/// An empty `buf` is full: nothing is read then. After a fault the bytes that came stand at the
-/// beginning of `buf`, and what is behind them may have changed. At most one read for each byte, and no
-/// second try after a failed one; takes no memory.
+/// If `buf` is empty, it reads nothing. After an error, the bytes that were read are at the beginning of `buf`, and the
+/// bytes after them may have changed. Makes at most one read per byte, doesn't retry a failed read, and allocates
+/// nothing.
 pub fn fill<S: Source>(source: &mut S, buf: &mut [u8]) -> Result<(), FillFault>
     requires { S.can_read source.old }
 
-    // What came; a failure and an end are told apart, and each is counted once.
+    // What was read. A failure and an end are different errors, and each is counted once.
     ensures gave { FillGave result buf.new (S.state source.old) (S.state source.new) }
 
-    // A source that has the bytes and doesn't fail fills the buffer.
+    // If the source has enough bytes and doesn't fail, the buffer is filled.
     ensures ends_ok { EndsOkWhereLeft (length buf.new) (S.state source.old) (S.state source.new) result }
 
     ensures lasts { (fact : S.Fact) → S.lasts source.old fact → S.lasts source.new fact }
@@ -55,8 +55,8 @@ pub fn fill<S: Source>(source: &mut S, buf: &mut [u8]) -> Result<(), FillFault>
 
 /// Writes the whole of `field`.
 ///
-/// An empty `field` is out: nothing is written then. At most one write for each byte, and no second
-/// try after a setback; flushes nothing and takes no memory.
+/// If `field` is empty, it writes nothing. Makes at most one write per byte, and doesn't retry after a setback. It
+/// never flushes and allocates nothing.
 pub fn put<W: Sink>(sink: &mut W, field: &[u8]) -> Result<(), PutFault>
     requires { W.can_write sink.old }
 
@@ -65,7 +65,7 @@ pub fn put<W: Sink>(sink: &mut W, field: &[u8]) -> Result<(), PutFault>
         (W.state sink.old) (W.state sink.new)) }
     ensures short { IfErr result (λ fault. fault.written < length field.now) }
 
-    // A sink that has no setback takes the field.
+    // If the sink has no setback, it takes the whole field.
     ensures ends_ok { HadNoSetback (W.state sink.old) (W.state sink.new) → IsOk result }
 
     ensures again { OnOk result (W.can_write sink.new) }

@@ -1,4 +1,4 @@
--- The seats of a board hold different shards.
+-- The seats of a board own different shards.
 use Rattle.std.proofs.Common.{◌≡◌, ◌≢◌, ℕ, suc, ◌+◌, ◌-◌, ◌<◌, List, [], ◌∷◌, ◌++◌, length, get_or, refl, sym, subst, subst₂, inl, inr, arith, length-append}
 use Rattle.std.specs.Prelude.{AllPairs, Contains, Option, Some, slice_get}
 use Rattle.std.proofs.lemmas.Bool.{cases_lt}
@@ -9,7 +9,7 @@ use Rattle.claim_board.specs.Machine.{IsRun, of_seat, held}
 use Rattle.claim_board.specs.State.{SeatState, all_held, CameFromRun}
 use Rattle.claim_board.proofs.Held.{held_by_one_seat, held_once}
 
--- two lists whose elements are apart, and none of them in both
+-- two lists, each without repeats, that have no element in common
 apart_append : (xs ys : List ℕ) → AllPairs (λ a b. a ≢ b) xs → AllPairs (λ a b. a ≢ b) ys → ((s : ℕ) → Contains xs s → ¬ (Contains ys s)) → AllPairs (λ a b. a ≢ b) (xs ++ ys)
 apart_append xs ys xs_apart ys_apart across i j d lt within = elim (cases_lt j (length xs)) [
   | inl j_left ↦ subst₂ (λ a b. a ≢ b) (sym (get_or_append_left xs ys d i (omega arith))) (sym (get_or_append_left xs ys d j j_left)) (xs_apart i j d lt j_left)
@@ -26,7 +26,7 @@ apart_append xs ys xs_apart ys_apart across i j d lt within = elim (cases_lt j (
       ]
 ]
 
--- each of these is the seat of its number, from n on
+-- each of these is the seat of its number, and the numbers begin at n
 abbrev AreOf : List Event → ℕ → List SeatState → Type 0
 AreOf run n seats = (i : ℕ) (seat : SeatState) → slice_get seats i ≡ Some seat → of_seat (n + i) run ≡ seat.events
 
@@ -36,7 +36,7 @@ first_of run n seat seats are = let same : n + 0 ≡ n = omega arith in subst (�
 others_of : (run : List Event) (n : ℕ) (seat : SeatState) (seats : List SeatState) → AreOf run n (seat ∷ seats) → AreOf run (n + 1) seats
 others_of run n seat seats are i other at = let same : n + suc i ≡ n + 1 + i = omega arith in subst (λ k. of_seat k run ≡ other.events) same (are (suc i) other at)
 
--- a shard that they hold is in the list of one of their numbers
+-- a shard that one of these seats owns is in the list of its number
 holder : (run : List Event) (n : ℕ) (seats : List SeatState) → AreOf run n seats → (s : ℕ) → Contains (all_held seats) s → (i : ℕ) × Contains (held (of_seat (n + i) run)) s
 holder run n [] are s has = absurd (omega (arith, has.1))
 holder run n (seat ∷ seats) are s has = elim (Contains-append_cases (held seat.events) (all_held seats) s has) [
@@ -47,7 +47,8 @@ holder run n (seat ∷ seats) are s has = elim (Contains-append_cases (held seat
       (suc rest.0, subst (λ k. Contains (held (of_seat k run)) s) same rest.1)
 ]
 
--- Seat by seat: a seat's list has each shard once, and no later seat has one of them, as no two seats ever do.
+-- One seat after another: a seat's list has no repeats, and no later seat has a shard of it, because no two seats ever
+-- do.
 apart_from : (run : List Event) → IsRun run → (n : ℕ) (seats : List SeatState) → AreOf run n seats → AllPairs (λ a b. a ≢ b) (all_held seats)
 apart_from run is_run n [] are = λ i j d lt within. absurd (omega arith)
 apart_from run is_run n (seat ∷ seats) are =
@@ -61,7 +62,7 @@ apart_from run is_run n (seat ∷ seats) are =
     let same : n ≡ n + 1 + at.0 = held_by_one_seat run is_run n (n + 1 + at.0) s (subst (λ (es : List Event). Contains (held es) s) (sym first) mine) at.1 in
     omega (arith, same))
 
--- the seats of a board that was closed hold each shard once in all
+-- all lists of a closed board's seats together have no repeats
 pub closed_apart : (seats : List SeatState) (by_shard : List (Option ℕ)) → CameFromRun seats by_shard → AllPairs (λ a b. a ≢ b) (all_held seats)
 closed_apart seats by_shard came =
     apart_from came.run came.is_run 0 seats (λ i seat at. let same : i ≡ 0 + i = omega arith in subst (λ k. of_seat k came.run ≡ seat.events) same (came.events i seat at))

@@ -1,4 +1,4 @@
--- One bit for each shard: what a write of one bit does to all of them.
+-- One bit per shard: what writing one bit does to all bits.
 use Rattle.std.proofs.Common.{◌≡◌, ◌≢◌, ℕ, ◌*◌, ◌/◌, ◌%◌, ◌^◌, ◌-◌, ◌<◌, ◌≤◌, ◌==◌, ◌&&◌, ◌||◌, not, false, List, length, set, get_or, replicate, bit_or, bit_and, refl, ap, ◌∙◌, ⊎_elim, arith, w64, eq-eqb, ne_eqb, get_or-set_same, get_or-set_other}
 use Rattle.std.specs.Int.{bit_at}
 use Rattle.std.proofs.lemmas.Bool.{cases_eq, cases_lt}
@@ -12,7 +12,7 @@ zeros n k = ⊎_elim (λ (h : k < n). get_or-replicate {A = ℕ} n k 0 0 h) (λ 
 pub has-empty : (shard : ℕ) → has_shard (replicate 64 0) shard ≡ false
 has-empty shard = ap (λ word. bit_at word (shard % 64) == 1) (zeros 64 (shard / 64)) ∙ ap (λ bit. bit == 1) (bit_at-zero (shard % 64))
 
--- the word with the bit of the shard set, and cleared
+-- the word with the shard's bit set, and the word with it cleared
 abbrev pub word_with : ℕ → ℕ → ℕ
 word_with word shard = bit_or word (1 * 2 ^ (shard % 64) % 18446744073709551616)
 
@@ -26,7 +26,7 @@ module _ (bits : List ℕ) (shard s : ℕ) (len : length bits ≡ 64) (below : s
   small : (k : ℕ) → k % 64 < 64
   small k = omega arith
 
-  -- two shards with the same word have different bits
+  -- two shards in the same word have different bits
   other_bit : s ≢ shard → s / 64 ≡ shard / 64 → s % 64 ≢ shard % 64
   other_bit apart same bit = apart (omega arith)
 

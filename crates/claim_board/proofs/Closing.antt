@@ -48,7 +48,7 @@ got_within (x ∷ xs) zero h = (x, refl)
 got_within (x ∷ xs) (suc i) h = got_within xs i (omega arith)
 
 module _ (key : Size) (row : List ℕ) (views : List View) (rule : AgreesWithRun key row views) where
-  -- a word is 0 or of a seat
+  -- a word is 0 or encodes a seat
   pub word_within : (most shard : ℕ) → key.seats ≤ most → slice_index row shard ≤ most
   word_within most shard few = subst (λ n. n ≤ most) (sym (rule.words shard)) (of_owner (owner rule.run shard) refl)
     where
@@ -67,7 +67,7 @@ module _ (key : Size) (row : List ℕ) (views : List View) (rule : AgreesWithRun
     owners = λ shard. owner_in_is row shard ∙ ap owner_of_word (rule.words shard) ∙ owner_of_word_of (owner rule.run shard);
   }
 
--- where owners and seats came from one run, the owner is the seat whose list has the shard
+-- if owners and seats came from one run, the owner of a shard is the seat whose list has it
 pub owners_are : (seats : List SeatState) (by_shard : List (Option ℕ)) → CameFromRun seats by_shard → (shard number : ℕ) → (owner_in by_shard shard ≡ Some number) ↔ IsHeldBy seats number shard
 owners_are seats by_shard came shard number = (there, back)
   where
@@ -87,7 +87,7 @@ owners_are seats by_shard came shard number = (there, back)
     back : IsHeldBy seats number shard → owner_in by_shard shard ≡ Some number
     back h = came.owners shard ∙ Some-owns number (owner came.run shard) (agrees h.0 h.1 ∙ (among_decides shard (held h.0.events)).1 h.2)
 
--- the view of the token that all others were joined to
+-- the view of the token to which all others were joined
 pub kept_view : (kept token : Me (Unit {0}) View) (last : SeatState) (rest seats : List SeatState) → seats ≡ rest ++ last ∷ [] → token ≡ (lone token.0.size last.number last.events, [])
     → kept ≡ (several kept.0.size 0 (map (λ (seat : SeatState). seat.events) rest ++ token.0.lists), [])
     → kept.0 ≡ several kept.0.size 0 (map (λ (seat : SeatState). seat.events) seats)

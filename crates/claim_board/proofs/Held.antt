@@ -1,4 +1,4 @@
--- Laws of runs: one owner for each shard, and each shard once in its list.
+-- Laws of runs: each shard has one owner, and is in its owner's list once.
 use Rattle.std.proofs.Common.{◌≡◌, ◌≢◌, ℕ, ◌<◌, ◌≤◌, ◌==◌, not, cond, Bool, true, false, List, [], ◌∷◌, ◌++◌, AllPairs, Contains, refl, sym, ap, ◌∙◌, subst, ⊎_elim, arith, append_assoc, append-nil}
 use Rattle.std.proofs.lemmas.Bool.{eq-eqb, cases_lt}
 use Rattle.std.proofs.lemmas.List.Elements.{Contains-get_or, Contains-append_cases, Contains-append_right, Contains-push_cases}
@@ -24,7 +24,7 @@ held_by_one_seat run is_run one other shard first second =
 
 -- ---- each shard once
 
--- a won shard was in no list, so it stands once
+-- a shard that is won was in no list, so now it occurs once
 next_once : (run : List Event) (event : Event) (seat : ℕ) (b : Bool) → (seat_of event == seat) ≡ b → IsRun run → IsAllowed run event
     → AllPairs (λ a b. a ≢ b) (held (of_seat seat run)) → AllPairs (λ a b. a ≢ b) (held (of_seat seat run ++ cond b (event ∷ []) []))
 next_once run event seat false is is_run allowed old = subst (λ (es : List Event). AllPairs (λ a b. a ≢ b) (held es)) (sym (append-nil (of_seat seat run))) old
@@ -39,7 +39,6 @@ next_once run (Turned by of to) seat true is is_run allowed old = subst (AllPair
 next_once run (GiveBack by of) seat true is is_run allowed old = subst (AllPairs (λ a b. a ≢ b)) (sym (held-push (of_seat seat run) (GiveBack by of)))
     (AllPairs-filter (λ a b. a ≢ b) (λ s. not (s == of)) (held (of_seat seat run)) old)
 
--- the first part of a run is one
 IsRun-front : (run later : List Event) → IsRun (run ++ later) → IsRun run
 IsRun-front run later is before event rest e = is before event (rest ++ later) (ap (λ es. es ++ later) e ∙ append_assoc before (event ∷ rest) later)
 
@@ -65,7 +64,7 @@ still_there false first event events has = has
 first_there : (first event : Event) (events : List Event) → first ≡ event → Contains (cond (seat_of first == seat_of event) (first ∷ events) events) event
 first_there first event events is = rw (is, eq-eqb (seat_of event) (seat_of event) refl) (0, omega arith, refl)
 
--- an event of a run is one of its seat's
+-- an event of a run is one of its seat's events
 of_own : (run : List Event) (event : Event) → Contains run event → Contains (of_seat (seat_of event) run) event
 of_own [] event has = let k = has.1 in absurd (omega arith)
 of_own (first ∷ run) event has =

@@ -1,4 +1,4 @@
--- A shard among the shards of a list, and places in lists.
+-- A shard in a list of shards, and indices of lists.
 use Rattle.std.proofs.Common.{◌≡◌, ◌⊎◌, ℕ, zero, suc, ◌<◌, ◌==◌, ◌&&◌, ◌||◌, not, Bool, true, false, List, [], ◌∷◌, ◌++◌, length, get_or, replicate, Contains, Decides, filter, cond, refl, sym, ap, ap₂, ◌∙◌, subst, inl, inr, ⊎_elim, arith, append-nil, ne_eqb}
 use mathlib.Core.Option.{some, some-ne-none, some-injective}
 use lib.ListN.{get_elem?}
@@ -25,11 +25,11 @@ among-push shard new shards = search (arith, list_any-append)
 and_false : (b : Bool) → (b && false) ≡ false
 and_false a1 = search arith
 
--- the shard that is left out is not found, whatever stands there
+-- the shard that is removed isn't found, whatever else is in the list
 left_out : (shard gone : ℕ) (rest b : Bool) → (gone == shard) ≡ b → (not (shard == gone) && rest) ≡ (not (shard == gone) && (b || rest))
 left_out a1 a2 a3 a4 a5 = search (arith, eq-eqb, eqb-true)
 
--- another shard is found where it stands
+-- another shard is found exactly if it was in the list
 left_in : (shard gone s : ℕ) (rest b : Bool) → (s == gone) ≡ false → (s == shard) ≡ b → (b || (not (shard == gone) && rest)) ≡ (not (shard == gone) && (b || rest))
 left_in a1 a2 a3 a4 a5 a6 a7 = search (arith, eqb-true)
 
@@ -41,25 +41,25 @@ pub among-filter : (shard gone : ℕ) (shards : List ℕ) → among shard (filte
 among-filter shard gone [] = sym (and_false (not (shard == gone)))
 among-filter shard gone (s ∷ ss) = filter_step shard gone s ss (s == gone) (among-filter shard gone ss) refl
 
--- a list without the shard stays as it is when the shard is taken out of it
+-- removing a shard that isn't in the list changes nothing
 filter_absent : (shard : ℕ) (shards : List ℕ) → ¬ (Contains shards shard) → filter (λ s. not (s == shard)) shards ≡ shards
 filter_absent shard [] absent = refl
 filter_absent shard (s ∷ ss) absent =
     ap (λ b. cond (not b) (s ∷ filter (λ x. not (x == shard)) ss) (filter (λ x. not (x == shard)) ss)) (ne_eqb s shard (λ same. absent (0, omega arith, same)))
     ∙ ap (λ xs. s ∷ xs) (filter_absent shard ss (λ has. absent (suc has.0, omega (arith, has.1), has.2)))
 
--- and a list with the shard behind it becomes that list again
+-- if a shard is appended to such a list and then removed, the list is as before
 pub taken_out : (shard : ℕ) (before : List ℕ) → ¬ (Contains before shard) → filter (λ s. not (s == shard)) (before ++ shard ∷ []) ≡ before
 taken_out shard before absent = search (arith, filter-append, not, ap₂, filter_absent, cond, eq-eqb, append-nil)
 
--- ---- places
+-- ---- indices
 
 pub at_within : {A : Type 0} (l : List A) (i : ℕ) (a : A) → get_elem? l i ≡ some a → i < length l
 at_within [] i a e = absurd (some-ne-none a (sym e))
 at_within (x ∷ xs) zero a e = omega arith
 at_within (x ∷ xs) (suc i) a e = let h = at_within xs i a e in omega arith
 
--- one element more stands at the place after the others
+-- an appended element has the index after the last
 pub at_end : {A : Type 0} (l : List A) (a b : A) (i : ℕ) → get_elem? (l ++ a ∷ []) i ≡ some b → (get_elem? l i ≡ some b) ⊎ ((i ≡ length l) × (a ≡ b))
 at_end [] a b zero e = inr (refl, some-injective a b e)
 at_end [] a b (suc i) e = absurd (some-ne-none b (sym e))

@@ -1,4 +1,4 @@
--- The rule as the board opens, and as seats are split off and joined again. No event is added.
+-- The rule holds when the board is opened, and when seats are split off and joined again. None of this adds an event.
 use Rattle.std.proofs.Common.{◌≡◌, ◌≢◌, ℕ, zero, suc, ◌+◌, ◌≤◌, ◌==◌, cond, List, [], ◌∷◌, ◌++◌, length, set, replicate, get_or, take, length-take-le, refl, sym, ap, ◌∙◌, subst, ⊎_elim, arith, add-zero, length-set}
 use Rattle.std.specs.Prelude.{slice_index}
 use mathlib.Core.Option.{some, some-ne-none, some-injective}
@@ -43,12 +43,13 @@ take_zeros (suc m) zero k = refl
 take_zeros (suc m) (suc n) zero = refl
 take_zeros (suc m) (suc n) (suc k) = take_zeros m n k
 
--- as many words of a row of zeros as there are shards
+-- a list of as many zeros as there are shards
 pub begins_free : (size : Size) (most : ℕ) → size.shards ≤ most → AgreesWithRun size (take size.shards (replicate most 0)) (opener size ∷ [])
 begins_free size most few = begins size (take size.shards (replicate most 0)) (length-take-le size.shards (replicate {A = ℕ} most 0) (rw (length-replicate {A = ℕ}) few)) (take_zeros size.shards most)
 
 -- ---- a seat is split off
--- The run and the words stay. The first number of the view goes to a new place, behind all views; the others keep theirs.
+-- The run and the words stay the same. The view's first number gets a new index, after all views.
+-- The indices of the other numbers stay the same.
 
 module _ (key size : Size) (row : List ℕ) (views : List View) (rule : AgreesWithRun key row views) (id first : ℕ) (events : List Event)
     (rest : List (List Event)) (at : get_elem? views id ≡ some (several size first (events ∷ rest))) where
@@ -61,7 +62,7 @@ module _ (key size : Size) (row : List ℕ) (views : List View) (rule : AgreesWi
   first_known : (rule.place first ≡ id) × (of_seat first rule.run ≡ events) × (size ≡ key)
   first_known = rule.known id (several size first (events ∷ rest)) first events at (0, sym (add-zero first), refl)
 
-  -- another number than the first stays where it was
+  -- a number other than the first keeps its index
   stays : (number : ℕ) → number ≢ first → place_after number ≡ rule.place number
   stays number apart = ap (λ b. cond b (length views) (rule.place number)) (ne_eqb number first apart)
 
@@ -153,8 +154,8 @@ pub split_allowed : (key : Size) (id : ℕ) (view : View) (events : List Event) 
 split_allowed key id view events rest is = search (arith, splits)
 
 -- ---- a seat is joined
--- The run and the words stay. The one number of the joined view goes to the place of the kept view, before that view's
--- numbers; the joined view is left with none.
+-- The run and the words stay the same. The joined view's only number gets the index of the kept view, where it comes
+-- before that view's numbers. The joined view is left without numbers.
 
 module _ (key : Size) (v : View) (size : Size) (first : ℕ) (events : List Event) (row : List ℕ) (views : List View) (rule : AgreesWithRun key row views) (id other : ℕ)
     (before : first + 1 ≡ v.first) (at : get_elem? views id ≡ some v) (apart : ¬ (other ≡ id)) (there : get_elem? views other ≡ some (lone size first events)) where
@@ -217,7 +218,7 @@ module _ (key : Size) (v : View) (size : Size) (first : ℕ) (events : List Even
       (cases_eq (rule.place number) id)))
       (cases_eq number first)
     where
-      -- the joined seat had its first number alone
+      -- the joined seat had only its first number
       at_other : number ≢ first → rule.place number ≡ other → IsSeatedAt joined (rule.place number) number
       at_other later here =
           let view_is : lone size first events ≡ old.0 = some-injective (lone size first events) old.0 (sym there ∙ ap (get_elem? views) (sym here) ∙ old.2) in

@@ -1,4 +1,4 @@
--- Seats in a row, each under the number that is its place, and the view of a token as they are dealt and gathered.
+-- Lists of seats whose numbers are their indices, and the view of a token when seats are dealt and gathered.
 use Rattle.std.proofs.Common.{◌≡◌, ◌⊎◌, ℕ, zero, suc, ◌+◌, ◌-◌, ◌<◌, List, [], ◌∷◌, ◌++◌, All, length, replicate, Some, slice_get, refl, sym, ap, ◌∙◌, subst, inl, inr, ⊎_elim, arith}
 use Rattle.std.proofs.lemmas.List.Elements.{All-push}
 use Rattle.atomic_table.specs.Table.{Me, Joins}
@@ -12,7 +12,7 @@ use Rattle.claim_board.specs.Kept.{InOrderAt}
 use Rattle.claim_board.proofs.Steps.{Rules}
 use Rattle.claim_board.proofs.Places.{join_allowed}
 
--- ---- one seat more in the row, or one less
+-- ---- one seat is added or removed
 
 pub get_end : {A : Type 0} (l : List A) (a b : A) (i : ℕ) → slice_get (l ++ a ∷ []) i ≡ Some b → (slice_get l i ≡ Some b) ⊎ ((i ≡ length l) × (a ≡ b))
 get_end [] a b zero e = inr (refl, cc)
@@ -45,7 +45,7 @@ pub InOrderAt-last : (table : TableId) (seats whole : List SeatState) (seat : Se
     → InOrderAt table whole → (seat.board.table ≡ table) × (seat.number ≡ length seats)
 InOrderAt-last table seats whole seat is old = old (length seats) seat (ap (λ l. slice_get l (length seats)) is ∙ get_last seats seat)
 
--- ---- the view as seats are dealt
+-- ---- the view when seats are dealt
 
 replicate-step : {A : Type 0} (n : ℕ) (a : A) → 0 < n → replicate n a ≡ a ∷ replicate (n - 1) a
 replicate-step a1 a2 a3 = search arith
@@ -57,7 +57,7 @@ module _ (me : Me (Unit {0}) View) (n count : ℕ) (is : me ≡ (several me.0.si
   pub dealt : (after : Me (Unit {0}) View) (next : ℕ) → after ≡ (without_first me.0, me.1) → next ≡ n + 1 → after ≡ (several after.0.size next (replicate (count - 1) []), [])
   dealt after next after_is next_is = search (arith, replicate, replicate-step)
 
--- ---- the view as seats are gathered
+-- ---- the view when seats are gathered
 
 module _ (kept token : Me (Unit {0}) View) (number : ℕ) (events : List Event) (first : ℕ) (kept_is : kept ≡ (several kept.0.size first kept.0.lists, []))
     (token_is : token ≡ (lone token.0.size number events, [])) where

@@ -1,4 +1,4 @@
--- Runs of the machine: one event more, and that the owner of a shard is the seat whose list has it.
+-- Runs of the machine: adding one event, and that the owner of a shard is the seat whose list has it.
 use Rattle.std.proofs.Common.{◌≡◌, ◌≢◌, ◌⊎◌, ℕ, ◌==◌, ◌||◌, not, cond, Bool, true, false, List, [], ◌∷◌, ◌++◌, Option, Some, None, refl, sym, ap, ◌∙◌, subst, inl, inr, ⊎_elim, append_assoc, append-nil, arith}
 use Rattle.std.proofs.lemmas.Bool.{eqb-true, eqb-false, eq-eqb, ne_eqb}
 use Rattle.std.proofs.lemmas.Grind.{fold-append}
@@ -9,7 +9,7 @@ use Rattle.claim_board.specs.Machine.{seat_of, owner_after, owner, IsAllowed, Is
 use Rattle.claim_board.specs.Kept.{among}
 use Rattle.claim_board.proofs.Lists.{among-push, among-filter}
 
--- ---- one event more
+-- ---- adding one event
 
 pub owner-push : (run : List Event) (event : Event) (shard : ℕ) → owner (run ++ event ∷ []) shard ≡ owner_after shard (owner run shard) event
 owner-push run event shard = fold-append (owner_after shard) None run (event ∷ [])
@@ -26,7 +26,7 @@ of_seat-mine seat run event is = of_seat-push seat run event ∙ ap (λ b. of_se
 pub of_seat-other : (seat : ℕ) (run : List Event) (event : Event) → seat_of event ≢ seat → of_seat seat (run ++ event ∷ []) ≡ of_seat seat run
 of_seat-other seat run event is = of_seat-push seat run event ∙ ap (λ b. of_seat seat run ++ cond b (event ∷ []) []) (ne_eqb (seat_of event) seat is) ∙ append-nil (of_seat seat run)
 
--- an event of a longer list is its last one, or one of those before
+-- an event of a longer list is its last event, or one of the earlier events
 last_or_before : (run before later : List Event) (last event : Event) → run ++ last ∷ [] ≡ before ++ event ∷ later
     → ((before ≡ run) × (event ≡ last)) ⊎ ((rest : List Event) × (run ≡ before ++ event ∷ rest))
 last_or_before [] [] later last event e = inl (refl, cc)
@@ -49,11 +49,10 @@ IsRun-none [] event later e = absurd (cc)
 IsRun-none (b ∷ bs) event later e = absurd (cc)
 
 -- ---- the owner of a shard is the seat whose list has it
--- The proof goes by one event at a time. A win makes its seat the owner of its shard and puts the shard at the end of
--- that seat's list; the shard had no owner, so by what held before it stood in no list. A seat that is turned away changes
--- neither. A give-back frees the shard and takes it out of the owner's list; every other list didn't have it.
+-- The proof is by induction on the events. A win makes its seat the owner of its shard, and appends the shard to that
+-- seat's list. The shard had no owner before, so by the induction hypothesis it was in no list. A failed claim changes
+-- neither owners nor lists. Giving a shard back frees it and removes it from the owner's list. No other list had it.
 
--- this seat is the owner
 abbrev pub owns : ℕ → Option ℕ → Bool
 owns seat None = false
 owns seat (Some other) = other == seat
@@ -61,7 +60,8 @@ owns seat (Some other) = other == seat
 pub Some-owns : (seat : ℕ) (now : Option ℕ) → owns seat now ≡ true → now ≡ Some seat
 Some-owns a1 a2 a3 = search (arith, eqb-true)
 
--- Each event keeps owners and lists in agreement. The event is at hand as two tests: b, that it is the seat's, and c, that it is of the shard
+-- Each event keeps owners and lists in agreement. The event is given as two tests: b says that it is the seat's, and c
+-- that it concerns the shard.
 abbrev Agree : List Event → ℕ → ℕ → Type 0
 Agree run seat shard = owns seat (owner run shard) ≡ among shard (held (of_seat seat run))
 

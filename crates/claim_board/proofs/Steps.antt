@@ -1,4 +1,4 @@
--- Each step of a seat keeps the rule: its event goes to the end of the run.
+-- Each step of a seat keeps the rule: its event is appended to the run.
 use Rattle.std.proofs.Common.{◌≡◌, ◌≢◌, ◌↔◌, ℕ, suc, ◌+◌, ◌-◌, ◌<◌, ◌≤◌, ◌==◌, cond, List, [], ◌∷◌, ◌++◌, length, set, Option, Some, None, Contains, refl, sym, ap, ◌∙◌, subst, ⊎_elim, arith, true≢false, add-one, add-zero, length-set, get_or-set_same, get_or-set_other}
 use Rattle.std.specs.Prelude.{slice_index}
 use mathlib.Core.Option.{some, none, some-injective}
@@ -22,13 +22,12 @@ use Rattle.claim_board.specs.Kept.{among, IsSeat}
 use Rattle.claim_board.proofs.Lists.{at_within, among_decides}
 use Rattle.claim_board.proofs.Runs.{owner-push, held-push, of_seat-mine, of_seat-other, IsRun-push, owns, Some-owns, owner_has}
 
--- the shard of an event
 abbrev pub shard_of : Event → ℕ
 shard_of (Win seat shard) = shard
 shard_of (Turned seat shard by) = shard
 shard_of (GiveBack seat shard) = shard
 
--- an event changes the owner of no other shard
+-- an event doesn't change the owner of another shard
 owner_other : (event : Event) (shard : ℕ) (now : Option ℕ) → shard_of event ≢ shard → owner_after shard now event ≡ now
 owner_other a1 a2 a3 a4 = search (arith, ne_eqb)
 
@@ -36,7 +35,7 @@ words_after : (run : List Event) (event : Event) (row : List ℕ) (shard new t :
     → new ≡ word_of (owner_after shard (owner run shard) event) → slice_index (set row shard new) t ≡ word_of (owner (run ++ event ∷ []) t)
 words_after run event row shard new t words of within is = search (arith, get_or-set_same, owner-push, get_or-set_other, owner_other, cases_eq)
 
--- a seat without events is no owner, so an owner is a seat of the board
+-- a seat without events owns nothing, so an owner is a seat of the board
 pub not_owner : (run : List Event) (shard seat : ℕ) → IsRun run → of_seat seat run ≡ [] → owner run shard ≡ Some seat → ⊥
 not_owner run shard seat is_run none_of is = true≢false (sym (eq-eqb seat seat refl) ∙ ap (owns seat) (sym is) ∙ owner_has run is_run seat shard ∙ ap (λ es. among shard (held es)) none_of)
 
@@ -44,7 +43,7 @@ pub owner_below : (size : Size) (row : List ℕ) (views : List View) (rule : Agr
 owner_below size row views rule shard other is =
     ⊎_elim (λ (h : other < size.seats). h) (λ (h : size.seats ≤ other). absurd (not_owner rule.run shard other rule.is_run (rule.others other h) is)) (cases_lt other size.seats)
 
--- a view of one number has that number alone
+-- a view of one number has no other number
 lone_knows : (size : Size) (seat number : ℕ) (events list : List Event) → Knows (lone size seat events) number list → (number ≡ seat) × (events ≡ list)
 lone_knows a1 a2 a3 a4 a5 a6 = search (arith, add-zero)
 
@@ -64,9 +63,9 @@ module _ (key size : Size) (row : List ℕ) (views : List View) (rule : AgreesWi
       (λ (apart : place ≢ id). (old.0, old.1, set_else views id place new apart ∙ old.2, old.3))
       (cases_eq place id)
 
-  -- The event goes to the end of the run. It is allowed there, and it changes the word of its shard alone, to what the
-  -- owner after it asks. Its seat's view gains it. A view at another place has other numbers, since each number has one
-  -- place, so the events of its numbers are as they were.
+  -- The event is appended to the run, where it is allowed. It changes only the word of its shard, to the word of the
+  -- new owner. The event is also appended in the view of its seat. A view at another index has other numbers, because
+  -- each number has only one index, so the events of its numbers stay the same.
   pub with_next : (event : Event) (shard new : ℕ) → seat_of event ≡ seat → shard_of event ≡ shard → seat < size.seats → shard < size.shards → IsAllowed rule.run event
       → new ≡ word_of (owner_after shard (owner rule.run shard) event) → AgreesWithRun key (set row shard new) (set views id (lone size seat (events ++ event ∷ [])))
   with_next event shard new by of seat_within shard_within allowed is = record {
@@ -91,7 +90,7 @@ module _ (key size : Size) (row : List ℕ) (views : List View) (rule : AgreesWi
         (λ e. let s : seat ≡ number = sym by ∙ e in let k : size.seats ≡ key.seats = ap (λ (s : Size). s.seats) mine.2 in absurd (omega arith)) ∙ rule.others number past;
   }
 
-  -- the seat is the owner where its list has the shard
+  -- the seat is the owner exactly if its list has the shard
   pub list_owner : (shard : ℕ) → owns seat (owner rule.run shard) ≡ among shard (held events)
   list_owner shard = owner_has rule.run rule.is_run seat shard ∙ ap (λ es. among shard (held es)) mine.1
 
@@ -99,12 +98,12 @@ module _ (key size : Size) (row : List ℕ) (views : List View) (rule : AgreesWi
   pub owner_within : (shard other : ℕ) → owner rule.run shard ≡ Some other → other < size.seats
   owner_within shard other is = subst (λ (s : Size). other < s.seats) (sym mine.2) (owner_below key row views rule shard other is)
 
--- ---- what the table asks of each step
+-- ---- what the table requires of each step
 
 abbrev pub Rules : Size → State (Unit {0}) View → Type 0
 Rules key s = AgreesWithRun key s.words s.views
 
--- where the word n was found, the step goes on
+-- the step succeeds if the word n was found
 abbrev Goes : Size → State (Unit {0}) View → ℕ → Me (Unit {0}) View → ℕ → (ℕ → ℕ) → (ℕ → Me (Unit {0}) View → Type 0) → ℕ → Type 0
 Goes key s id me shard new then n = (w : View) × (a : Act (Unit {0})) × Valid s.homes me.1 a × Rules key (stepped s shard (new n) id me.1 w a) × then n (w, carried_after me.1 a)
 
@@ -155,7 +154,7 @@ give_back_allowed key size slots id seat shard events seat_within shard_within h
       refl,
     )
 
--- the same at a view that is known to be of one number
+-- the same for a view that is known to have only one number
 pub claim_allowed_as : (key : Size) (slots id seat shard : ℕ) (me : Me (Unit {0}) View) → me ≡ (lone me.0.size seat (first_events me.0.lists), []) → seat < me.0.size.seats → shard < me.0.size.shards
     → Allows (Rules key) slots id me shard (λ n. either (n == 0) (seat + 1) n) (Claimed (step slots shard 0 (seat + 1) none) me)
 claim_allowed_as key slots id seat shard me alone seat_within shard_within =
@@ -169,14 +168,14 @@ give_back_allowed_as key slots id seat shard me alone seat_within shard_within h
     subst (λ m. Allows (Rules key) slots id m shard (λ n. either (n == (seat + 1)) 0 n) (GivenBack (step slots shard (seat + 1) 0 none) m)) (sym alone)
     (give_back_allowed key me.0.size slots id seat shard (first_events me.0.lists) seat_within shard_within has)
 
--- ---- what a step says, as the contracts put it
+-- ---- what a step shows, as the contracts put it
 
--- a seat after an event of its own, with the bits that go with it
+-- a seat after an event of its own, with the corresponding bits
 pub seat_after : (before after : Me (Unit {0}) View) (number : ℕ) (bits new : List ℕ) (event : Event) → IsSeat before number bits → after ≡ (with_event before.0 event, before.1)
     → ((shard : ℕ) → has_shard new shard ≡ among shard (held_after (held (first_events before.0.lists)) event)) → IsSeat after number new
 seat_after before after number bits new event is after_is agrees = search (arith, held-push)
 
--- the seat that held the shard is the caller's own where its list has it
+-- the seat that owned the shard is the caller's own exactly if its list has the shard
 pub claimed_own : (s : Step (Unit {0})) (before after : Me (Unit {0}) View) (found : ℕ) → found ≢ 0 → Claimed s before found after
     → ◌≡◌ {A = Claim} (Held (found - 1)) (Held before.0.first) ↔ Contains (held (first_events before.0.lists)) s.word
 claimed_own a1 a2 a3 a4 a5 a6 = search arith

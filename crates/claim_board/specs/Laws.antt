@@ -1,4 +1,4 @@
--- What every run of the board leaves.
+-- What is true of every run of the board.
 use Rattle.std.specs.Prelude.{◌≡◌, ◌≢◌, ◌↔◌, ℕ, List, [], ◌∷◌, Some, AllPairs, Contains}
 use mathlib.Core.Option.{some}
 use lib.ListN.{get_elem?}
@@ -19,27 +19,27 @@ HeldByOneSeat =
     (run : List Event) → IsRun run → (one other shard : ℕ)
     → Contains (held (of_seat one run)) shard → Contains (held (of_seat other run)) shard → one ≡ other
 
--- no shard is twice in the list of a seat
+-- no shard is in a seat's list twice
 abbrev pub HeldOnce : Type 0
 HeldOnce = (run : List Event) → IsRun run → (seat : ℕ) → AllPairs (λ a b. a ≢ b) (held (of_seat seat run))
 
--- some view has the event's seat, with this event among the seat's
+-- some view has the event's seat, with this event among the seat's events
 abbrev pub IsOfView : List View → Event → Type 0
 IsOfView views event =
     (at : ℕ) × (view : View) × (events : List Event)
     × (get_elem? views at ≡ some view) × Knows view (seat_of event) events × Contains events event
 
--- between any two steps the words are what a run leaves that has no event but those of the views' seats
+-- between any two steps, some run leaves the words as they are, and every event of it is in a view
 abbrev pub NoOtherEvents : Type 0
 NoOtherEvents =
     (size : Size) (row : List ℕ) (views : List View) (rule : AgreesWithRun size row views) (event : Event)
     → Contains rule.run event → IsOfView views event
 
--- seat 0 wins shard 0, seat 1 and then seat 0 are turned away from it, seat 0 gives it back, and seat 1 wins it
+-- seat 0 wins shard 0, seat 1 and then seat 0 fail to claim it, seat 0 gives it back, and seat 1 wins it
 abbrev pub handed_on : List Event
 handed_on = Win 0 0 ∷ Turned 1 0 0 ∷ Turned 0 0 0 ∷ GiveBack 0 0 ∷ Win 1 0 ∷ []
 
--- this is a run, and it leaves the shard with seat 1
+-- this is a run, and after it seat 1 owns the shard
 pub record HandedOn : Type 0 where
   pub is_run : IsRun handed_on
   pub owner_is : owner handed_on 0 ≡ Some 1

@@ -1,9 +1,9 @@
--- The board as a machine of one thread: who owns each shard, the three events, and their runs.
+-- The board as a machine of one thread: who owns each shard, the three kinds of event, and their runs.
 use Rattle.std.specs.Prelude.{◌≡◌, ℕ, ◌==◌, not, if◌then◌else◌, List, [], ◌∷◌, ◌++◌, fold, filter, Option, Some, None}
 use Rattle.claim_board.specs.declared.event.Event.{Event}
 use Rattle.claim_board.specs.declared.event.Event.TheVariants.{Win, Turned, GiveBack}
 
--- the seat whose step the event is
+-- the seat that made the step
 abbrev pub seat_of : Event → ℕ
 seat_of (Win seat shard) = seat
 seat_of (Turned seat shard by) = seat
@@ -15,17 +15,17 @@ owner_after shard now (Win seat s) = if s == shard then Some seat else now
 owner_after shard now (Turned seat s by) = now
 owner_after shard now (GiveBack seat s) = if s == shard then None else now
 
--- who owns a shard after all these events: nobody does at first
+-- who owns a shard after all these events: at first nobody does
 abbrev pub owner : List Event → ℕ → Option ℕ
 owner run shard = fold (owner_after shard) None run
 
--- a free shard can be won; a seat is turned away by the owner; the owner can give back
+-- a free shard can be won, a claim of an owned shard fails, and only the owner can give a shard back
 abbrev pub IsAllowed : List Event → Event → Type 0
 IsAllowed run (Win seat shard) = owner run shard ≡ None
 IsAllowed run (Turned seat shard by) = owner run shard ≡ Some by
 IsAllowed run (GiveBack seat shard) = owner run shard ≡ Some seat
 
--- each event is allowed after the ones before it
+-- each event is allowed after the events before it
 abbrev pub IsRun : List Event → Type 0
 IsRun run = (before : List Event) (event : Event) (later : List Event) → run ≡ before ++ event ∷ later → IsAllowed before event
 
@@ -39,6 +39,6 @@ held_after shards (Win seat shard) = shards ++ shard ∷ []
 held_after shards (Turned seat shard by) = shards
 held_after shards (GiveBack seat shard) = filter (λ s. not (s == shard)) shards
 
--- the shards that a seat's own events leave it owning, in the order in which it won them
+-- the shards that a seat owns after its own events, in the order in which it won them
 abbrev pub held : List Event → List ℕ
 held events = fold held_after [] events

@@ -1,4 +1,4 @@
--- What contracts see of a board, of its seats and of the answer to a claim.
+-- What the contracts show of a board, of its seats and of the result of a claim.
 use Rattle.std.specs.Prelude.{◌≡◌, ℕ, ◌<◌, ◌≤◌, List, [], length, flat_map, slice_get, slice_index_or, ⊤, Contains, Option, Some, None}
 use Rattle.atomic_table.specs.Seated.{TableId}
 use Rattle.claim_board.specs.declared.claim.Claim.{Claim}
@@ -12,23 +12,23 @@ pub record BoardState : Type 0 where
   pub shards : ℕ
   pub seats : ℕ
 
--- the seat's board, its number there, and what it did so far
+-- the seat's board, its number there, and what it has done so far
 pub record SeatState : Type 0 where
   pub board : BoardState
   pub number : ℕ
   pub events : List Event
 
--- where the claim was won, the fact
+-- the fact, if the claim was won
 abbrev pub OnWon : Claim → Type 0 → Type 0
 OnWon Won fact = fact
 OnWon (Held by) fact = ⊤
 
--- where the shard was held, the fact about the seat that held it
+-- the fact about the seat that owned the shard, if a seat did
 abbrev pub IfHeld : Claim → (ℕ → Type 0) → Type 0
 IfHeld Won fact = ⊤
 IfHeld (Held by) fact = fact by
 
--- each of these is a seat of the board, under the number that is its place
+-- each of these is a seat of the board, and its number is its index
 abbrev pub InOrder : BoardState → List SeatState → Type 0
 InOrder board seats = (number : ℕ) (seat : SeatState) → slice_get seats number ≡ Some seat → (seat.board ≡ board) × (seat.number ≡ number)
 
@@ -37,25 +37,26 @@ pub record AreSeats (board : BoardState) (seats : List SeatState) : Type 0 where
   pub all : length seats ≡ board.seats
   pub in_order : InOrder board seats
 
--- a seat of the board that did nothing yet
+-- a seat of the board that has done nothing yet
 pub record IsUnusedSeat (board : BoardState) (seat : SeatState) : Type 0 where
   pub of_board : seat.board ≡ board
   pub number : seat.number < board.seats
   pub no_events : seat.events ≡ []
 
--- the shards that the seats hold, seat by seat
+-- the shards that the seats own, seat by seat
 abbrev pub all_held : List SeatState → List ℕ
 all_held seats = flat_map (λ (seat : SeatState). held seat.events) seats
 
--- the seat of this number has the shard in its list
+-- the seat with this number has the shard in its list
 abbrev pub IsHeldBy : List SeatState → ℕ → ℕ → Type 0
 IsHeldBy seats number shard = (seat : SeatState) × (slice_get seats number ≡ Some seat) × Contains (held seat.events) shard
 
--- the owner of a shard in a list by shard: none of a shard that the board does not have
+-- the owner of a shard in a list with one entry per shard, and none for a shard that the board doesn't have
 abbrev pub owner_in : List (Option ℕ) → ℕ → Option ℕ
 owner_in owners shard = slice_index_or owners shard None
 
--- one run has the events of each of these seats, in that seat's order, each once, and no others, and it leaves these owners
+-- one run has the events of each of these seats, in that seat's order, each once, and no others, and leaves these
+-- owners
 pub record CameFromRun (seats : List SeatState) (by_shard : List (Option ℕ)) : Type 0 where
   pub run : List Event
   pub is_run : IsRun run

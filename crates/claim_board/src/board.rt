@@ -1,4 +1,4 @@
-//! The board: a word for each shard, in a table that its seats share.
+//! The board: a table that its seats share, with a word for each shard.
 ghost use Rattle.std.specs.Prelude.{◌≡◌, ◌≢◌, ℕ, ◌<◌, ◌≤◌, ◌==◌, ◌↔◌, not, List, [], ◌∷◌, ◌++◌, length, filter, All, AllPairs, Contains, IfOk, IfErr, IsOk};
 ghost use Rattle.limits.specs.declared.TheConstants.{MAX_WORKERS};
 ghost use Rattle.claim_board.specs.Machine.{held};
@@ -20,7 +20,8 @@ use limits::MAX_SHARDS;
 use std::alloc::{AllocError, Allocator};
 use std::marker::Model;
 
-/// Who owns each shard, in one atomic word each. It is `Sync`: threads share it by reference, each with a seat of its own.
+/// One atomic word per shard, which says who owns the shard. It is `Sync`: threads share it by reference, and each
+/// thread has a seat of its own.
 #[derive(Drop)]
 pub struct Board<A: Allocator> {
     table: Table<(), View, Size, Ruled, A>,
@@ -37,7 +38,6 @@ impl<A: Allocator> Model for Board<A> {
     ghost invariant = { λ b. IsBoard b.table.shared.table_id b.table.shared.key };
 }
 
-// A table with the word 0 for each shard, and the token of all numbers.
 fn free_words<A: Allocator>(
     alloc: A,
     size: &Size,
@@ -51,11 +51,10 @@ fn free_words<A: Allocator>(
 }
 
 impl<A: Allocator + Copy> Board<A> {
-    /// A board with all shards free, and its seats in order, from number 0 on.
+    /// Returns a board on which all shards are free, and its seats in order of their numbers, which begin at 0.
     ///
-    /// `Memory` comes where the allocator refused the row of the seats or the table of the words, and no other fault
-    /// comes. It takes 8 bytes for each shard and 520 for each seat, and one step on a word for each seat but the
-    /// last.
+    /// The only error is `Memory`, if the list of seats or the table of words can't be allocated. The board takes 8
+    /// bytes per shard and 520 bytes per seat. The call makes one step on a word for each seat but the last.
     pub fn open(alloc: A, shards: u32, seats: u32) -> Result<(Board<A>, Vec<Seat, A>), BoardFault>
         requires shards { (0 < shards) × (shards ≤ MAX_SHARDS) }
         requires seats { (0 < seats) × (seats ≤ MAX_WORKERS) }
@@ -76,9 +75,10 @@ impl<A: Allocator + Copy> Board<A> {
 }
 
 impl<A: Allocator> Board<A> {
-    /// Takes the shard if it is free, by one `compare_exchange`. It never waits and takes no memory.
+    /// Takes the shard if it is free, by one `compare_exchange`. The call never waits and allocates nothing.
     ///
-    /// `Held` names the seat that owned the shard at that step; by now it may have given it back.
+    /// `Held` names the seat that owned the shard at that step. By the time the call returns, that seat may have given
+    /// it back.
     pub fn claim(&self, seat: &mut Seat, shard: u32) -> Claim
         requires seat { seat.old.board ≡ self.now }
         requires shard { shard < self.now.shards }
@@ -102,8 +102,8 @@ impl<A: Allocator> Board<A> {
         }
     }
 
-    /// Frees a shard that the seat holds, by one `compare_exchange`. It never waits and takes no memory. A shard that was
-    /// won last and is given back leaves the seat's list as it was before.
+    /// Frees a shard that the seat owns, by one `compare_exchange`. The call never waits and allocates nothing. If the
+    /// shard is the last one that the seat won, the seat's list is then as it was before that claim.
     pub fn give_back(&self, seat: &mut Seat, shard: u32)
         requires seat { seat.old.board ≡ self.now }
         requires shard { shard < self.now.shards }
@@ -119,11 +119,11 @@ impl<A: Allocator> Board<A> {
         seat.shards.remove(shard);
     }
 
-    /// Who owns each shard at the end, from all seats of the board in order, as `open` gave them. No shard is in the lists
-    /// of two of them.
+    /// Closes the board and returns who owns each shard. `seats` must be all seats of the board, in the order in which
+    /// `open` returned them. No shard is in the lists of two of these seats.
     ///
-    /// It takes no memory and always answers `Ok`: what it answers keeps the board's words. The row of the seats is freed.
-    /// It takes one step on a word for each seat but the last.
+    /// The call allocates nothing and always returns `Ok`, since the result reuses the memory of the board's words. It
+    /// frees the list of seats, and makes one step on a word for each seat but the last.
     pub fn close(self, mut seats: Vec<Seat, A>) -> Result<Owners<A>, BoardFault>
         requires seats { AreSeats self seats.items }
         ensures ok { IsOk result }

@@ -1,8 +1,8 @@
-/// The answer to a claim.
+/// The result of a claim.
 #[derive(Clone, Copy, Debug, PartialEq, Eq)]
 pub enum Claim {
-    /// The shard was free, and is the seat's now.
+    /// The shard was free, and now belongs to the seat.
     Won,
-    /// The shard was held at that step by the seat of this number, which may be the caller's own. Nothing changed.
+    /// The seat with this number, which may be the caller's own, owned the shard at that step. Nothing changed.
     Held(u32),
 }

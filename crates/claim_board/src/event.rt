@@ -1,9 +1,9 @@
-/// What a seat did at one atomic step, on the word of one shard. Contracts speak of events; no value of one is made.
+/// What a seat did at one atomic step on the word of one shard. Events occur only in contracts: no value is ever made.
 pub enum Event {
-    /// The shard was free, and the seat owns it from now on.
+    /// The shard was free. From now on the seat owns it.
     Win { seat: u32, shard: u32 },
-    /// The seat claimed a shard that `by` owned, which may be the seat itself.
+    /// The seat claimed a shard that was owned by `by`, which may be the seat itself.
     Turned { seat: u32, shard: u32, by: u32 },
-    /// The seat owned the shard, which is free from now on.
+    /// The seat owned the shard. From now on the shard is free.
     GiveBack { seat: u32, shard: u32 },
 }

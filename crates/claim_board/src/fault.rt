@@ -1,13 +1,13 @@
 use thiserror::Error;
 
-/// Why a board could not be opened or closed.
+/// Why a board couldn't be opened or closed.
 #[derive(Clone, Copy, Debug, PartialEq, Eq, Error)]
 pub enum BoardFault {
-    /// The allocator refused memory.
+    /// Out of memory.
     #[error("no memory for the board")]
     Memory,
-    /// The table of the words was refused for another cause. `atomic_table` refuses one for want of memory alone, so
-    /// today no call answers it.
+    /// The table of words couldn't be made for another reason. Today no call returns this error, because `atomic_table`
+    /// fails only if it is out of memory.
     #[error("the board's table was refused")]
     NoTable,
 }

@@ -1,7 +1,7 @@
-//! Laws of the board's machine, over all of its runs. A caller that needs one calls its function, which does nothing.
+//! Laws of the board's machine, for all of its runs. A caller that needs a law calls its function, which does nothing.
 ghost use Rattle.claim_board.specs.Laws.{OwnerIsHolder, HeldByOneSeat, HeldOnce, NoOtherEvents, HandedOn};
 
-/// In every run the owner of a shard is the seat whose list has it.
+/// In every run, the owner of a shard is the seat whose list has the shard.
 pub fn owner_is_holder()
     ensures { OwnerIsHolder }
 {}
@@ -11,7 +11,7 @@ pub fn held_by_one_seat()
     ensures { HeldByOneSeat }
 {}
 
-/// In no run is a shard twice in the list of a seat.
+/// In no run is a shard in a seat's list twice.
 pub fn held_once()
     ensures { HeldOnce }
 {}
@@ -22,7 +22,7 @@ pub fn no_other_events()
     ensures { NoOtherEvents }
 {}
 
-/// A worked run: a shard goes from seat 0 to seat 1, and both are turned away from it in between.
+/// A worked example: a shard goes from seat 0 to seat 1, and in between both seats fail to claim it.
 pub fn handed_on()
     ensures { HandedOn }
 {}

@@ -1,5 +1,5 @@
-//! A board of shards that threads claim without a lock. A thread claims a shard by its seat and may give it back; when
-//! all are done the board is closed over its seats and names the owner of each shard.
+//! A board of shards that threads claim without a lock. Each thread claims shards through its own seat, and can give a
+//! shard back. After all threads are done, the board is closed with all its seats, and names the owner of each shard.
 //!
 //! ```text
 //!   thread 0      thread 1            each thread has a seat: a token of the table, its number,
@@ -11,17 +11,19 @@
 //! ```
 //!
 //! What it promises:
-//! - However the steps of all seats fall, the words are what one run of events leaves, with those of each seat in its
-//!   order and no others; so no shard is ever in the lists of two seats. `claim` and `give_back` say which event their
-//!   seat gained, `close` which owners that run leaves; `laws` has the rest.
-//! - Not that a claim is ever won, which of two seats wins, or whose step came first. Shards of a dropped seat stay
-//!   taken.
-//! - A [`ShardSet`] holds shards below `MAX_SHARDS`; `insert` and `remove` change what is said of their one shard and of no
-//!   other.
+//! - For every interleaving of the seats' steps, one run of events leaves the words as they are. It has the events of
+//!   each seat, in that seat's order, and no others.
+//! - So no shard is ever in the lists of two seats. The contracts of `claim` and `give_back` say which event the seat
+//!   gained, and that of `close` says which owners the run leaves. The other laws are in `laws`.
+//! - It doesn't promise that a claim is ever won, which of two seats wins, or whose step comes first. The shards of a
+//!   dropped seat stay taken.
+//! - A [`ShardSet`] is a set of shards below `MAX_SHARDS`. `insert` and `remove` change whether their one shard is in
+//!   it, and no other.
 //!
-//! Where to start a change: what an event is and which is allowed when, `event` and `specs/Machine`, then `specs/Rule`;
-//! a new kind of step, its `Play` in `rule`, and `proofs/Steps`; what contracts see of boards and seats, `specs/State`;
-//! more seats or shards, the crate `limits`; what the words of a set of shards mean, `specs/Shards`.
+//! To change what an event is and when it is allowed, see `event` and `specs/Machine`, then `specs/Rule`. For a new
+//! kind of step, add its `Play` in `rule` and see `proofs/Steps`. What the contracts show of boards and seats is in
+//! `specs/State`. The limits on seats and shards are in the crate `limits`. What the words of a set of shards mean is
+//! in `specs/Shards`.
 #![tactic(auto)]
 
 mod board;

@@ -1,4 +1,3 @@
-//! Who owned each shard as a board was closed.
 ghost use Rattle.std.specs.Prelude.{◌≡◌};
 ghost use Rattle.claim_board.specs.State.{owner_in};
 
@@ -6,7 +5,7 @@ use atomic_table::Closed;
 use std::alloc::Allocator;
 use std::marker::Model;
 
-/// The owner of each shard as the board was closed. It keeps the memory of the board's words until it is dropped.
+/// The owner of each shard when the board was closed. It keeps the memory of the board's words until it is dropped.
 pub struct Owners<A: Allocator> {
     pub(crate) closed: Closed<(), A>,
     pub(crate) shards: u32,
@@ -25,7 +24,7 @@ impl<A: Allocator> Model for Owners<A> {
 }
 
 impl<A: Allocator> Owners<A> {
-    /// The number of the seat that owned the shard. Of a shard that the board doesn't have it is `None`.
+    /// Returns the number of the seat that owned the shard, and `None` if nobody did or the board has no such shard.
     pub fn of(&self, shard: u32) -> Option<u32>
         ensures { result ≡ owner_in self.now shard }
     {

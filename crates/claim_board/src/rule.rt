@@ -1,23 +1,22 @@
-//! The rule that the words of a board keep, and what each kind of step says to the seat that makes it.
+//! The rule that the words of a board obey, and what each kind of step shows to the seat that makes it.
 use crate::event::Event;
 use atomic_table::{Join, Play, Shared, Split, TableRule};
 use std::collections::LinkedList;
 
-/// How many shards and seats a board has.
 #[derive(Clone, Copy)]
 pub struct Size {
     pub shards: u32,
     pub seats: u32,
 }
 
-/// What a token knows: the events of each number from `first` on. No value of it is made.
+/// What a token shows: the events of each number, beginning at `first`. No value of this type is ever made.
 pub struct View {
     pub size: Size,
     pub first: u32,
     pub lists: LinkedList<LinkedList<Event>>,
 }
 
-/// Between any two atomic steps the words are those that a run of the machine leaves.
+/// Between any two atomic steps, some run of the machine leaves the words as they are.
 pub struct Ruled;
 
 impl TableRule<(), View, Size> for Ruled {
@@ -28,7 +27,7 @@ impl TableRule<(), View, Size> for Ruled {
     ghost first = { opener };
 }
 
-/// The exchange of a word from 0 to the seat's number plus 1.
+/// Exchanges a word from 0 to the seat's number plus 1.
 pub struct Claims;
 
 impl Play<(), View> for Claims {
@@ -37,7 +36,7 @@ impl Play<(), View> for Claims {
     ghost then = { Claimed };
 }
 
-/// The exchange of a word from the seat's number plus 1 to 0.
+/// Exchanges a word from the seat's number plus 1 to 0.
 pub struct GivesBack;
 
 impl Play<(), View> for GivesBack {
@@ -46,7 +45,7 @@ impl Play<(), View> for GivesBack {
     ghost then = { GivenBack };
 }
 
-/// One number is split off the front of a view, or put before it.
+/// Splits the first number off a view, or puts one before it.
 pub struct OneNumber;
 
 impl Split<View> for OneNumber {
@@ -65,8 +64,8 @@ impl Join<View> for OneNumber {
     ghost spent = { nobody };
 }
 
-/// The words of a board, as threads share them.
+/// The words of a board, in the form that threads share.
 pub type Words = Shared<(), View, Size, Ruled>;
 
-/// What a step on the words is made with. It has no bytes.
+/// The token with which a step on the words is made. It takes no memory.
 pub type Token = atomic_table::Seat<(), View>;

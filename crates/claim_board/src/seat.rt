@@ -1,4 +1,3 @@
-//! A seat of a board.
 ghost use Rattle.std.specs.Prelude.{◌≡◌, ◌<◌, ◌↔◌, [], IsTrue, Contains};
 ghost use Rattle.claim_board.specs.Machine.{held};
 
@@ -6,8 +5,8 @@ use crate::rule::Token;
 use crate::shard_set::ShardSet;
 use std::marker::Model;
 
-/// One of the seats of a board, which claims shards for whoever holds it. It is `Send`, so it may go to another thread
-/// by value or by `&mut`. A seat that is dropped keeps its shards, and its board can't be closed any more.
+/// A seat of a board: it claims shards for the thread that has it. It is `Send`, so it can go to another thread by
+/// value or by `&mut`. If a seat is dropped, its shards stay taken, and its board can't be closed any more.
 #[derive(Drop)]
 pub struct Seat {
     pub(crate) token: Token,
@@ -32,7 +31,6 @@ impl Seat {
     ghost use Rattle.claim_board.specs.Rule.{lone};
     ghost use Rattle.claim_board.specs.Kept.{board_state, IsInRange, IsTokenOf};
 
-    /// A seat that did nothing yet, with the token of its number.
     pub(crate) fn fresh(token: Token, number: u32) -> Seat
         requires view { token.me ≡ (lone token.me.0.size number [], []) }
         requires range { IsInRange token.me.0.size }
@@ -57,7 +55,7 @@ impl Seat {
         token
     }
 
-    /// The seat's number on its board, from 0 on.
+    /// Returns the seat's number on its board. Numbers begin at 0.
     pub fn number(&self) -> u32
         ensures number { result ≡ self.now.number }
         ensures of_board { result < self.now.board.seats }
@@ -65,7 +63,7 @@ impl Seat {
         self.number
     }
 
-    /// Whether the seat holds the shard. A shard that the board doesn't have is held by none.
+    /// Returns whether the seat owns the shard. No seat owns a shard that the board doesn't have.
     pub fn holds(&self, shard: u32) -> bool
         ensures { IsTrue result ↔ Contains (held self.now.events) shard }
     {

@@ -1,4 +1,5 @@
-//! How the seats of a board come from one, and become one again: one is split off or joined a call.
+//! How one token is split into the seats of a board, and how the seats become one token again. Each call splits off or
+//! joins one seat.
 ghost use Rattle.std.specs.Prelude.{◌≡◌, ◌+◌, ◌<◌, ◌≤◌, [], ◌++◌, All, length, map, replicate, vec_capacity};
 ghost use Rattle.claim_board.specs.State.{SeatState, InOrder};
 ghost use Rattle.claim_board.specs.Rule.{several};
@@ -8,7 +9,7 @@ use crate::rule::{OneNumber, Token, Words};
 use crate::seat::Seat;
 use std::alloc::Allocator;
 
-/// Puts `count` seats behind those that are there. `rest` has their numbers.
+/// Appends `count` seats. The token `rest` has their numbers.
 pub fn deal<A: Allocator>(words: &Words, mut rest: Token, count: u32, seats: &mut Vec<Seat, A>)
     requires table { (rest.table_id ≡ words.now.table_id) × (0 < words.now.table_id.words) }
     requires some { 0 < count }
@@ -32,7 +33,7 @@ pub fn deal<A: Allocator>(words: &Words, mut rest: Token, count: u32, seats: &mu
     }
 }
 
-/// Joins the seats to `kept`, the last one first. `kept` has the numbers behind theirs.
+/// Joins the seats to `kept`, the last seat first. `kept` has the numbers that come after theirs.
 pub fn gather<A: Allocator>(words: &Words, kept: &mut Token, seats: &mut Vec<Seat, A>)
     requires table { (kept.old.table_id ≡ words.now.table_id) × (0 < words.now.table_id.words) }
     requires view { kept.old.me ≡ (several kept.old.me.0.size (length seats.old.items) kept.old.me.0.lists, []) }

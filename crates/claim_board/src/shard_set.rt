@@ -1,4 +1,4 @@
-//! A set of shards, one bit for each of them. No call takes memory.
+//! A set of shards, with one bit per shard. No call allocates memory.
 //!
 //! ```text
 //!   shard 70 ──► word 70 / 64 = 1, bit 70 % 64 = 6
@@ -13,7 +13,7 @@ use std::marker::Model;
 
 const WORDS: usize = MAX_SHARDS / 64;
 
-/// A set of shards below `MAX_SHARDS`. It has 512 bytes, and each call but `empty` takes one step.
+/// A set of shards below `MAX_SHARDS`. It takes 512 bytes. Every call but `empty` takes constant time.
 #[derive(Drop)]
 pub struct ShardSet {
     bits: [u64; WORDS],
@@ -28,14 +28,14 @@ impl Model for ShardSet {
 }
 
 impl ShardSet {
-    /// The set of no shard.
+    /// Returns the empty set.
     pub fn empty() -> ShardSet
         ensures { (shard : ℕ) → has_shard result shard ≡ false }
     {
         ShardSet { bits: [0; WORDS] }
     }
 
-    /// Whether the shard is in the set. A shard from `MAX_SHARDS` on is in none.
+    /// Returns whether the shard is in the set. No set has a shard of `MAX_SHARDS` or above.
     pub fn has(&self, shard: u32) -> bool
         ensures { result ≡ has_shard self.now shard }
     {
@@ -45,7 +45,7 @@ impl ShardSet {
         }
     }
 
-    /// Puts the shard into the set, where it may be already.
+    /// Puts the shard into the set. The shard may already be in it.
     pub fn insert(&mut self, shard: u32)
         requires { shard < MAX_SHARDS }
         ensures { (s : ℕ) → has_shard self.new s ≡ (s == shard || has_shard self.old s) }
@@ -53,7 +53,7 @@ impl ShardSet {
         self.bits[(shard / 64) as usize] |= 1 << (shard % 64);
     }
 
-    /// Takes the shard out of the set, if it is there.
+    /// Removes the shard from the set, if it is there.
     pub fn remove(&mut self, shard: u32)
         requires { shard < MAX_SHARDS }
         ensures { (s : ℕ) → has_shard self.new s ≡ (not (s == shard) && has_shard self.old s) }

@@ -6,7 +6,7 @@ use crate::{
     MIN_WEIGHT,
 };
 
-/// Each limit is this number.
+/// Each limit is equal to the number in its clause.
 pub fn limits_are_these_numbers()
     ensures vertices { MAX_VERTICES ≡ 2 ^ 26 }
     ensures arcs { MAX_ARCS ≡ 2 ^ 30 }

@@ -1,4 +1,4 @@
--- Links that close no cycle are those of which the rounds take each.
+-- Links close no cycle exactly if the rounds take every one of them.
 use Rattle.std.proofs.Common.{◌≡◌, ℕ, ◌+◌, ◌≤◌, ◌↔◌, zero, suc, true, false, IsTrue, Bool, All, List, [], ◌∷◌, Contains, length, get_or, replicate, refl, sym, ap, ◌∙◌, subst, inl, inr, arith}
 use Rattle.std.proofs.lemmas.Bool.{false≢true}
 use Rattle.links.specs.declared.links.Link.{Link}
@@ -20,11 +20,10 @@ use Rattle.link_key.proofs.Opened.{some_link, links_opened, opened_of}
 use Rattle.link_key.proofs.Owns.{own_of, own_is, renamed_own}
 use Rattle.link_key.proofs.Stages.{stage_end, stage_start, own_labels}
 
--- the tail of marks
 all_tail : (b : Bool) (marks : List Bool) → All IsTrue (b ∷ marks) → All IsTrue marks
 all_tail b marks all k d lt = all (suc k) d (omega (arith, lt))
 
--- all are marked
+-- if all links are marked, the marked links are the links
 pub all_marked : (links : List Link) (marks : List Bool) → length links ≡ length marks → All IsTrue marks → marked links marks ≡ links
 all_marked [] marks same all = refl
 all_marked (l ∷ links) [] same all = absurd (omega (arith, same))
@@ -37,7 +36,7 @@ few_marked (l ∷ links) [] = omega arith
 few_marked (l ∷ links) (true ∷ marks) = omega (arith, few_marked links marks)
 few_marked (l ∷ links) (false ∷ marks) = omega (arith, few_marked links marks)
 
--- as many as there are links are marked: all of them
+-- if at least as many are marked as there are links, all are marked
 pub marks_all : (links : List Link) (marks : List Bool) → length links ≡ length marks → length links ≤ length (marked links marks) → All IsTrue marks
 marks_all [] [] same many k d lt = absurd (omega (arith, lt))
 marks_all [] (b ∷ marks) same many k d lt = absurd (omega (arith, same))
@@ -46,7 +45,7 @@ marks_all (l ∷ links) (true ∷ marks) same many zero d lt = refl
 marks_all (l ∷ links) (true ∷ marks) same many (suc k) d lt = marks_all links marks (omega (arith, same)) (omega (arith, many)) k d (omega (arith, lt))
 marks_all (l ∷ links) (false ∷ marks) same many k d lt = absurd (omega (arith, many, few_marked links marks))
 
--- What stands when nothing is left: the numbers are those of the components.
+-- What is true when no links are left: the numbers are those of the components.
 pub components_end : {links taken : List Link} {numbers : List ℕ} → IsStage links [] [] numbers taken → AreComponents (Contains links) numbers
 components_end {links} {taken} {numbers} stage = record {
   joined = λ u v u_in v_in same. joins_more (Contains taken) (Contains links) (λ l l_in. (stage.forest l l_in).0) u v (stage.joined u v u_in v_in same);
@@ -56,7 +55,7 @@ components_end {links} {taken} {numbers} stage = record {
   ]);
 }
 
--- each link is taken exactly if they close no cycle
+-- every link is taken exactly if the links close no cycle
 pub acyclic_end : {links : List Link} {numbers : List ℕ} (marks : List Bool) → IsAscending links → length links ≡ length marks
     → IsStage links [] [] numbers (marked links marks) → All IsTrue marks ↔ HasNoCycle (Contains links)
 acyclic_end {links} {numbers} marks up same stage = (to, back)
@@ -81,7 +80,7 @@ acyclic_end {links} {numbers} marks up same stage = (to, back)
         ) in
         marks_all links marks same (forest_few taken links (record { ascending = up; exact = exact }))
 
--- what the rounds leave of links in the order of their keys, when no link was taken before them
+-- what the rounds leave of links in the order of their keys, if no link was taken before
 pub stage_of : (n : ℕ) (links : List Link) (candidates : List Open) (marks marks' : List Bool) (numbers : List ℕ) → AreOpened (λ v. v) links candidates → EndsUpTo n links
     → IsAscending links → marks ≡ replicate (length links) false → LeadsOn n candidates marks numbers [] marks' → length numbers ≡ n + 1
     → IsStage links [] [] numbers (marked links marks')

@@ -1,4 +1,4 @@
--- Rounds one after the other: new numbers of the components, then new numbers of these.
+-- Rounds one after the other: new numbers of the components, then new numbers of these numbers.
 use Rattle.std.proofs.Common.{◌≡◌, ℕ, ◌+◌, ◌++◌, Bool, List, length, sym, ◌∙◌, subst}
 use Rattle.link_key.specs.declared.sequential.rounds.Open.{Open}
 use Rattle.link_key.specs.Rounds.{IsStage}

@@ -1,4 +1,4 @@
--- Numbers that are handed out one after the other, each to a label that has none.
+-- Numbers that are assigned one after the other, each to a label that has none.
 use Rattle.std.proofs.Common.{◌≡◌, ◌≢◌, ℕ, ◌+◌, ◌<◌, ◌≤◌, ◌==◌, if◌then◌else◌, List, length, get_or, set, get_or-set_same, get_or-set_other, refl, sym, ap, ◌∙◌, subst, inl, inr, arith}
 use Rattle.std.proofs.lemmas.List.Sums.{sum_by-set}
 use Rattle.std.proofs.lemmas.List.{length-set}
@@ -15,11 +15,11 @@ none_is k is = grind (arith, nat_tests)
 some_is : (k : ℕ) → 0 < k → no_number k ≡ 0
 some_is k some = grind (arith, nat_tests)
 
--- a number is written: no more labels have none
+-- after a number is written, as many labels as before have none, or one fewer if a had none
 zeros_set : (numbers : List ℕ) (a n : ℕ) → a < length numbers → 0 < n → zeros (set numbers a n) + no_number (get_or numbers a 0) ≡ zeros numbers
 zeros_set numbers a n a_in some = search (arith, sum_by-set, some_is)
 
--- and one fewer, where a had none
+-- after two numbers are written, at most as many labels as before have none
 pub zeros_two : (numbers : List ℕ) (a b n : ℕ) → a < length numbers → b < length numbers → 0 < n → zeros (set (set numbers a n) b n) ≤ zeros numbers
 zeros_two numbers a b n a_in b_in some = search (arith, zeros_set, set, length-set)
 
@@ -39,6 +39,6 @@ module _ {last i : ℕ} {numbers : List ℕ} (some : 0 < i) (i_in : i < length n
   pub filled_one_more : (start : List ℕ) → AreFilled start numbers → AreFilled start (set numbers i (last + 1))
   filled_one_more start filled = search (arith, length-set, cases_eq, else_at, set, at_i)
 
--- before any label is given one
+-- before any label gets a number
 pub filled_none : (numbers : List ℕ) → AreFilled numbers numbers
 filled_none numbers = record { len = refl; kept = λ c had. refl; alone = λ c d had none same. absurd (omega (arith, had, none)) }

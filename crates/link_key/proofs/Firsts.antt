@@ -1,4 +1,4 @@
--- The first vertex that has a number, as vertices are gone over one after the other.
+-- The first vertex that has a number, in a pass over the vertices.
 use Rattle.std.proofs.Common.{◌≡◌, ◌≢◌, ℕ, ◌+◌, ◌-◌, ◌^◌, ◌<◌, ◌≤◌, ◌⊎◌, List, [], ◌∷◌, ◌++◌, length, get_or, set, get_or-set_same, get_or-set_other, refl, sym, ap, ◌∙◌, subst, inl, inr, arith}
 use Rattle.std.proofs.lemmas.Bool.{cases_eq, cases_lt}
 use Rattle.std.proofs.lemmas.List.{get_or_push, get_or_append_left}
@@ -9,16 +9,16 @@ use Rattle.links.proofs.Walks.{joins_more}
 use Rattle.link_key.specs.Components.{AreComponents, AreLeastVertices, IsFirstWith}
 use Rattle.link_key.specs.OpenLinks.{AreAllNumbers}
 
--- of the vertices 1, 2, .. before the bound it is the first that has the number, or it is 0 and none has it
+-- the first of the vertices 1, 2, .. before the bound that has the number, or 0 if none has it
 abbrev pub IsFirstBefore : List ℕ → ℕ → ℕ → ℕ → Type 0
 IsFirstBefore numbers number bound first =
     (IsFirstWith numbers number first × (first < bound)) ⊎ ((first ≡ 0) × ((u : ℕ) → 1 ≤ u → u < bound → get_or numbers u 0 ≢ number))
 
--- one vertex more
+-- the next vertex doesn't change a first one
 same_first : (numbers : List ℕ) (number v first : ℕ) → get_or numbers v 0 ≢ number → IsFirstBefore numbers number v first → IsFirstBefore numbers number (v + 1) first
 same_first a1 a2 a3 a4 a5 a6 = search (arith, cases_eq)
 
--- the vertex that is the first
+-- the next vertex is the first one
 new_first : (numbers : List ℕ) (v first : ℕ) → 1 ≤ v → v < length numbers → first ≡ 0 → IsFirstBefore numbers (get_or numbers v 0) v first
     → IsFirstWith numbers (get_or numbers v 0) v
 new_first a1 a2 a3 a4 a5 a6 a7 = search arith
@@ -33,7 +33,7 @@ found_before a1 a2 a3 a4 a5 a6 = search arith
 abbrev pub AreFirsts : List ℕ → ℕ → ℕ → List ℕ → Type 0
 AreFirsts numbers count bound firsts = (c : ℕ) → c ≤ count → IsFirstBefore numbers c bound (get_or firsts c 0)
 
--- the first vertex with the number of this one
+-- the first vertex with the number of this vertex
 pub first_now : (numbers firsts : List ℕ) (count v first : ℕ) → AreFirsts numbers count v firsts → 1 ≤ v → v < length numbers → get_or numbers v 0 ≤ count
     → (get_or firsts (get_or numbers v 0) 0 ≡ 0 → first ≡ v) → (get_or firsts (get_or numbers v 0) 0 ≢ 0 → first ≡ get_or firsts (get_or numbers v 0) 0)
     → IsFirstWith numbers (get_or numbers v 0) first × (first < v + 1)
@@ -43,21 +43,20 @@ pub firsts_put : (numbers firsts : List ℕ) (count v first : ℕ) → AreFirsts
     → IsFirstWith numbers (get_or numbers v 0) first → first < v + 1 → AreFirsts numbers count (v + 1) (set firsts (get_or numbers v 0) first)
 firsts_put numbers firsts count v first are number_in is lt c c_in = search (arith, cases_eq, set, get_or-set_same, get_or-set_other, same_first)
 
--- one label more
 pub label_more : (numbers labels : List ℕ) (v label : ℕ) → length labels + 1 ≡ v → ((u : ℕ) → 1 ≤ u → u < v → IsFirstWith numbers (get_or numbers u 0) (label_of labels u))
     → IsFirstWith numbers (get_or numbers v 0) label → (u : ℕ) → 1 ≤ u → u < v + 1 → IsFirstWith numbers (get_or numbers u 0) (label_of (labels ++ label ∷ []) u)
 label_more numbers labels v label len are is u from_one lt = search (arith, cases_eq, get_or_push, get_or_append_left)
 
 -- ---- labels by the first vertices
 
--- of two first ones with one number
+-- a number has only one first vertex
 one_first : {numbers : List ℕ} {c u v : ℕ} → IsFirstWith numbers c u → IsFirstWith numbers c v → u ≡ v
 one_first {numbers} {c} {u} {v} is is' = search (arith, cases_lt)
 
 first_at_most : {numbers : List ℕ} {c first : ℕ} → IsFirstWith numbers c first → (u : ℕ) → 1 ≤ u → get_or numbers u 0 ≡ c → first ≤ u
 first_at_most {numbers} {c} {first} is u from_one same = search (arith, cases_lt)
 
--- each vertex has the first vertex with its number for a label
+-- the label of each vertex is the first vertex with the same number
 abbrev pub LabelFirsts : List ℕ → List ℕ → Type 0
 LabelFirsts numbers labels = (v : ℕ) → 1 ≤ v → v < length numbers → IsFirstWith numbers (get_or numbers v 0) (label_of labels v)
 
@@ -97,7 +96,7 @@ least_vertices n count S numbers labels len long are components firsts = record 
       };
 }
 
--- components under links are those under the same links
+-- components under links are also the components under the same links as another set
 pub same_components : (S T : LinkSet) (numbers : List ℕ) → ((l : Link) → S l → T l) → ((l : Link) → T l → S l) → AreComponents S numbers → AreComponents T numbers
 same_components S T numbers to back components = record {
   joined = λ u v u_in v_in same. joins_more S T to u v (components.joined u v u_in v_in same);

@@ -1,4 +1,4 @@
--- Links that are marked by their places.
+-- Links that are marked by their indices.
 use Rattle.std.proofs.Common.{◌≡◌, zero, suc, ℕ, ◌+◌, ◌<◌, ◌⊎◌, ◌↔◌, Bool, true, false, if◌then◌else◌, List, [], ◌∷◌, ◌++◌}
 use Rattle.std.proofs.Common.{Contains, length, get_or, set, take, replicate, get_or-set_same, get_or-set_other, refl, sym, ap, ◌∙◌, subst, inl, inr, arith}
 use Rattle.std.proofs.lemmas.List.{append-nil, get_or_default, take_more_set, take-set}
@@ -10,7 +10,7 @@ use Rattle.links.specs.declared.links.Link.{Link}
 use Rattle.link_key.specs.OpenLinks.{marked}
 use Rattle.links.proofs.Members.{contains_cases, contains_head, contains_tail, contains_none}
 
--- a link that is marked has a place with a mark
+-- a marked link has an index with a mark
 abbrev IsMarked : List Link → List Bool → Link → Type 0
 IsMarked links marks l = (k : ℕ) × (k < length links) × (get_or marks k false ≡ true) × (get_or links k l ≡ l)
 
@@ -31,13 +31,12 @@ marked_if (m ∷ links) (false ∷ marks) l (zero, k_in, has, is) = absurd (fals
 marked_if (m ∷ links) (true ∷ marks) l (suc k, k_in, has, is) = contains_tail m l (marked links marks) (marked_if links marks l (k, omega (arith, k_in), has, is))
 marked_if (m ∷ links) (false ∷ marks) l (suc k, k_in, has, is) = marked_if links marks l (k, omega (arith, k_in), has, is)
 
--- before any is marked
 pub marked_none : (links : List Link) (n : ℕ) → marked links (replicate n false) ≡ []
 marked_none [] n = refl
 marked_none (m ∷ links) zero = refl
 marked_none (m ∷ links) (suc n) = marked_none links n
 
--- One more place is marked: its link is added.
+-- One more index is marked, and its link is added.
 module _ (links : List Link) (marks : List Bool) (r : ℕ) (x : Link) (r_in : r < length links) (len : length links ≡ length marks) (at : get_or links r x ≡ x) where
   still : (l : Link) → IsMarked links marks l → IsMarked links (set marks r true) l
   still l (k, k_in, has, is) = search (arith, cases_eq, set, get_or-set_same, get_or-set_other)
@@ -77,7 +76,7 @@ marked_next (m ∷ links) (b ∷ marks) zero x i_in i_in' is = ap (λ (l : Link)
 marked_next (m ∷ links) (true ∷ marks) (suc i) x i_in i_in' is = ap (λ (xs : List Link). m ∷ xs) (marked_next links marks i x (omega (arith, i_in)) (omega (arith, i_in')) is)
 marked_next (m ∷ links) (false ∷ marks) (suc i) x i_in i_in' is = marked_next links marks i x (omega (arith, i_in)) (omega (arith, i_in')) is
 
--- one more link is written behind those that were marked before it, and counted where it is marked
+-- the next link is written after the earlier marked links, and counted if it is marked
 pub marked_behind : (links : List Link) (marks : List Bool) (now : List Link) {i kept kept' : ℕ} (x : Link) → i < length links → i < length marks → x ≡ get_or links i x → kept < length now
     → take kept now ≡ marked (take i links) (take i marks) → kept' ≡ kept + bool_byte (get_or marks i false) → take kept' (set now kept x) ≡ marked (take (i + 1) links) (take (i + 1) marks)
 marked_behind links marks now {i} {kept} {kept'} x i_in i_in' is kept_in so_far counts =

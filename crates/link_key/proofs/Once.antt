@@ -1,4 +1,4 @@
--- Lists of links in which none stands twice, in any order.
+-- Lists of links without repeats, in any order.
 use Rattle.std.proofs.Common.{◌≢◌, ℕ, ◌<◌, List, length, get_or, refl, sym, ap, ◌∙◌, subst, inl, inr, arith}
 use Rattle.std.specs.List.{swap}
 use Rattle.std.specs.List.Sorted.{IsPermutation}
@@ -13,7 +13,7 @@ use Rattle.links.proofs.Keys.{below_irrefl}
 pub ascending_distinct : (links : List Link) → IsAscending links → AreDistinct links
 ascending_distinct links up i j d lt j_in same = below_irrefl (get_or links j d) (subst (λ (l : Link). IsBelow l (get_or links j d)) same (up i j d lt j_in))
 
--- distinct at any two places
+-- links at different indices are different
 apart : (links : List Link) → AreDistinct links → (i j : ℕ) (d : Link) → i ≢ j → i < length links → j < length links → get_or links i d ≢ get_or links j d
 apart links distinct i j d differ i_in j_in same = search (arith, cases_order)
 

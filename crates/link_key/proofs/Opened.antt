@@ -1,4 +1,4 @@
--- Links with the labels of their ends: what a new numbering of the labels leaves of them.
+-- Links with the labels of their endpoints: what a new numbering of the labels leaves of them.
 use Rattle.std.proofs.Common.{◌≡◌, ℕ, ◌+◌, ◌<◌, ◌≤◌, ◌==◌, pos, true, not, List, [], ◌∷◌, map, Contains, length, get_or, is_lt, refl, sym, ap, ap₂, ◌∙◌, subst, inl, inr, arith}
 use Rattle.std.specs.List.{filter, All}
 use Rattle.std.specs.List.Sorted.{IsSorted}
@@ -34,7 +34,7 @@ from_map f (y ∷ xs) z z_in = elim (contains_cases (f y) z (map f xs) z_in) [
   | inr later ↦ let found = from_map f xs z later in (found.0, contains_tail y found.0 xs found.1, found.2)
 ]
 
--- a link, for places past the end of a list
+-- a link, for indices past the end of a list
 pub some_link : Link
 some_link = record {
   weight = pos 0;
@@ -49,7 +49,7 @@ some_link = record {
 no_link : Open
 no_link = record { low = 0; high = 0; rank = 0 }
 
--- what the open one at a place is
+-- the open link at an index
 module _ {label : ℕ → ℕ} {links : List Link} {candidates : List Open} (are : AreOpened label links candidates) where
   place : (k : ℕ) → k < length candidates → k < length links
   place k lt = subst (λ n. k < n) are.len lt
@@ -73,7 +73,7 @@ module _ {label : ℕ → ℕ} {links : List Link} {candidates : List Open} (are
       let high = labels l.high (omega (arith, from_one, ascending)) most in
       subst (IsBetween bound (length links)) (sym (are.each k o some_link lt')) (low.0, low.1, high.0, high.1, lt')
 
-  -- where they are the labels of the vertices
+  -- if these are the labels of the vertices
   pub opened_of : {n : ℕ} (labels : List ℕ) → length labels ≡ n + 1 → ((v : ℕ) → v < length labels → get_or labels v 0 ≡ label v)
       → All (λ (l : Link). l.high ≤ n) links → IsSorted key_cmp links → (d : Link) → AreOpenOf labels d links candidates
   opened_of {n} labels len same ends order d = (sorted, labelled)
@@ -95,7 +95,7 @@ module _ {label : ℕ → ℕ} {links : List Link} {candidates : List Open} (are
           let low_in : l.low < length labels = omega (arith, ascending, high_in) in
           subst (λ (p : Open). IsLabelled labels (link_of d links p) p) (sym (are.each k o d lt')) (high_in, same l.low low_in, same l.high high_in)
 
--- they ascend as their links do
+-- open links ascend as their links do
 pub sorted_links : (d : Link) (links : List Link) (candidates : List Open) → IsSorted (open_cmp d links) candidates → IsSorted key_cmp (links_of d links candidates)
 sorted_links d links candidates order k d' from to =
     let to' : k + 1 < length candidates = subst (λ n. k + 1 < n) (length-map candidates (link_of d links)) to in
@@ -117,7 +117,7 @@ module _ (numbers : List ℕ) (candidates : List Open) where
           let next = get_or-map (renumbered numbers) candidates (k + 1) o o to' in
           rw (here, next) (order k o from to')
 
-  -- their labels are numbers
+  -- their new labels are numbers
   pub left_between : {bound len last : ℕ} → AreBetween bound len candidates → length numbers ≡ bound
       → AreAllNumbers last numbers → AreBetween (last + 1) len (filter is_open (map (renumbered numbers) candidates))
   left_between {bound} {len} {last} ends same all =
@@ -149,7 +149,7 @@ module _ (numbers : List ℕ) (candidates : List Open) where
         P : Open → Type 0
         P o = IsLabelled (renamed numbers labels) (link_of d links o) o
 
-    -- what is left is apart by the new labels, and no other is
+    -- the remaining links are exactly those that are apart by the new labels
     pub left_in : (l : Link) → Contains (links_of d links (filter is_open (map (renumbered numbers) candidates))) l
         → Contains (links_of d links candidates) l × ¬ (HasOneLabel (renamed numbers labels) l)
     left_in l l_in =
@@ -196,7 +196,6 @@ pub renamed_numbers : {count last : ℕ} {numbers further : List ℕ} → AreAll
     → length further ≡ count + 1 → last ≤ count → AreAllNumbers last further → AreAllNumbers last (renamed further numbers)
 renamed_numbers {count} {last} {numbers} {further} are len few all = search (arith, renamed_at, renamed_len)
 
--- nothing is left
 pub none_left : {X : Type 0} (xs : List X) → length xs ≡ 0 → xs ≡ []
 none_left [] none = refl
 none_left (x ∷ xs) none = absurd (omega (arith, none))

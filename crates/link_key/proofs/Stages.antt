@@ -1,4 +1,4 @@
--- The forest found round by round: what is taken is in it, and what is left is still to be joined.
+-- The forest, found round by round: what is taken is in it, and what is left still has to be joined.
 use Rattle.std.proofs.Common.{◌≡◌, ◌≢◌, ℕ, ◌+◌, ◌<◌, ◌≤◌, ◌⊎◌, ◌↔◌, true, List, [], ◌∷◌, Contains, length, get_or, sym, ap, ◌∙◌, subst, inl, inr, arith}
 use Rattle.std.specs.List.{AllByRecursion, filter}
 use Rattle.std.proofs.lemmas.List.Elements.{All-contains, Contains-get_or}
@@ -19,14 +19,14 @@ use Rattle.links.proofs.Members.{contains_none}
 use Rattle.links.proofs.Walks.{joins_same, joins_symm, joins_replace, joins_more}
 use Rattle.links.proofs.Spanning.{spanning_part}
 
--- the test for ends of different labels
+-- the test for endpoints with different labels
 pub apart_from : (labels : List ℕ) (l : Link) → is_apart labels l ≡ true → ¬ (HasOneLabel labels l)
 apart_from labels l passes same = grind (arith, nat_tests)
 
 pub apart_test : (labels : List ℕ) (l : Link) → ¬ (HasOneLabel labels l) → is_apart labels l ≡ true
 apart_test labels l apart = grind (arith, nat_tests)
 
--- A walk from a vertex with label c to one without takes a link that leaves c: the first that ends outside.
+-- A walk from a vertex with label c to one with another label takes a link that leaves c: the first that ends outside.
 crossing : (labels : List ℕ) (S : Link → Type 0) (c u v : ℕ) → Joins S u v → get_or labels u 0 ≡ c → get_or labels v 0 ≢ c → (m : Link) × S m × LeavesLabel labels m c
 crossing labels S c u v (walk, all, leads) inside outside = along u walk all leads inside
   where
@@ -48,8 +48,8 @@ crossing_ends labels S c l (inr (outside, inside)) joined = crossing labels S c 
 leaves_apart : (labels : List ℕ) (m : Link) (c : ℕ) → LeavesLabel labels m c → ¬ (HasOneLabel labels m)
 leaves_apart a1 a2 a3 a4 a5 = search arith
 
--- The cut property. Were the ends of the least link left joined by smaller links of the list, one of those would leave
--- the label too; it would be left, and so no smaller.
+-- The cut property. Suppose that smaller links of the list join the endpoints of the least remaining link that leaves
+-- the label. Then one of them leaves the label too. It would be in the rest, so it can't be smaller.
 pub least_is_forest_link : {links rest later : List Link} {labels : List ℕ} {taken : List Link}
     → IsStage links rest later labels taken → (c : ℕ) (l : Link) → IsLeastOut labels rest c l → IsForestLink links l
 least_is_forest_link {links} {rest} {later} {labels} stage c l is = (stage.among l is.member, around)
@@ -72,16 +72,15 @@ renamed_to numbers labels v v_in = get_or-map (λ (c : ℕ). get_or numbers c 0)
 pub renamed_len : (numbers labels : List ℕ) → length (renamed numbers labels) ≡ length labels
 renamed_len numbers labels = length-map labels (λ (c : ℕ). get_or numbers c 0)
 
--- labels that were one are one
 renamed_same : (numbers labels : List ℕ) (u v : ℕ) → u < length labels → v < length labels
     → get_or labels u 0 ≡ get_or labels v 0 → get_or (renamed numbers labels) u 0 ≡ get_or (renamed numbers labels) v 0
 renamed_same numbers labels u v u_in v_in same = renamed_to numbers labels u u_in ∙ ap (λ c. get_or numbers c 0) same ∙ sym (renamed_to numbers labels v v_in)
 
--- each label gets a number, so the new labels are up to the last
+-- each label gets a number, so the new labels are at most the last number
 pub renamed_labels : {count last : ℕ} {numbers labels : List ℕ} → length numbers ≡ count + 1 → AreAllNumbers last numbers → AreLabelsUpTo count labels → AreLabelsUpTo last (renamed numbers labels)
 renamed_labels {count} {last} {numbers} {labels} len all are = search (arith, renamed_to, renamed_len)
 
--- A round: what is left is what its new labels leave apart.
+-- A round: the rest are the links that the new labels keep apart.
 pub round_stage : {count last : ℕ} {links later rest rest' before after : List Link} {labels numbers filled : List ℕ} → AreLabelsUpTo count labels → AreTouched labels rest rest numbers before after
     → AreFilled numbers filled → length filled ≡ count + 1 → AreAllNumbers last filled → ((l : Link) → Contains rest' l → Contains rest l × ¬ (HasOneLabel (renamed filled labels) l))
     → ((l : Link) → Contains rest l → ¬ (HasOneLabel (renamed filled labels) l) → Contains rest' l) → IsStage links rest later labels before → IsStage links rest' later (renamed filled labels) after
@@ -125,7 +124,7 @@ round_stage {count} {last} {links} {later} {rest} {rest'} {before} {after} {labe
     old_joined : (u v : ℕ) → u < length labels → v < length labels → get_or labels u 0 ≡ get_or labels v 0 → Joins (Contains after) u v
     old_joined u v u_in v_in same = joins_more (Contains before) (Contains after) touched.kept u v (stage.joined u v u_in v_in same)
 
-    -- a label that nothing touched shares its number with no other
+    -- a label that no link touched shares its number with no other label
     alone : (u v : ℕ) → u < length labels → v < length labels → number_at labels numbers u ≡ 0 → number_at labels filled u ≡ number_at labels filled v → get_or labels u 0 ≡ get_or labels v 0
     alone u v u_in v_in none same = elim (cases_lt 0 (number_at labels filled u)) [
       | inl had ↦ are.alone (get_or labels u 0) (get_or labels v 0) had none same
@@ -153,7 +152,7 @@ round_stage {count} {last} {links} {later} {rest} {rest'} {before} {after} {labe
       | inr none ↦ old_joined u v u_in v_in (alone u v u_in v_in (omega (arith, none)) same)
     ]
 
--- each vertex by itself, nothing taken and all links left
+-- each vertex labels itself, nothing is taken and all links are left
 pub stage_start : (n : ℕ) (links rest : List Link) (labels : List ℕ) → ((l : Link) → Contains rest l ↔ Contains links l)
     → EndsUpTo n links → length labels ≡ n + 1 → ((v : ℕ) → v < length labels → get_or labels v 0 ≡ v) → IsStage links rest [] labels []
 stage_start n links rest labels same ends len own = record {
@@ -181,7 +180,7 @@ stage_start n links rest labels same ends len own = record {
 pub own_labels : (n : ℕ) (labels : List ℕ) → length labels ≡ n + 1 → ((v : ℕ) → v < length labels → get_or labels v 0 ≡ v) → AreLabelsUpTo n labels
 own_labels n labels len own = search arith
 
--- where nothing is left, what is taken is the forest
+-- if no links are left, what is taken is the forest
 pub stage_end : {links : List Link} {labels : List ℕ} {taken : List Link} → IsStage links [] [] labels taken → (l : Link) → Contains taken l ↔ IsForestLink links l
 stage_end {links} {labels} {taken} stage = spanning_part links (Contains taken) stage.forest (joins_replace (Contains links) (Contains taken) ends)
   where
@@ -194,11 +193,11 @@ stage_end {links} {labels} {taken} stage = spanning_part links (Contains taken) 
       | inr other ↦ elim other [ inl l_in' ↦ absurd (contains_none l l_in') | inr l_in' ↦ absurd (contains_none l l_in') ]
     ]
 
--- links of the list have their ends among its vertices
+-- if all endpoints of the list are vertices, so are those of links of it
 pub ends_within : (n : ℕ) (links rest : List Link) → ((l : Link) → Contains rest l → Contains links l) → EndsUpTo n links → EndsUpTo n rest
 ends_within n links rest among ends k d lt = All-contains (λ (m : Link). m.high ≤ n) links (get_or rest k d) ends (among (get_or rest k d) (Contains-get_or rest k d lt))
 
--- the light part first, the others later
+-- the light part comes first, the other links later
 pub stage_part : {links rest light later : List Link} {labels : List ℕ} {taken : List Link} → AreParts rest light later → IsStage links rest [] labels taken → IsStage links light later labels taken
 stage_part parts stage = record {
   ends = stage.ends;
@@ -213,7 +212,7 @@ stage_part parts stage = record {
   above = parts.above;
 }
 
--- then those of the others whose ends aren't joined
+-- then come the other links whose endpoints aren't joined
 pub stage_rest : {links rest light later : List Link} {labels labels' : List ℕ} {taken taken' : List Link} → AreParts rest light later
     → IsStage links rest [] labels taken → IsStage links [] later labels' taken' → IsStage links (filter (is_apart labels') later) [] labels' taken'
 stage_rest {links} {rest} {light} {later} {labels} {labels'} parts before stage = record {

@@ -22,7 +22,7 @@ use Rattle.links.proofs.Walks.{joins_link, joins_symm, joins_trans, joins_more}
 pub none_anywhere : (numbers : List ℕ) → ((c : ℕ) → c < length numbers → get_or numbers c 0 ≡ 0) → (c : ℕ) → get_or numbers c 0 ≡ 0
 none_anywhere numbers none c = search (arith, cases_lt, get_or_past)
 
--- the labels that have no number are at most all
+-- the number of labels without a number is at most the number of labels
 zeros_few : (numbers : List ℕ) → zeros numbers ≤ length numbers
 zeros_few numbers =
     let few = sum_by-le (λ (k : ℕ). if k == 0 then 1 else 0) 1 numbers (λ k d lt. one (get_or numbers k d == 0)) in
@@ -32,7 +32,7 @@ zeros_few numbers =
     one true = omega arith
     one false = omega arith
 
--- before any link is seen
+-- before any link is looked at
 pub numbers_none : (numbers : List ℕ) → ((c : ℕ) → c < length numbers → get_or numbers c 0 ≡ 0) → AreNumbers 0 numbers
 numbers_none numbers none = search (arith, none_anywhere, zeros_few)
 
@@ -45,11 +45,11 @@ module _ {a b last last' : ℕ} {numbers numbers' : List ℕ} (share : ShareNumb
   Choice = ((share.number ≡ get_or numbers a 0) × (0 < share.number) × (last' ≡ last)) ⊎ ((share.number ≡ get_or numbers b 0) × (0 < share.number) × (last' ≡ last)) ⊎
       ((share.number ≡ last + 1) × (last' ≡ last + 1) × (get_or numbers a 0 ≡ 0) × (get_or numbers b 0 ≡ 0))
 
-  -- a number that was given stays
+  -- an assigned number stays
   pub number_stays : (c : ℕ) → 0 < get_or numbers c 0 → get_or numbers' c 0 ≡ get_or numbers c 0
   number_stays c some = search (arith, cases_eq)
 
-  -- the shared number is one, and at most the last
+  -- the shared number isn't 0, and it is at most the last number
   pub shared_some : 0 < share.number
   shared_some = search arith
 
@@ -59,25 +59,25 @@ module _ {a b last last' : ℕ} {numbers numbers' : List ℕ} (share : ShareNumb
   last_grows : last ≤ last'
   last_grows = search arith
 
-  -- what had a number has one
+  -- a label with a number keeps having one
   pub some_stays : (c : ℕ) → 0 < get_or numbers c 0 → 0 < get_or numbers' c 0
   some_stays c some = subst (λ k. 0 < k) (sym (number_stays c some)) some
 
   pub shared_numbers : 0 < a → 0 < b → last' + zeros numbers' ≤ last + zeros numbers → AreNumbers last numbers → AreNumbers last' numbers'
   shared_numbers a_some b_some fewer are = search (arith, cases_eq, shared_most, last_grows)
 
--- a label that a link leaves is that of one of its ends
+-- a label that a link leaves is the label of one of its endpoints
 leaves_end : (labels : List ℕ) (m : Link) (c : ℕ) → LeavesLabel labels m c → (get_or labels m.low 0 ≡ c) ⊎ (get_or labels m.high 0 ≡ c)
 leaves_end a1 a2 a3 a4 = search arith
 
--- The link that is looked at next, and its ends' labels.
+-- The next link, and the labels of its endpoints.
 pub record Next (labels : List ℕ) (rest seen : List Link) (x : Link) : Type 0 where
   pub member : Contains rest x
   pub before : (m : Link) → Contains rest m → IsBelow m x → Contains seen m
   pub low_in : x.low < length labels
   pub high_in : x.high < length labels
 
--- It is the link behind those seen.
+-- It is the link after those seen so far.
 pub next_of : (labels : List ℕ) (rest : List Link) (i : ℕ) (x : Link) → IsSorted key_cmp rest → x.high < length labels → i < length rest → x ≡ get_or rest i x → Next labels rest (take i rest) x
 next_of labels rest i x order high_in in_range is = record {
   member = (i, in_range, sym is);
@@ -98,13 +98,13 @@ next_of labels rest i x order high_in in_range is = record {
           absurd (false≢true (sym (rw (at, here) at far) ∙ ap is_lt below))
     ]
 
--- what is seen with it
+-- the links seen, including it
 pub seen_with : (rest : List Link) (i : ℕ) (x : Link) → i < length rest → x ≡ get_or rest i x → take (i + 1) rest ≡ take i rest ++ x ∷ []
 seen_with rest i x in_range is = take_more rest i x in_range ∙ ap (λ l. take i rest ++ l ∷ []) (sym is)
 
 module _ {labels : List ℕ} {rest seen : List Link} {numbers : List ℕ} {before after : List Link} {x : Link}
     (next : Next labels rest seen x) (so_far : AreTouched labels rest seen numbers before after) where
-  -- Both components were touched: it is passed over.
+  -- Both components were touched before: the link isn't taken.
   pub touched_passed : 0 < number_at labels numbers x.low → 0 < number_at labels numbers x.high → AreTouched labels rest (seen ++ x ∷ []) numbers before after
   touched_passed low_had high_had = record {
     touched = λ l l_in. elim (Contains-push_cases seen x l l_in) [
@@ -116,7 +116,7 @@ module _ {labels : List ℕ} {rest seen : List Link} {numbers : List ℕ} {befor
     joined = so_far.joined;
   }
 
-  -- One of them wasn't: it is taken.
+  -- One of them wasn't touched: the link is taken.
   pub touched_taken : {last last' : ℕ} {numbers' : List ℕ} → AreNumbers last numbers
       → ShareNumber (get_or labels x.low 0) (get_or labels x.high 0) last numbers last' numbers' → AreTouched labels rest (seen ++ x ∷ []) numbers' before (after ++ x ∷ [])
   touched_taken {last} {last'} {numbers'} are share = record {
@@ -142,7 +142,7 @@ module _ {labels : List ℕ} {rest seen : List Link} {numbers : List ℕ} {befor
       some : 0 < share.number
       some = shared_some share
 
-      -- no link before it touched what has no number
+      -- no earlier link touched a label that has no number
       untouched : (c : ℕ) → get_or numbers c 0 ≡ 0 → (m : Link) → Contains rest m → LeavesLabel labels m c → ¬ (IsBelow m x)
       untouched c none m m_in leaves below =
           let had = so_far.touched m (next.before m m_in below) in
@@ -185,11 +185,11 @@ module _ {labels : List ℕ} {rest seen : List Link} {numbers : List ℕ} {befor
           back : Joins S x.high x.low
           back = joins_symm S x.low x.high (joins_link S x (Contains-push after x))
 
-          -- what has a number other than the shared one had it before
+          -- a label with a number other than the shared one had that number before
           kept_number : (w : ℕ) → ¬ (number_at labels numbers' w ≡ share.number) → number_at labels numbers' w ≡ number_at labels numbers w
           kept_number w other = share.others (get_or labels w 0) (λ is. other (ap (λ k. get_or numbers' k 0) is ∙ share.first)) (λ is. other (ap (λ k. get_or numbers' k 0) is ∙ share.second))
 
-          -- what had the shared number before
+          -- a label that had the shared number before
           old_near : (w : ℕ) → w < length labels → number_at labels numbers w ≡ share.number → Joins S w x.low
           old_near w w_in is = elim share.old [
             | inl given ↦ old_joined w x.low w_in next.low_in (subst (λ k. 0 < k) (sym is) some) (is ∙ given.0)
@@ -208,7 +208,7 @@ module _ {labels : List ℕ} {rest seen : List Link} {numbers : List ℕ} {befor
             ]
           ]
 
--- links that are taken in another order, or more than once, leave the same
+-- the result is the same if the links are taken in another order, or some repeatedly
 pub touched_same : {labels : List ℕ} {rest seen : List Link} {numbers : List ℕ} {before after after' : List Link}
     → ((l : Link) → Contains after l ↔ Contains after' l) → AreTouched labels rest seen numbers before after → AreTouched labels rest seen numbers before after'
 touched_same {labels} {rest} {seen} {numbers} {before} {after} {after'} same are = record {

@@ -6,33 +6,33 @@ use Rattle.links.specs.Least.{AreDistinct}
 use Rattle.links.specs.LinkSet.{LinkSet, HasNoCycle}
 use Rattle.links.specs.Walk.{Joins}
 
--- a list of links that close no cycle, in which no link stands twice
+-- a list of links that close no cycle, in which no link occurs twice
 abbrev pub IsAcyclic : List Link → Type 0
 IsAcyclic links = AreDistinct links × HasNoCycle (Contains links)
 
--- vertices have one number exactly if the links join them
+-- vertices have the same number exactly if the links join them
 pub record AreComponents (S : LinkSet) (numbers : List ℕ) : Type 0 where
   pub joined : (u v : ℕ) → u < length numbers → v < length numbers → slice_index numbers u ≡ slice_index numbers v → Joins S u v
   pub alike : (u v : ℕ) → Joins S u v → slice_index numbers u ≡ slice_index numbers v
 
--- of the vertices that the links join with v this is the least
+-- this is the least of the vertices that the links join with v
 pub record IsLeastJoined (S : LinkSet) (v least : ℕ) : Type 0 where
   pub joined : Joins S v least
   pub at_most : (u : ℕ) → Joins S v u → least ≤ u
 
--- each of the vertices 1 to n is labelled by the least of its component
+-- each of the vertices 1 to n is labelled by the least vertex of its component
 pub record AreLeastVertices (n : ℕ) (S : LinkSet) (labels : List ℕ) : Type 0 where
   pub vertices : length labels ≡ n
   pub least : (v : ℕ) → 1 ≤ v → v ≤ n → IsLeastJoined S v (label_of labels v)
 
--- of the vertices 1, 2, .. this is the first that has the number
+-- this is the first of the vertices 1, 2, .. that has the number
 pub record IsFirstWith (numbers : List ℕ) (number first : ℕ) : Type 0 where
   pub from_one : 1 ≤ first
   pub in_range : first < length numbers
   pub has : slice_index numbers first ≡ number
   pub none_before : (u : ℕ) → 1 ≤ u → u < first → slice_index numbers u ≢ number
 
--- each vertex from 1 on is labelled by the first one that has its number
+-- each vertex from 1 on is labelled by the first vertex that has its number
 abbrev pub AreFirsts : List ℕ → List ℕ → Type 0
 AreFirsts numbers labels =
     (v : ℕ) → 1 ≤ v → v < length numbers → IsFirstWith numbers (slice_index numbers v) (label_of labels v)

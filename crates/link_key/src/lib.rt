@@ -1,19 +1,20 @@
-//! Links, their keys, labels, offers, shards and cuts, as `links` has them, and the sequential solver: the minimum
-//! spanning forest of a list, by one thread, or by several that share its steps.
+//! The sequential solver: the minimum spanning forest of a list of edges, found by one thread, or by several threads
+//! that share its steps. The crate also re-exports from `links` what the solver works on: links (the API's name for
+//! edges), their keys, labels, offers, shards and cuts.
 //!
 //! ```text
 //!   links  --parts of them, the lightest first-->  rounds of first touches between numbered components  -->  Forest
 //! ```
 //!
 //! What it promises:
-//! - [`forest_of`], and [`plain_forest`] on a copy, gives exactly the forest, the links whose ends aren't joined by
-//!   smaller ones; no spanning forest weighs less. [`keep_forest`] leaves its links in the list, and [`keep_forest_par`]
-//!   finds the same by several threads.
-//! - [`components_of`] labels each vertex by the least one of its component under links that close no cycle, and gives no
-//!   labels where they close one.
+//! - [`forest_of`] returns exactly the forest: the links whose endpoints aren't joined by links of smaller keys. No
+//!   spanning forest weighs less. [`plain_forest`] does the same with a copy of the list.
+//! - [`keep_forest`] leaves only the forest's links in the list, and [`keep_forest_par`] does so with several threads.
+//! - [`components_of`] labels each vertex with the least vertex of its component, if the links close no cycle and none
+//!   is repeated. Otherwise, it returns no labels.
 //!
-//! Where to start a change: `sequential` is the solver, with its rounds; what stands while it works is said in
-//! `specs/Rounds` and `OpenLinks`, and what components are in `specs/Components`. What a forest is stands in `links`.
+//! To change the solver and its rounds, see `sequential`. What is true while it works is defined in `specs/Rounds` and
+//! `specs/OpenLinks`, and what components are in `specs/Components`. The definition of a forest is in `links`.
 #![tactic(auto)]
 
 pub mod sequential;

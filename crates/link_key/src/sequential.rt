@@ -1,7 +1,7 @@
-//! The sequential solver: the forest of a list, by one thread, which goes over the list in Borůvka's rounds. `solver` has
-//! the whole way from a list to its forest, `rounds` the rounds between numbered components, and `components` the labels of
-//! vertices by those rounds. `steps` says who does the steps between the rounds, one thread or many, and `by_threads` how
-//! many drop links.
+//! The sequential solver finds the forest of a list in Borůvka's rounds. `solver` has all steps from a list to its
+//! forest, `rounds` the rounds between numbered components, and `components` the labels of vertices that these rounds
+//! give. `steps` decides whether one thread or several do the steps between the rounds, and `by_threads` drops links
+//! with several threads.
 mod by_threads;
 mod components;
 mod rounds;

@@ -18,7 +18,6 @@ use Rattle.link_merges.proofs.Unions.{merge_of_ends}
 abbrev no_row : Merge
 no_row = record { first = 0; second = 0; size = 0 }
 
--- one number
 one : (r : ℕ) → HasSize (λ v. v ≡ r) 1
 one r = record {
   numbers = r ∷ [];
@@ -33,7 +32,6 @@ one r = record {
   counted = refl;
 }
 
--- a point is one vertex
 size_point : (n : ℕ) (links : List Link) (c : ℕ) → c < n → HasSize (IsInCluster n links c) 1
 size_point n links c lt = size_same (λ v. v ≡ c + 1) (IsInCluster n links c) 1 (one (c + 1)) (λ v. (λ is. inl (lt, is), of_point v))
   where
@@ -41,7 +39,7 @@ size_point n links c lt = size_same (λ v. v ≡ c + 1) (IsInCluster n links c) 
     of_point v (inl is) = is.1
     of_point v (inr (i, l, e, at, joined)) = absurd (omega (arith, e, lt))
 
--- a cluster has as many points as the row says that made it
+-- a cluster has as many points as the row that made it says
 pub size_of : (n : ℕ) (links : List Link) (rows : List Merge) (k c : ℕ) → k ≤ length links → ((j : ℕ) (l : Link) → j < k → slice_get links j ≡ Some l → IsMerge n links j l (row_at rows j))
     → c < n + k → HasSize (IsInCluster n links c) (points_in n rows c)
 size_of n links rows k c most each lt = elim (cases_lt c n) [
@@ -54,7 +52,7 @@ size_of n links rows k c most each lt = elim (cases_lt c n) [
       (subst (λ d. HasSize (IsInCluster n links d) (row_at rows (c - n)).size) same (each (c - n) found.0 below found.1).size)
 ]
 
--- what the links join with a vertex is a vertex
+-- whatever the links join with a vertex is a vertex
 within : (n : ℕ) (links : List Link) (k u v : ℕ) → EndsUpTo n links → u ≤ n → FirstJoin links k u v → v ≤ n
 within n links k u v ends most joined =
     let same = joins_equal (Contains (take k links)) (λ x. x - n) each u v joined in omega (arith, most, same)
@@ -67,7 +65,7 @@ within n links k u v ends most joined =
         let up = m.ascending in
         omega (arith, high, up)
 
--- no cluster has more points than there are
+-- a cluster has at most n + 1 points
 pub few_points : (n : ℕ) (links : List Link) (i : ℕ) (l : Link) (a : ℕ) → EndsUpTo n links → slice_get links i ≡ Some l → HasSize (IsInCluster n links (n + i)) a → a ≤ n + 1
 few_points n links i l a ends at size = size_few (n + 1) (IsInCluster n links (n + i)) a
     (λ v v_in. let most = within n links (i + 1) l.low v ends (ends_in n links i l ends at).0 ((new_cluster n links i l at v).0 v_in) in omega (arith, most)) size

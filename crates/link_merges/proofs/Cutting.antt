@@ -1,4 +1,4 @@
--- Each vertex has a cluster under the first links, and those of a forest join what the graph's do.
+-- Each vertex has a cluster under the first links, and the first links of a forest join what those of the graph join.
 use Rattle.std.proofs.Common.{◌≡◌, ℕ, zero, suc, ◌+◌, ◌-◌, ◌<◌, ◌≤◌, ◌↔◌, ℤ, List, length, get_or, take, Contains, Some, sym, ap, ◌∙◌, subst, inl, inr, arith}
 use Rattle.std.specs.Prelude.{slice_get}
 use Rattle.std.proofs.lemmas.List.{take_all, length-take, get_or-take}
@@ -26,7 +26,7 @@ joined_dec links u v = dec_along
     (joins_more (Contains links) (Passing links Any) (λ m m_in. (m_in, tt)) u v)
     (joins_dec Any (λ l. inl tt) links u v)
 
--- at first a vertex is its point
+-- at first, the cluster of a vertex is its point
 pub at_first : (n : ℕ) (links : List Link) (u : ℕ) → 1 ≤ u → u ≤ n → IsClusterOf n links 0 u (u - 1)
 at_first n links u from to = record {
   there = omega (arith, from, to);
@@ -43,14 +43,14 @@ at_first n links u from to = record {
     itself : (v : ℕ) → FirstJoin links 0 u v → u ≡ v
     itself v joined = joins_equal (Contains (take 0 links)) (λ x. x) (λ l l_in. absurd (contains_none l l_in)) u v joined
 
--- one more link makes a cluster of what it joins, and leaves the others
+-- the next link makes one cluster of what it joins, and doesn't change the others
 one_further : (n : ℕ) (links : List Link) (u k : ℕ) (l : Link) → slice_get links k ≡ Some l → HasCluster n links u k → HasCluster n links u (k + 1)
 one_further n links u k l link_at (c, is) = elim (joined_dec (take (k + 1) links) u l.low) [
   | inl joined ↦ (n + k, made n links k l link_at u joined)
   | inr not ↦ (c, kept n links k l link_at u c is not)
 ]
 
--- no further link changes nothing
+-- past the last link, nothing changes
 none_further : (n : ℕ) (links : List Link) (u k : ℕ) → length links ≤ k → HasCluster n links u k → HasCluster n links u (k + 1)
 none_further n links u k past (c, is) =
     let same : take k links ≡ take (k + 1) links = take_all k links past ∙ sym (take_all (k + 1) links (omega (arith, past))) in (

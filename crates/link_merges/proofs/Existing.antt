@@ -1,4 +1,4 @@
--- Links that close no cycle have merges: one after the other, of the clusters that are there for their ends.
+-- Links that close no cycle have merges: one after the other, each of the existing clusters of a link's endpoints.
 use Rattle.std.proofs.Common.{◌≡◌, ℕ, zero, suc, ◌+◌, ◌<◌, ◌≤◌, min, max, List, [], ◌∷◌, ◌++◌, length, Some, refl, sym, ap, ◌∙◌, subst, arith}
 use Rattle.std.specs.Prelude.{slice_get}
 use Rattle.std.proofs.lemmas.List.{length_push}
@@ -15,7 +15,6 @@ use Rattle.link_merges.proofs.Merging.{link_there, ends_in, ends_apart}
 use Rattle.link_merges.proofs.Rows.{one_more}
 use Rattle.link_merges.proofs.Unions.{merge_of_ends}
 
--- merges of the first k links
 record Built (n : ℕ) (links : List Link) (k : ℕ) : Type 0 where
   merges : List Merge
   rows : length merges ≡ k

@@ -1,4 +1,4 @@
--- A list of rows is joined if its first half is, and then the other, moved past the first.
+-- A list of rows is joined if its first half is joined, and then its second half, after it was moved past the first.
 use Rattle.std.proofs.Common.{◌≡◌, ◌≢◌, ℕ, ◌+◌, ◌-◌, ◌<◌, List, ◌++◌, length, set, Some, sym, ap, ◌∙◌, subst, inl, inr, arith}
 use Rattle.std.specs.Prelude.{slice_get}
 use Rattle.std.proofs.lemmas.Bool.{cases_lt}
@@ -15,7 +15,7 @@ abbrev no_row : Merge
 no_row = record { first = 0; second = 0; size = 0 }
 
 module _ (n : ℕ) (links : List Link) (k : ℕ) where
-  -- the link of a lone row
+  -- the link of a single row
   module _ (rows : List Merge) (one : length rows ≡ 1) (are : AreToJoin n links k rows) where
     lone : (l : Link) × (slice_get links k ≡ Some l)
     lone = link_there links k (let most = are.within in omega (arith, one, most))
@@ -44,7 +44,7 @@ module _ (n : ℕ) (links : List Link) (k : ℕ) where
           each = λ j l lt at. subst (HasEnds n links k l) (get_or_append_left first second no_row j lt) (are.each j l (omega (arith, len, lt)) at);
         }
 
-    -- once the first half is joined, and the second moved past it, that is to be joined
+    -- after the first half is joined and the second half is moved past it, the second half can be joined
     pub halfway : AreToJoin n links k (first ++ second) → (first' second' : List Merge) (now : List ℕ) → length first' ≡ length first → length second' ≡ length second
         → (AreToJoin n links k first → AreJoined n links k first') → (AreJoined n links k first' → LeadsOn n links k (k + length first') now) → AreMovedBy now second second'
         → AreJoined n links k first' × AreToJoin n links (k + length first') second'
@@ -86,7 +86,7 @@ module _ (n : ℕ) (links : List Link) (k : ℕ) where
           ];
         }
 
--- ---- each of joined rows, the last one first
+-- ---- each of the joined rows, the last row first
 
 module _ (n : ℕ) (links : List Link) (k : ℕ) (rows : List Merge) (are : AreJoined n links k rows) where
   pub leads_back : (i m : ℕ) (now : List ℕ) (next : ℕ) → i < length rows → (row_at rows i).first < length now → (row_at rows i).second < length now

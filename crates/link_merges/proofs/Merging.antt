@@ -1,4 +1,4 @@
--- One more link: it makes one cluster of those of its ends, and leaves the others.
+-- Adding one link: it makes one cluster of those of its endpoints, and doesn't change the others.
 use Rattle.std.proofs.Common.{◌≡◌, ◌≢◌, ℕ, zero, suc, ◌+◌, ◌<◌, ◌≤◌, ◌↔◌, List, [], ◌∷◌, ◌++◌, length, get_or, take, Contains, Some, refl, sym, ap, ◌∙◌, subst, inl, inr, arith}
 use Rattle.std.specs.Prelude.{slice_get}
 use Rattle.std.proofs.lemmas.List.{take_more, length-take, get_or-take}
@@ -25,7 +25,7 @@ link_there links k lt = elim (slice_get_cases links k).1 [
 pub ends_in : (n : ℕ) (links : List Link) (k : ℕ) (l : Link) → EndsUpTo n links → slice_get links k ≡ Some l → (l.low ≤ n) × (1 ≤ l.high) × (l.high ≤ n)
 ends_in n links k l ends link_at = search (arith, get_or_from_slice_get, slice_get_within)
 
--- the links up to place k are those before it and the link there
+-- the links up to index k are the earlier links and the link at k
 first_more : (links : List Link) (k : ℕ) (l : Link) → slice_get links k ≡ Some l → take (k + 1) links ≡ take k links ++ l ∷ []
 first_more links k l link_at =
     take_more links k l (slice_get_within links k l link_at) ∙ ap (λ (m : Link). take k links ++ m ∷ []) (get_or_from_slice_get links k l l link_at)
@@ -57,7 +57,7 @@ new_cluster n links k l link_at w = (to, λ joined. inr (k, l, refl, link_at, jo
         let same : m ≡ l = same_Some m l (sym at ∙ ap (slice_get links) at_k ∙ link_at) in
         subst (λ (x : Link). FirstJoin links (k + 1) x.low w) same (subst (λ j. FirstJoin links (j + 1) m.low w) at_k joined)
 
--- links that close no cycle, and one more whose ends they don't join
+-- links that close no cycle, and another link whose endpoints they don't join
 acyclic_more : (links : List Link) (k : ℕ) (l : Link) → slice_get links k ≡ Some l → IsAcyclic (take k links) → ¬ (FirstJoin links k l.low l.high) → IsAcyclic (take (k + 1) links)
 acyclic_more links k l link_at (distinct, none) apart = (
   subst AreDistinct (sym (first_more links k l link_at)) (all_pairs_push (λ (x y : Link). x ≢ y) (take k links) l distinct new),
@@ -68,7 +68,7 @@ acyclic_more links k l link_at (distinct, none) apart = (
     new : (j : ℕ) (d : Link) → j < length (take k links) → get_or (take k links) j d ≢ l
     new j d lt same = apart (joins_link (Contains (take k links)) l (subst (Contains (take k links)) same (Contains-get_or (take k links) j d lt)))
 
--- the ends of a link that is to come aren't joined, where the links close no cycle
+-- if the links close no cycle, the endpoints of a later link aren't joined yet
 pub ends_apart : (links : List Link) (k : ℕ) (l : Link) → slice_get links k ≡ Some l → IsAcyclic links → ¬ (FirstJoin links k l.low l.high)
 ends_apart links k l link_at (distinct, none) joined =
     none l (k, in_range, get_or_from_slice_get links k l l link_at)
@@ -87,7 +87,7 @@ ends_apart links k l link_at (distinct, none) joined =
     differs m (j, lt, at) same = let below = before_k j lt in
         distinct j k m below in_range (sym (get_or-take k links j m below) ∙ at ∙ same ∙ sym (get_or_from_slice_get links k l m link_at))
 
--- each link is apart from those before it exactly if the links close no cycle
+-- if the links close no cycle, no link's endpoints are joined by the earlier links
 pub none_closes : (links : List Link) (k : ℕ) → IsAcyclic links → CloseNone links k
 none_closes links k acyclic i l lt link_at = ends_apart links i l link_at acyclic
 
@@ -116,7 +116,7 @@ module _ (n : ℕ) (links : List Link) (k : ℕ) (l : Link) (link_at : slice_get
   pub through : (u v : ℕ) → FirstJoin links (k + 1) u v → JoinsThrough S l u v
   through u v joined = (joins_one_more S l u v).0 (joins_more T (WithLink S l) (λ m m_in. (first_links links k l link_at m).0 m_in) u v joined)
 
-  -- what is joined to the link's ends is in the new cluster
+  -- a vertex that is joined to the link's endpoints is in the new cluster
   pub made : (u : ℕ) → FirstJoin links (k + 1) u l.low → IsClusterOf n links (k + 1) u (n + k)
   made u is = record {
     there = omega arith;
@@ -126,7 +126,7 @@ module _ (n : ℕ) (links : List Link) (k : ℕ) (l : Link) (link_at : slice_get
     );
   }
 
-  -- what isn't has the cluster that it had
+  -- any other vertex keeps its cluster
   pub kept : (u c : ℕ) → IsClusterOf n links k u c → ¬ (FirstJoin links (k + 1) u l.low) → IsClusterOf n links (k + 1) u c
   kept u c is isnt = record {
     there = let lt = is.there in omega (arith, lt);

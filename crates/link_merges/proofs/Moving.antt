@@ -1,4 +1,4 @@
--- Where clusters go when a link is taken, and rows that are moved past others.
+-- What clusters become part of when a link is taken, and rows that are moved past others.
 use Rattle.std.proofs.Common.{◌≡◌, ◌≢◌, ℕ, ◌+◌, ◌<◌, ◌⊎◌, List, length, get_or, set, take, Contains, Some, sym, ap, ◌∙◌, subst, inl, inr, ⊎_elim, arith}
 use Rattle.std.specs.Prelude.{slice_get}
 use Rattle.std.proofs.lemmas.Bool.{cases_eq}
@@ -12,12 +12,12 @@ use Rattle.link_merges.specs.Halves.{now_of, HasEnds, CloseNone, LeadsOn}
 use Rattle.link_merges.proofs.Merging.{made, kept, longer, low_to_high, through}
 use Rattle.link_merges.proofs.Unique.{one_cluster}
 
--- what stands for cluster c once something else stands for two clusters
+-- what cluster c is part of, after two clusters have become part of another one
 pub both_set : (now : List ℕ) (x y next : ℕ) → x < length now → y < length now → (c : ℕ)
     → (((c ≡ x) ⊎ (c ≡ y)) × (now_of (set (set now x next) y next) c ≡ next)) ⊎ ((c ≢ x) × (c ≢ y) × (now_of (set (set now x next) y next) c ≡ now_of now c))
 both_set now x y next x_in y_in c = search (arith, cases_eq, set, get_or-set_same, length-set, get_or-set_other)
 
--- what is joined has one cluster
+-- joined vertices have the same cluster
 same_cluster : (n : ℕ) (links : List Link) (k u w c : ℕ) → IsClusterOf n links k u c → FirstJoin links k u w → IsClusterOf n links k w c
 same_cluster n links k u w c is joined = record {
   there = is.there;
@@ -27,12 +27,12 @@ same_cluster n links k u w c is joined = record {
   );
 }
 
--- what has one cluster is joined
+-- vertices with the same cluster are joined
 pub joined_in_one : (n : ℕ) (links : List Link) (k u w c : ℕ) → IsClusterOf n links k u c → IsClusterOf n links k w c → FirstJoin links k u w
 joined_in_one n links k u w c of_u of_w = (of_u.same w).0 ((of_w.same w).1 (joins_refl (Contains (take k links)) w))
 
 module _ (n : ℕ) (links : List Link) (k : ℕ) (none : CloseNone links k) (l : Link) (link_at : slice_get links k ≡ Some l) (row : Merge) (has : HasEnds n links k l row) where
-  -- two clusters, so the link closes no cycle
+  -- the row has two different clusters, so the link closes no cycle
   pub apart_more : row.first ≢ row.second → CloseNone links (k + 1)
   apart_more differ i m lt at joined = elim (cases_eq i k) [
     | inl here ↦
@@ -66,7 +66,8 @@ module _ (n : ℕ) (links : List Link) (k : ℕ) (none : CloseNone links k) (l :
       to_low : ¬ (FirstJoin links k u l.low)
       to_low to = not_first (one_cluster n links k none l.low c row.first (same_cluster n links k u l.low c is to) has.low)
 
-  -- both of the row's clusters go where that which they become goes, the others where they went
+  -- both clusters of the row become part of whatever their union is part of; the other clusters stay what they were
+  -- part of
   pub leads_one : (m : ℕ) (now : List ℕ) (next : ℕ) → row.first < length now → row.second < length now → next ≡ now_of now (n + k)
       → LeadsOn n links (k + 1) m now → LeadsOn n links k m (set (set now row.first next) row.second next)
   leads_one m now next first_in second_in next_is leads u c is = elim (both_set now row.first row.second next first_in second_in c) [

@@ -6,7 +6,7 @@ use Rattle.links.specs.declared.links.Link.{Link}
 use Rattle.link_merges.specs.declared.merges.Merge.{Merge}
 use Rattle.link_merges.specs.Merges.{IsMerge}
 
--- what stands in a list with one more element stood there before, or is that element
+-- an element of a list with one element appended was in the list before, or is the appended one
 pushed : {X : Type 0} (xs : List X) (y x : X) (j : ℕ) → slice_get (xs ++ y ∷ []) j ≡ Some x → (slice_get xs j ≡ Some x) ⊎ ((j ≡ length xs) × (y ≡ x))
 pushed [] y x zero is = inr (refl, same_Some y x is)
 pushed [] y x (suc j) is = absurd (none-some x is)

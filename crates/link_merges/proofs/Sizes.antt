@@ -20,7 +20,7 @@ few_below n members distinct within =
     (IsDistinct-from_apart eqb members (λ i j d lt in_list. ne_eqb _ _ (distinct i j d lt in_list)))
     (λ q found. within q (Contains-from_any (λ x y same. eqb-true x y same) q members found))
 
--- what has a size isn't more than there is
+-- if all numbers with a property are below n, at most n have it
 pub size_few : (n : ℕ) (P : ℕ → Type 0) (size : ℕ) → ((v : ℕ) → P v → v < n) → HasSize P size → size ≤ n
 size_few n P size within has =
     let few = few_below n has.numbers has.distinct (λ v v_in. within v ((has.exact v).0 v_in)) in
@@ -40,7 +40,7 @@ apart_both (x ∷ xs) ys of_xs of_ys apart =
       | inr in_ys ↦ λ same. apart x (contains_head x xs) (subst (Contains ys) (sym same) in_ys)
     ]
 
--- a union of what has nothing in common has both sizes together
+-- the size of a union of disjoint sets is the sum of their sizes
 pub size_both : (P Q R : ℕ → Type 0) (a b : ℕ) → HasSize P a → HasSize Q b → ((v : ℕ) → P v → ¬ (Q v)) → ((v : ℕ) → R v ↔ (P v ⊎ Q v)) → HasSize R (a + b)
 size_both P Q R a b of_p of_q apart are = record {
   numbers = of_p.numbers ++ of_q.numbers;
@@ -59,6 +59,6 @@ size_both P Q R a b of_p of_q apart are = record {
     back v (inl is) = Contains-append_left of_p.numbers of_q.numbers v ((of_p.exact v).1 is)
     back v (inr is) = Contains-append_right of_p.numbers of_q.numbers v ((of_q.exact v).1 is)
 
--- what has the same numbers has the same size
+-- sets with the same numbers have the same size
 pub size_same : (P Q : ℕ → Type 0) (size : ℕ) → HasSize P size → ((v : ℕ) → P v ↔ Q v) → HasSize Q size
 size_same P Q size has are = search arith

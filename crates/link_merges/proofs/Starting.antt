@@ -1,4 +1,4 @@
--- Before the first link is taken, and once all are joined.
+-- Before the first link is taken, and after all links are joined.
 use Rattle.std.proofs.Common.{◌≡◌, ℕ, ◌+◌, ◌-◌, ◌<◌, ◌≤◌, List, ◌++◌, length, map, take, drop, Some, sym, ap, ◌∙◌, subst, arith}
 use Rattle.std.specs.Prelude.{slice_get}
 use Rattle.std.proofs.Math.Seq.{take-append_seam}
@@ -16,7 +16,7 @@ use Rattle.link_merges.proofs.Merging.{link_there, ends_in, acyclic_first}
 abbrev no_row : Merge
 no_row = record { first = 0; second = 0; size = 0 }
 
--- links that close no cycle are no more than there are vertices
+-- there are at most as many links that close no cycle as there are vertices
 pub few_links : (n : ℕ) (links : List Link) → EndsUpTo n links → IsAcyclic links → length links ≤ n
 few_links n links ends acyclic = let sum = (components_left n links ends acyclic.0 acyclic.1).2 in omega (arith, sum)
 
@@ -68,6 +68,6 @@ none_merged n links rows len joined = record {
 pub all_acyclic : (links : List Link) → CloseNone links (length links) → IsAcyclic links
 all_acyclic links none = let most : length links ≤ length links = omega arith in subst IsAcyclic (take_all (length links) links most) (acyclic_first links (length links) most none)
 
--- what stands in a `Vec` of as many elements once a whole slice of it was written
+-- a `Vec` of as many elements after a slice of all of it was written
 pub whole : (m : ℕ) (rows items : List Merge) → m ≡ length items → length rows ≡ length items → take m (rows ++ drop (length rows) items) ≡ rows
 whole m rows items m_is len = ap (λ k. take k (rows ++ drop (length rows) items)) (m_is ∙ sym len) ∙ take-append_seam rows (drop (length rows) items)

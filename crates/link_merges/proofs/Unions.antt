@@ -1,4 +1,4 @@
--- The cluster that a link makes is the union of those of its ends.
+-- The cluster that a link makes is the union of the clusters of its endpoints.
 use Rattle.std.proofs.Common.{◌≡◌, ◌≢◌, ℕ, ◌+◌, ◌⊎◌, ◌↔◌, min, max, List, take, Contains, Some, sym, subst, inl, inr, ⊎_elim, arith}
 use Rattle.std.specs.Prelude.{slice_get}
 use Rattle.std.proofs.lemmas.Bool.{cases_lt}
@@ -17,14 +17,14 @@ module _ (n : ℕ) (links : List Link) (i : ℕ) (l : Link) (link_at : slice_get
   abbrev S : LinkSet
   S = Contains (take i links)
 
-  -- no vertex is joined to both ends before
+  -- before the link, no vertex is joined to both endpoints
   not_both : (v : ℕ) → FirstJoin links i l.low v → ¬ (FirstJoin links i l.high v)
   not_both v of_low of_high = two (joins_trans S l.low v l.high of_low (joins_symm S l.high v of_high))
 
   by_ends : (v : ℕ) → JoinsThrough S l l.low v → FirstJoin links i l.low v ⊎ FirstJoin links i l.high v
   by_ends a1 a2 = search arith
 
-  -- the new cluster has what was joined to either end
+  -- the new cluster has the vertices that were joined to either endpoint
   of_ends : (v : ℕ) → IsInCluster n links (n + i) v ↔ (FirstJoin links i l.low v ⊎ FirstJoin links i l.high v)
   of_ends v = (
     λ v_in. by_ends v (through n links i l link_at l.low v ((new_cluster n links i l link_at v).0 v_in)),
@@ -32,7 +32,7 @@ module _ (n : ℕ) (links : List Link) (i : ℕ) (l : Link) (link_at : slice_get
         (⊎_elim (longer n links i l link_at l.low v) (λ joined. joins_trans (Contains (take (i + 1) links)) l.low l.high v (low_to_high n links i l link_at) (longer n links i l link_at l.high v joined)) is),
   )
 
-  -- by clusters of the one end p and of the other end q
+  -- with cluster p of one endpoint and cluster q of the other
   module _ (merge : Merge) (size : HasSize (IsInCluster n links (n + i)) merge.size) (apart : (v : ℕ) → IsInCluster n links merge.first v → ¬ (IsInCluster n links merge.second v)) (both : (v : ℕ) → IsInCluster n links (n + i) v ↔ (IsInCluster n links merge.first v ⊎ IsInCluster n links merge.second v)) where
     union : IsUnion n links i merge
     union = search (arith, one_size, size_both)
@@ -53,7 +53,7 @@ module _ (n : ℕ) (links : List Link) (i : ℕ) (l : Link) (link_at : slice_get
         ))
   ]
 
-  -- the merge by clusters of both ends, whichever comes first
+  -- the merge of the clusters of both endpoints, whichever comes first
   pub merge_of_ends : (row : Merge) → HasEnds n links i l row → (a b : ℕ) → HasSize (IsInCluster n links row.first) a → HasSize (IsInCluster n links row.second) b
       → (first second size : ℕ) → first ≡ min row.first row.second → second ≡ max row.first row.second → size ≡ a + b
       → IsMerge n links i l (record { first = first; second = second; size = size })

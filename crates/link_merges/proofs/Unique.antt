@@ -1,7 +1,7 @@
--- Links that close no cycle have one list of merges.
+-- Links that close no cycle have only one list of merges.
 --
--- No two clusters have the same vertices: a point has one, and a cluster that a link makes has both ends of that link, which
--- are in no cluster made before. So the clusters that a link joins have one number each.
+-- No two clusters have the same vertices. A point has one vertex. A cluster that a link makes has both endpoints of
+-- that link, and no earlier cluster has both. So each of the clusters that a link joins has only one number.
 use Rattle.std.proofs.Common.{◌≡◌, ℕ, ◌+◌, ◌<◌, ◌≤◌, ◌⊎◌, ◌↔◌, eqb, List, length, get_or, take, Contains, Some, refl, sym, ap, ap₂, ◌∙◌, subst, inl, inr, arith}
 use Rattle.std.specs.Prelude.{AllPairs, slice_get}
 use Rattle.std.specs.Cmp.{IsEquivalence}
@@ -20,11 +20,11 @@ use Rattle.link_merges.specs.Halves.{CloseNone}
 use Rattle.link_merges.proofs.Merging.{link_there, first_links, new_cluster, none_closes}
 use Rattle.link_merges.proofs.Sizes.{Differ}
 
--- numbers are told apart by `==`
+-- `==` distinguishes numbers
 numbers_apart : IsEquivalence eqb
 numbers_apart = search (arith, eq-eqb, eqb_tells, ne_eqb, eqb, eqb-true)
 
--- different numbers, each of them in another list, are no more than that has
+-- if distinct numbers are all in another list, that list is at least as long
 no_more : (xs ys : List ℕ) → AllPairs Differ xs → ((v : ℕ) → Contains xs v → Contains ys v) → length xs ≤ length ys
 no_more xs ys distinct within = length-le_from_is_member numbers_apart xs ys
     (IsDistinct-from_apart eqb xs (λ i j d lt in_list. ne_eqb _ _ (distinct i j d lt in_list)))
@@ -41,7 +41,7 @@ one_size P a b of_a of_b =
 abbrev no_merge : Merge
 no_merge = record { first = 0; second = 0; size = 0 }
 
--- more links join what fewer do
+-- more links join whatever fewer links join
 join_longer : (links : List Link) (j k u v : ℕ) → j ≤ k → FirstJoin links j u v → FirstJoin links k u v
 join_longer links j k u v le = joins_more (Contains (take j links)) (Contains (take k links)) within u v
   where
@@ -54,7 +54,7 @@ join_longer links j k u v le = joins_more (Contains (take j links)) (Contains (t
         (i, omega (arith, len, lt, longer, le), get_or-take k links i m at_k ∙ sym (get_or-take j links i m at_j) ∙ is)
 
 module _ (n : ℕ) (links : List Link) (k : ℕ) (none : CloseNone links k) where
-  -- both ends of a link are in the cluster that it makes
+  -- both endpoints of a link are in the cluster that it makes
   low_in : (i : ℕ) (l : Link) → slice_get links i ≡ Some l → IsInCluster n links (n + i) l.low
   low_in i l at = (new_cluster n links i l at l.low).1 (joins_refl (Contains (take (i + 1) links)) l.low)
 
@@ -65,7 +65,7 @@ module _ (n : ℕ) (links : List Link) (k : ℕ) (none : CloseNone links k) wher
   only : (c v : ℕ) → c < n → IsInCluster n links c v → v ≡ c + 1
   only a1 a2 a3 a4 = search arith
 
-  -- a point hasn't the vertices of a cluster that a link makes
+  -- a point doesn't have the vertices of a cluster that a link makes
   no_point : (c i : ℕ) (l : Link) → slice_get links i ≡ Some l → c < n → ((v : ℕ) → IsInCluster n links (n + i) v → IsInCluster n links c v) → ⊥
   no_point c i l at lt within =
       let low = only c l.low lt (within l.low (low_in i l at)) in
@@ -73,7 +73,7 @@ module _ (n : ℕ) (links : List Link) (k : ℕ) (none : CloseNone links k) wher
       let up = l.ascending in
       omega (arith, low, high, up)
 
-  -- a cluster hasn't the ends of a link that makes one later
+  -- an earlier cluster doesn't have both endpoints of a later link
   not_later : (i j : ℕ) (l m : Link) → slice_get links i ≡ Some l → slice_get links j ≡ Some m → i < j → j < k → ((v : ℕ) → IsInCluster n links (n + j) v → IsInCluster n links (n + i) v) → ⊥
   not_later i j l m at_i at_j lt taken within =
       let S = Contains (take (i + 1) links) in
@@ -107,7 +107,7 @@ module _ (n : ℕ) (links : List Link) (k : ℕ) (none : CloseNone links k) wher
       → (first ≡ first') × (second ≡ second')
   in_order a1 a2 a3 a4 a5 a6 a7 a8 a9 a10 = search arith
 
-  -- by the clusters of the first merge for both ends
+  -- with the clusters of the first merge for both endpoints
   ends_of : (l : Link) (low high first second : ℕ) → IsClusterOf n links k l.low low → IsClusterOf n links k l.high high
       → (IsClusterOf n links k l.low first × IsClusterOf n links k l.high second) ⊎ (IsClusterOf n links k l.high first × IsClusterOf n links k l.low second)
       → ((low ≡ first) × (high ≡ second)) ⊎ ((high ≡ first) × (low ≡ second))

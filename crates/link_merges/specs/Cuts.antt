@@ -1,4 +1,4 @@
--- The theorem of single linkage: where the merges of a graph's forest are cut at a height, the components of the graph come out.
+-- The theorem of single linkage: cutting the merges of a graph's forest at a height gives the components of the graph.
 use Rattle.std.specs.Prelude.{◌≡◌, ◌↔◌, ℕ, ◌+◌, ◌<◌, ◌≤◌, ℤ, List, Contains, Some, slice_get}
 use Rattle.std.specs.Int.Signed.{◌≤ℤ◌}
 use Rattle.links.specs.declared.links.Link.{Link}
@@ -8,15 +8,15 @@ use Rattle.links.specs.LinkSet.{SameLinks}
 use Rattle.links.specs.Thresholds.{LinksUpTo}
 use Rattle.link_merges.specs.Merges.{IsInCluster}
 
--- the first k links of the list are those that weigh no more than w
+-- the first k links of the list are those that weigh at most w
 abbrev pub AreFirstUpTo : List Link → ℕ → ℤ → Type 0
 AreFirstUpTo links k w = (i : ℕ) (l : Link) → slice_get links i ≡ Some l → (i < k) ↔ (l.weight ≤ℤ w)
 
 -- ---- the law
 
--- The links of a graph's forest are taken, the lightest first; of equal weights in any order. After the first k of them,
--- those up to weight w, each vertex is in a cluster that is there, and that has just the vertices which all links of the
--- graph up to weight w join with it.
+-- The links of a graph's forest are taken in ascending order of weight, and links of equal weight in any order. The
+-- first k of them are those up to weight w. After these k links, each vertex is in an existing cluster. That cluster
+-- has exactly the vertices that all links of the graph up to weight w join with the vertex.
 abbrev pub MergesCutAsTheGraph : Type 0
 MergesCutAsTheGraph =
     (n : ℕ) (links forest taken : List Link) → IsForestOf links forest → SameLinks (Contains taken) (Contains forest)

@@ -1,22 +1,21 @@
--- Links that are joined by halves: the clusters of their ends, and where each cluster has gone.
+-- Links that are joined in halves: the clusters of their endpoints, and the cluster that each cluster is now part of.
 use Rattle.std.specs.Prelude.{◌≡◌, ◌≢◌, ℕ, nat_lt, if◌then◌else◌, ◌+◌, ◌-◌, ◌<◌, ◌≤◌, min, max, List, length, Some, slice_get, slice_index_or}
 use Rattle.links.specs.declared.links.Link.{Link}
 use Rattle.link_merges.specs.Merges.{FirstJoin, IsClusterOf, IsMerge}
 use Rattle.link_merges.specs.declared.merges.Merge.{Merge}
 
--- row j
 abbrev pub row_at : List Merge → ℕ → Merge
 row_at rows j = slice_index_or rows j (record { first = 0; second = 0; size = 0 })
 
--- the number that stands for cluster c; past the end its own
+-- the cluster that cluster c is now part of; a cluster past the end of the list is only part of itself
 abbrev pub now_of : List ℕ → ℕ → ℕ
 now_of now c = slice_index_or now c c
 
--- each cluster stands for itself
+-- each cluster is only part of itself
 abbrev pub AreThemselves : List ℕ → Type 0
 AreThemselves now = (c : ℕ) → now_of now c ≡ c
 
--- the clusters of each row are below this number
+-- the clusters of each row are below `end`
 abbrev pub AreBelow : ℕ → List Merge → Type 0
 AreBelow end rows = (j : ℕ) → j < length rows → ((row_at rows j).first < end) × ((row_at rows j).second < end)
 
@@ -24,42 +23,43 @@ AreBelow end rows = (j : ℕ) → j < length rows → ((row_at rows j).first < e
 abbrev pub IsInNone : List Merge → ℕ → Type 0
 IsInNone rows c = (j : ℕ) → j < length rows → (c ≢ (row_at rows j).first) × (c ≢ (row_at rows j).second)
 
--- each row has the numbers that stand for its clusters
+-- each row has the clusters that its own are now part of
 abbrev pub AreMovedBy : List ℕ → List Merge → List Merge → Type 0
 AreMovedBy now rows rows' =
     (j : ℕ) → j < length rows
     → ((row_at rows' j).first ≡ now_of now (row_at rows j).first) × ((row_at rows' j).second ≡ now_of now (row_at rows j).second)
 
--- none of the first k links has its ends joined by those before it
+-- none of the first k links has its endpoints joined by the links before it
 abbrev pub CloseNone : List Link → ℕ → Type 0
 CloseNone links k = (i : ℕ) (l : Link) → i < k → slice_get links i ≡ Some l → ¬ (FirstJoin links i l.low l.high)
 
--- the row has the clusters of the ends of the link, as the first k links join them
+-- the row has the clusters of the link's endpoints, as the first k links join them
 pub record HasEnds (n : ℕ) (links : List Link) (k : ℕ) (l : Link) (row : Merge) : Type 0 where
   pub low : IsClusterOf n links k l.low row.first
   pub high : IsClusterOf n links k l.high row.second
 
--- a row for each of the next links from place k on, all with clusters that the first k links join, which close no cycle
+-- one row for each of the next links from index k on, with clusters that the first k links join; these links close no
+-- cycle
 pub record AreToJoin (n : ℕ) (links : List Link) (k : ℕ) (rows : List Merge) : Type 0 where
   pub within : k + length rows ≤ length links
   pub none : CloseNone links k
   pub each : (j : ℕ) (l : Link) → j < length rows → slice_get links (k + j) ≡ Some l → HasEnds n links k l (row_at rows j)
 
--- a row for each of the next links from place k on, with the clusters that the link joins; none closes a cycle
+-- one row for each of the next links from index k on, with the clusters that the link joins; no link closes a cycle
 pub record AreJoined (n : ℕ) (links : List Link) (k : ℕ) (rows : List Merge) : Type 0 where
   pub within : k + length rows ≤ length links
   pub none : CloseNone links (k + length rows)
   pub each : (j : ℕ) (l : Link) → j < length rows → slice_get links (k + j) ≡ Some l → HasEnds n links (k + j) l (row_at rows j)
 
--- for each cluster under the first k links stands the one under the first m links that has its vertices
+-- `now` maps each cluster under the first k links to the cluster under the first m links that has its vertices
 abbrev pub LeadsOn : ℕ → List Link → ℕ → ℕ → List ℕ → Type 0
 LeadsOn n links k m now = (u c : ℕ) → IsClusterOf n links k u c → IsClusterOf n links m u (now_of now c)
 
--- how many points cluster c has, by the row that made it
+-- how many points cluster c has, according to the row that made it
 abbrev pub points_in : ℕ → List Merge → ℕ → ℕ
 points_in n rows c = if nat_lt c n then 1 else (row_at rows (c - n)).size
 
--- the merge that row i is: the lower of its clusters first, and the points of both
+-- the merge of row i: the lower cluster first, and the number of points of both clusters
 abbrev pub merge_of : ℕ → List Merge → ℕ → Merge
 merge_of n rows i =
     let row = row_at rows i in record {
@@ -68,13 +68,13 @@ merge_of n rows i =
       size = points_in n rows row.first + points_in n rows row.second;
     }
 
--- no link closes a cycle; the rows before place i are merges, each other has the clusters that its link joins
+-- no link closes a cycle; rows before index i are merges, and each other row has the clusters of its link's endpoints
 pub record AreMergesUpTo (n : ℕ) (links : List Link) (i : ℕ) (rows : List Merge) : Type 0 where
   pub as_many : length rows ≡ length links
   pub none : CloseNone links (length links)
   pub before : (j : ℕ) (l : Link) → j < i → slice_get links j ≡ Some l → IsMerge n links j l (row_at rows j)
   pub after : (j : ℕ) (l : Link) → i ≤ j → slice_get links j ≡ Some l → HasEnds n links j l (row_at rows j)
 
--- the points that the link has at its ends
+-- the two points that are the link's endpoints
 abbrev pub points_of : Link → Merge
 points_of l = record { first = l.low - 1; second = l.high - 1; size = 1 }

@@ -1,5 +1,5 @@
-//! Links joined by halves. The first half of them is joined by itself; then each row of the other half gets the clusters
-//! which those that it had have become, and the other half is joined.
+//! Joins links in halves. The first half is joined by itself. Then each row of the second half gets the clusters that
+//! its own clusters are part of by now, and the second half is joined.
 ghost use Rattle.std.specs.Prelude.{◌≡◌, ℕ, false, ◌+◌, ◌<◌, ◌≤◌, ◌^◌, List, length, IsTrue};
 ghost use Rattle.link_key.specs.Components.{IsAcyclic};
 ghost use Rattle.link_merges.specs.Halves.{now_of, AreThemselves, AreBelow, IsInNone, AreMovedBy, AreToJoin, AreJoined, LeadsOn};
@@ -7,7 +7,7 @@ ghost use Rattle.links.specs.declared.links.Link.{Link as TheLink};
 
 use crate::merges::Merge;
 
-// For each cluster of joined rows puts the one that it is part of after the last of them.
+// Maps each cluster of the joined rows to the cluster that it is part of after the last of these rows.
 fn lead_on(rows: &[Merge], now: &mut [u32], name: u32)
     requires below { AreBelow (length now.old) rows.now }
     requires room { name + length rows.now ≤ length now.old }
@@ -25,7 +25,7 @@ fn lead_on(rows: &[Merge], now: &mut [u32], name: u32)
     }
 }
 
-// Lets each cluster of the rows stand for itself again.
+// Maps each cluster of the rows to itself again.
 fn forget(rows: &[Merge], now: &mut [u32])
     requires below { AreBelow (length now.old) rows.now }
     requires others { (c : ℕ) → IsInNone rows.now c → now_of now.old c ≡ c }
@@ -37,7 +37,7 @@ fn forget(rows: &[Merge], now: &mut [u32])
     }
 }
 
-// Gives each row the clusters that its own are part of now.
+// Replaces the clusters of each row by those that they are now part of.
 fn move_on(rows: &mut [Merge], now: &[u32])
     requires below { AreBelow (length now.now) rows.old }
     ensures { AreMovedBy now.now rows.old rows.new }
@@ -48,7 +48,8 @@ fn move_on(rows: &mut [Merge], now: &[u32])
     }
 }
 
-// Gives each row the clusters that its link joins; the first link makes the cluster `name`. Says whether none closes a cycle.
+// Gives each row the clusters that its link joins, where the first link makes the cluster `name`. Returns whether no
+// link closes a cycle.
 pub(crate) fn join(rows: &mut [Merge], now: &mut [u32], name: u32) -> bool
     requires below { AreBelow (length now.old) rows.old }
     requires room { name + length rows.old ≤ length now.old }

@@ -1,4 +1,3 @@
-//! The merges that links make, one after the other.
 ghost use Rattle.std.specs.Prelude.{◌≡◌, ◌+◌, ◌<◌, ◌≤◌, ◌↔◌, length, map, IfOk, IfSome, IsSome};
 ghost use Rattle.limits.specs.declared.TheConstants.{MAX_VERTICES, MAX_ARCS};
 ghost use Rattle.links.specs.Link.{EndsUpTo};
@@ -11,8 +10,8 @@ use limits::{MAX_ARCS, MAX_VERTICES};
 use links::Link;
 use std::alloc::{AllocError, Allocator};
 
-/// Two clusters that a link joins, `struct boruvka_merge`: their numbers, the lower one first, and how many points the
-/// cluster has that they become.
+/// Two clusters that a link joins, in C `struct boruvka_merge`: their numbers, the lower one first, and the number of
+/// points in the cluster that they become.
 #[repr(C)]
 #[derive(Clone, Copy, Debug, PartialEq, Eq)]
 pub struct Merge {
@@ -21,7 +20,7 @@ pub struct Merge {
     pub size: u32,
 }
 
-// The clusters of the ends of each link before any is joined: points.
+// The clusters of the endpoints of each link before any link is taken: single points.
 fn points_of_ends<A: Allocator>(alloc: A, links: &[Link]) -> Result<Vec<Merge, A>, AllocError>
     ensures { IfOk result (λ rows. rows.items ≡ map points_of links.now) }
 {
@@ -36,7 +35,6 @@ fn points_of_ends<A: Allocator>(alloc: A, links: &[Link]) -> Result<Vec<Merge, A
     Ok(rows)
 }
 
-// So many clusters, each of which stands for itself.
 fn apart<A: Allocator>(alloc: A, clusters: u32) -> Result<Vec<u32, A>, AllocError>
     ensures as_many { IfOk result (λ now. length now.items ≡ clusters) }
     ensures own { IfOk result (λ now. AreThemselves now.items) }
@@ -48,7 +46,6 @@ fn apart<A: Allocator>(alloc: A, clusters: u32) -> Result<Vec<u32, A>, AllocErro
     Ok(now)
 }
 
-// How many points cluster c has, by the rows of the links before.
 fn count_points(rows: &[Merge], n: u32, c: u32) -> u32
     requires in_range { c < n + length rows.now }
     ensures { result ≡ points_in n rows.now c }
@@ -60,7 +57,6 @@ fn count_points(rows: &[Merge], n: u32, c: u32) -> u32
     }
 }
 
-// The merge that row i is: the lower of its clusters first, and the points of both.
 fn merge_of(rows: &[Merge], n: u32, i: usize) -> Merge
     requires in_range { i < length rows.now }
     requires first { (row_at rows.now i).first < n + length rows.now }
@@ -76,13 +72,15 @@ fn merge_of(rows: &[Merge], n: u32, i: usize) -> Merge
     }
 }
 
-/// The merges of the clusters of `n` points by these links, link by link in their order; none if a link stands twice or the
-/// links close a cycle. Clusters 0 to n - 1 are the points, cluster v - 1 the vertex v; link i joins two clusters into the
-/// cluster n + i. This is single-linkage clustering if the links are those of a minimum spanning forest in ascending order of
-/// weight; no clause asks for that order.
+/// The merges of clusters of `n` points by these links, one per link, in the order of the links. Returns `None` if a
+/// link occurs twice or the links close a cycle. Clusters 0 to n - 1 are the single points: vertex v is cluster v - 1.
+/// Link i joins two clusters into the cluster n + i.
 ///
-/// The links are joined by halves: for k links it costs O(n + k log k) time. Memory: 16 bytes a link and 4 a vertex, once k
-/// is known to be at most n. The only error is want of memory.
+/// This is single-linkage clustering if the links are those of a minimum spanning forest in ascending order of weight.
+/// No clause requires that order.
+///
+/// The links are joined in halves: k links take O(n + k log k) time. The call needs 16 bytes per link and 4 bytes per
+/// vertex. If k is more than n, it allocates nothing. The only error is out of memory.
 pub fn merges_of<A: Allocator + Copy>(
     alloc: A,
     n: u32,

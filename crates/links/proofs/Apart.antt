@@ -4,15 +4,15 @@ use Rattle.std.proofs.lemmas.Bool.{cases_lt}
 use Rattle.std.proofs.lemmas.List.{get_or-take, get_or-drop, length-take, length-drop}
 use Rattle.links.specs.Labels.{label_of, IsLabelled, AreLabels, AreApart}
 
--- a list that counts up from 1 labels each vertex by itself
+-- a list that counts up from 1 labels each vertex with itself
 pub apart_from_places : (n : ℕ) (labels : List ℕ) → length labels ≡ n → ((k : ℕ) → k < n → get_or labels k 0 ≡ k + 1) → AreApart n labels
 apart_from_places n labels len counts = search arith
 
--- vertices labelled by themselves have labels
+-- if each vertex is labelled with itself, these are valid labels
 pub labels_from_apart : (n : ℕ) (labels : List ℕ) → n ≤ 2 ^ 26 → AreApart n labels → AreLabels labels
 labels_from_apart n labels few apart = search arith
 
--- labels that are their vertices' own, and behind them a piece of 256 that are
+-- labels that are their own vertices, followed by another 256 such labels
 pub own_more : (labels : List ℕ) (i : ℕ) → i < length labels / 256 → ((v : ℕ) → 1 ≤ v → v ≤ i * 256 → label_of labels v ≡ v)
     → ((k : ℕ) → k < length (take (i * 256 + 256 - i * 256) (drop (i * 256) labels)) → get_or (take (i * 256 + 256 - i * 256) (drop (i * 256) labels)) k 0 ≡ i * 256 + k + 1)
     → (v : ℕ) → 1 ≤ v → v ≤ (i + 1) * 256 → label_of labels v ≡ v

@@ -1,8 +1,10 @@
--- The links of a forest and its components make the vertices.
+-- The number of a forest's links plus the number of its components is the number of vertices.
 --
--- Without links each vertex is a component of its own. Each further link whose ends aren't joined yet makes one component
--- of two. And there are as many components whichever vertices stand for them: each of the one list is joined to one of
--- the other, and no two to the same.
+-- Without links, each vertex is a component of its own. Each added link whose endpoints aren't joined yet merges two
+-- components into one.
+--
+-- The number of components doesn't depend on the choice of representatives. Each representative of one list is joined
+-- to one of the other list, and no two are joined to the same.
 use Rattle.std.proofs.Common.{◌≡◌, ℕ, zero, suc, ◌+◌, ◌≤◌, ◌⊎◌, ◌↔◌, List, [], ◌∷◌, length, Contains, get_or, refl, sym, ap, ◌∙◌, subst, inl, inr, arith}
 use Rattle.std.specs.Prelude.{AllPairs}
 use Rattle.std.proofs.lemmas.Bool.{cases_lt}
@@ -22,11 +24,10 @@ use Rattle.links.proofs.ForestSpans.{forest_no_cycle, forest_spans}
 use Rattle.links.proofs.Least.{distinct_head, distinct_tail, ascending_distinct}
 use Rattle.links.proofs.OneForest.{each_has_one_forest}
 
--- the set doesn't join them
 abbrev Apart : LinkSet → ℕ → ℕ → Type 0
 Apart S u v = ¬ (Joins S u v)
 
--- a list without one of its vertices, where the set joins no two of them
+-- a list without one of its vertices, if the set joins no two of them
 record Others (S : LinkSet) (ones : List ℕ) (v : ℕ) : Type 0 where
   rest : List ℕ
   one_more : length ones ≡ length rest + 1
@@ -68,9 +69,9 @@ others_of S (x ∷ xs) v pairs v_in = elim (contains_cases x v xs v_in) [
       ];
     }
 
--- ---- as many components, whichever vertices stand for them
+-- ---- the number of components doesn't depend on the representatives
 
--- vertices no two of which are joined are no more than those of which each of them is joined to one
+-- if each of some pairwise unjoined vertices is joined to one of a list, the list is at least as long
 no_more : (S : LinkSet) (us xs : List ℕ) → AllPairs (Apart S) us → AllPairs (Apart S) xs
     → ((u : ℕ) → Contains us u → (x : ℕ) × Contains xs x × Joins S x u) → length us ≤ length xs
 no_more S [] xs apart apart' each = omega arith
@@ -101,7 +102,7 @@ each_alike n S R ones alike are = record {
   each = λ v low high. let found = are.each v low high in (found.0, found.1, (alike found.0 v).0 found.2);
 }
 
--- ---- one for each link less than vertices
+-- ---- each link leaves one component less
 
 -- the vertices n, n - 1 down to 1
 vertices : ℕ → List ℕ
@@ -146,7 +147,7 @@ each_by_itself n = record {
   each = λ v low high. (v, has_vertex n v low high, joins_refl (Contains []) v);
 }
 
--- One link more, whose ends aren't joined: of the vertices that stand for their two components one is left out.
+-- When a link whose endpoints aren't joined is added, one of the representatives of their two components is left out.
 module _ (n : ℕ) (S : LinkSet) (l : Link) (ones : List ℕ) (are : AreRepresentatives n S ones) (high : l.high ≤ n) (unjoined : ¬ (Joins S l.low l.high)) where
   abbrev More : LinkSet
   More = WithLink S l
@@ -193,7 +194,7 @@ module _ (n : ℕ) (S : LinkSet) (l : Link) (ones : List ℕ) (are : AreRepresen
       let others = others_of S ones b.0 are.apart b.1 in
       (others.rest, fewer a.0 b.0 a.1 a.2 b.2 others, others.one_more)
 
--- distinct links that close no cycle leave as many components as there are vertices more than links
+-- distinct links that close no cycle leave as many components as there are more vertices than links
 pub components_left : (n : ℕ) (links : List Link) → EndsUpTo n links → AreDistinct links → HasNoCycle (Contains links)
     → (ones : List ℕ) × AreRepresentatives n (Contains links) ones × (length links + length ones ≡ n)
 components_left n [] ends distinct none = (vertices n, each_by_itself n, let all = all_vertices n in omega (arith, all))
@@ -219,7 +220,7 @@ components_left n (l ∷ links) ends distinct none =
 
 -- ---- the laws
 
--- as many as a list's forest leaves, and no other number
+-- a list has as many components as its forest leaves, and no other number
 of_forest : (n : ℕ) (links forest : List Link) → EndsUpTo n links → IsForestOf links forest
     → (ones : List ℕ) × AreRepresentatives n (Contains links) ones × (length forest + length ones ≡ n)
 of_forest n links forest ends is =

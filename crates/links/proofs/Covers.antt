@@ -16,16 +16,16 @@ use Rattle.links.proofs.Walks.{Passing, joins_link, joins_more, joins_replace}
 use Rattle.links.proofs.ForestSpans.{ForestNotAbove, forest_joins_ends}
 use Rattle.links.proofs.Least.{below_weighs}
 
--- whatever is below a link of the set is in it
+-- whatever is below a link of the set is in the set
 abbrev pub IsDownward : LinkSet → Type 0
 IsDownward P = (l m : Link) → P l → IsBelow m l → P m
 
--- so is whatever isn't above one
+-- whatever isn't above a link of the set is in the set too
 not_above_in : (P : LinkSet) → IsDownward P → (l m : Link) → P l → ¬ (IsBelow l m) → P m
 not_above_in P down l m l_in apart = search (arith, trichotomy)
 
--- Of such a set the links of a cover join what the list's do: each of the list's has its ends joined by some that aren't
--- above it, which are in the set with it.
+-- In such a set, the links of a cover join what the list's links join. The endpoints of each link of the list are
+-- joined by links of the cover that aren't above it, and these are in the set if the link is.
 pub cover_joins : (P : LinkSet) → IsDownward P → (links kept : List Link) → IsCoveredBy links kept → (u v : ℕ) → Joins (Passing links P) u v ↔ Joins (Passing kept P) u v
 cover_joins P down links kept is u v = (
   joins_replace (Passing links P) (Passing kept P)
@@ -50,7 +50,7 @@ cover_has_forest links kept forest cover is = record { ascending = is.ascending;
         let own = (is.exact l).0 l_in in
         (cover.among l own.0, λ joined. own.1 ((cover_joins (λ m. IsBelow m l) (below_down l) links kept cover l.low l.high).0 joined))
 
-    -- kept links that aren't above it join its ends; if it isn't one of these, they are below it
+    -- kept links that aren't above the link join its endpoints; if the link isn't one of them, they are below it
     is_kept : (l : Link) → IsForestLink links l → Contains kept l
     is_kept l own = elim (contains_dec link_dec kept l) [
       | inl l_in ↦ l_in

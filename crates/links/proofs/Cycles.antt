@@ -11,14 +11,13 @@ use Rattle.links.proofs.Greatest.{greatest_of}
 use Rattle.links.proofs.Spanning.{walked}
 use Rattle.links.proofs.Sublists.{part_in}
 
--- a part of a set without a cycle has none
 pub no_cycle_part : (S T : LinkSet) → IsPartOf S T → HasNoCycle T → HasNoCycle S
 no_cycle_part S T part none l is_in joined =
     none l (part l is_in) (joins_more (Without S l) (Without T l) (λ m within. (part m within.0, within.1)) l.low l.high joined)
 
--- One more link whose ends the set doesn't join leaves it without a cycle. The link itself closes none. If
--- another link's ends are joined by the rest, then by a walk that takes the new link, and this walk and the
--- other link join the new link's ends.
+-- Adding a link whose endpoints the set doesn't join closes no cycle. The link itself closes none. Suppose that the
+-- endpoints of another link are joined by the rest. Then a walk over the new link joins them, and this walk and the
+-- other link join the new link's endpoints.
 pub no_cycle_one_more : (S : LinkSet) (l : Link) → HasNoCycle S → ¬ (Joins S l.low l.high) → HasNoCycle (WithLink S l)
 no_cycle_one_more S l none apart m is_in joined = elim (link_dec m l) [
   | inl is ↦ apart (subst (λ (k : Link). Joins S k.low k.high) is (joins_more (Without (WithLink S l) m) S (of_old is) m.low m.high joined))
@@ -46,11 +45,11 @@ no_cycle_one_more S l none apart m is_in joined = elim (link_dec m l) [
     closes in_S (inr (inr (to, from))) =
         apart (joins_trans S l.low m.high l.high (whole l.low m.high from) (joins_trans S m.high m.low l.high (joins_symm S m.low m.high (joins_link S m in_S)) (whole m.low l.high to)))
 
--- no link of P has its ends joined by S and links of P that are below it
+-- no link of P has its endpoints joined by S and links of P that are below it
 abbrev pub Ascends : LinkSet → LinkSet → Type 0
 Ascends S P = (m : Link) → P m → (Q : List Link) → ((q : Link) → Contains Q q → P q × IsBelow q m) → ¬ (Joins (Either S (Contains Q)) m.low m.high)
 
--- the same for finitely many links of P: take the greatest one last
+-- the same for finitely many links of P, with the greatest one last
 no_cycle_list : (S P : LinkSet) → HasNoCycle S → Ascends S P → (fuel : ℕ) (Q : List Link) → length Q ≤ fuel → ((q : Link) → Contains Q q → P q) → HasNoCycle (Either S (Contains Q))
 no_cycle_list S P none ascends fuel [] small each = no_cycle_part (Either S (Contains [])) S old none
   where
@@ -70,8 +69,9 @@ no_cycle_list S P none ascends (suc fuel) (q ∷ Q) small each =
     (no_cycle_list S P none ascends fuel top.others fewer (λ k k_in. each k (top.below k k_in).0))
     (ascends top.greatest (each top.greatest top.member) top.others (λ k k_in. (each k (top.below k k_in).0, (top.below k k_in).1))))
 
--- A set without a cycle stays without one when links are added that, taken in the order of their keys, never
--- find their ends joined. A cycle has finitely many of the added links, so it would stand among those.
+-- Links are added to a set without a cycle in the order of their keys, and the endpoints of each aren't joined yet.
+-- Then the set still has no cycle: a cycle would have only finitely many of the added links, so it would be in a finite
+-- part.
 pub no_cycle_either : (S P : LinkSet) → HasNoCycle S → Ascends S P → HasNoCycle (Either S P)
 no_cycle_either S P none ascends l is_in joined =
     let around = walked (Without (Either S P) l) l.low l.high joined in

@@ -1,4 +1,4 @@
--- Links in the order of their keys, none of them twice.
+-- Links in the order of their keys, each once.
 use Rattle.std.proofs.Common.{◌≡◌, ◌≢◌, ℕ, ◌+◌, ◌<◌, ◌⊎◌, true, false, List, length, get_or, refl, sym, ap, ◌∙◌, inl, inr, arith}
 use Rattle.std.specs.Prelude.{AllPairs}
 use Rattle.std.specs.List.{swap}
@@ -11,14 +11,14 @@ use Rattle.links.specs.declared.links.Link.{Link}
 use Rattle.links.specs.Link.{key_cmp, IsAscending}
 use Rattle.links.proofs.Keys.{trichotomy, is_below, ascending_by_neighbours}
 
--- no two places have one link
+-- no link is at two indices
 abbrev IsOnce : List Link → Type 0
 IsOnce xs = (i j : ℕ) (d : Link) → i < length xs → j < length xs → get_or xs i d ≡ get_or xs j d → i ≡ j
 
 once_from_pairs : (xs : List Link) → AllPairs (λ l m. l ≢ m) xs → IsOnce xs
 once_from_pairs xs pairs i j d i_in j_in same = search (arith, cases_lt)
 
--- where a link stood before two links changed places
+-- the index that a link had before two links were swapped
 abbrev IsBack : ℕ → ℕ → ℕ → ℕ → Type 0
 IsBack a b i k = ((i ≡ a) × (k ≡ b)) ⊎ ((i ≡ b) × (k ≡ a)) ⊎ ((i ≢ a) × (i ≢ b) × (k ≡ i))
 
@@ -52,7 +52,7 @@ once_swapped xs a b a_in b_in once i j d i_in j_in same =
 once_permuted : (xs ys : List Link) → IsPermutation xs ys → IsOnce xs → IsOnce ys
 once_permuted xs ys moved once = IsPermutation-keeps xs IsOnce once (λ l i j i_in j_in is. once_swapped l i j i_in j_in is) ys moved
 
--- a sorted list of links that differ ascends
+-- a sorted list of distinct links ascends
 pub ascending_once : (xs ys : List Link) → AllPairs (λ l m. l ≢ m) xs → IsPermutation xs ys → IsSorted key_cmp ys → IsAscending ys
 ascending_once xs ys pairs moved sorted = (ascending_by_neighbours ys true (λ k d lt. sym (below_next k d lt))).0 refl
   where

@@ -1,4 +1,5 @@
--- Sizes of the shards of an even cut: none has more than a bound just where the bound, as often as there are shards, holds all links.
+-- Sizes of the shards of an even cut. No shard is larger than a bound exactly if the bound times the number of shards
+-- is at least the number of links.
 use Rattle.std.proofs.Common.{◌≡◌, ℕ, zero, suc, ◌+◌, ◌*◌, ◌/◌, ◌<◌, ◌≤◌, ◌⊎◌, ap, ◌∙◌, inl, inr, arith, Some}
 use Rattle.std.proofs.lemmas.Bool.{cases_lt}
 use Rattle.std.proofs.lemmas.Bool.Decides.{nat_tests}
@@ -12,7 +13,7 @@ module _ (most count len : ℕ) (some : 0 < count) where
   abbrev LargeBefore : ℕ → Type 0
   LargeBefore k = (i : ℕ) × (i < k) × (most < even_size len count i)
 
-  -- where none of the first k shards is, together they have at most k times the bound
+  -- if none of the first k shards is larger, together they have at most k times the bound
   large_or_few : (k : ℕ) → LargeBefore k ⊎ (k * len / count ≤ k * most)
   large_or_few zero = inr (omega (arith, ap (λ x. x / count) (zero-mul len), zero-div count))
   large_or_few (suc k) = elim (large_or_few k) [
@@ -23,14 +24,14 @@ module _ (most count len : ℕ) (some : 0 < count) where
     ]
   ]
 
-  -- so where all of them together don't hold the links, one is larger
+  -- so if the shards can't hold all links at the bound, one is larger
   pub one_is_large : most * count < len → LargeBefore count
   one_is_large many = elim (large_or_few count) [
     | inl large ↦ large
     | inr few ↦ absurd (omega (arith, few, many, ap (λ x. x / count) (mul_comm count len), mul-div_cancel len some, mul_comm count most))
   ]
 
-  -- and where they do, none is
+  -- if they can, none is larger
   pub none_is_large : len ≤ most * count → (i : ℕ) → even_size len count i ≤ most
   none_is_large few i = search (arith, add-mul, one-mul, lt-div-mul-add, div-lt_iff_lt-mul)
 

@@ -1,4 +1,4 @@
--- The forest of a list has no cycle and spans the list, and no smaller part of it spans.
+-- The forest of a list has no cycle and spans the list, and no smaller part of it spans the list.
 use Rattle.std.proofs.Common.{ℕ, zero, suc, ◌≤◌, List, length, Contains, subst, inl, inr, arith}
 use Rattle.links.specs.declared.links.Link.{Link}
 use Rattle.links.specs.Link.{IsBelow}
@@ -11,11 +11,11 @@ use Rattle.links.specs.LinkSet.{LinkSet, Either, IsPartOf, SameLinks, HasNoCycle
 use Rattle.links.proofs.Sublists.{without_one}
 use Rattle.links.proofs.Cycles.{no_cycle_part, no_cycle_either}
 
--- no link at all
 abbrev NoLink : LinkSet
 NoLink l = ⊥
 
--- Forest links, taken in the order of their keys, never find their ends joined: that is what makes them forest links.
+-- If forest links are taken in the order of their keys, their endpoints are never joined yet. That makes them forest
+-- links.
 pub forest_no_cycle : (links : List Link) → HasNoCycle (IsForestLink links)
 forest_no_cycle links =
     no_cycle_part (IsForestLink links) (Either NoLink (IsForestLink links)) (λ l is_in. inr is_in)
@@ -30,13 +30,13 @@ forest_no_cycle links =
 abbrev pub ForestNotAbove : List Link → Link → LinkSet
 ForestNotAbove links l m = IsForestLink links m × ¬ (IsBelow l m)
 
--- those that aren't above a link aren't above any that it is below
+-- links that aren't above a link aren't above any greater link
 not_above_higher : (links : List Link) (l m : Link) → IsBelow m l → (u v : ℕ) → Joins (ForestNotAbove links m) u v → Joins (ForestNotAbove links l) u v
 not_above_higher links l m below = joins_more (ForestNotAbove links m) (ForestNotAbove links l) (λ k k_is. (k_is.0, λ above. k_is.1 (below_trans m l k below above)))
 
--- The forest joins the ends of each link of the list, by links that aren't above it. Either they are not joined by smaller
--- links, and the link is in the forest; or they are, and each of those has its ends joined so, since it is smaller. (The
--- list `lower` has all links of the list that are below l; it gets shorter.)
+-- The forest joins the endpoints of each link of the list, by links that aren't above it. If smaller links don't join
+-- them, the link is in the forest. Otherwise, each of these smaller links has its endpoints joined in this way, by
+-- induction. (The list `lower` has all links of the list that are below l, and gets shorter.)
 ends_joined : (links : List Link) (fuel : ℕ) (lower : List Link) → length lower ≤ fuel → (l : Link) → Contains links l → ((m : Link) → LinksBelow links l m → Contains lower m) → Joins (ForestNotAbove links l) l.low l.high
 ends_joined links zero lower small l is_in has = elim (joins_dec (λ m. IsBelow m l) (λ m. below_dec m l) links l.low l.high) [
   | inr apart ↦ joins_link (ForestNotAbove links l) l ((is_in, apart), below_irrefl l)
@@ -57,6 +57,5 @@ forest_joins_ends links l is_in = ends_joined links (length links) links (omega 
 pub forest_spans : (links : List Link) → Spans (IsForestLink links) links
 forest_spans links = joins_replace (Contains links) (IsForestLink links) (λ l is_in. joins_more (ForestNotAbove links l) (IsForestLink links) (λ m m_is. m_is.0) l.low l.high (forest_joins_ends links l is_in))
 
--- a part of the forest that spans the list is the forest
 pub spanning_part_is_forest : (links : List Link) (P : LinkSet) → IsPartOf P (IsForestLink links) → Spans P links → SameLinks P (IsForestLink links)
 spanning_part_is_forest = spanning_part

@@ -14,7 +14,7 @@ pub record HasGreatest (links : List Link) : Type 0 where
   pub rest : (m : Link) → Contains links m → (m ≡ greatest) ⊎ Contains others m
   pub shorter : length others < length links
 
--- one more link in front: the greater of the two
+-- after a link is added in front, the greater of the two is the greatest
 greatest_more : (l : Link) (links : List Link) → HasGreatest links → HasGreatest (l ∷ links)
 greatest_more l links had = elim (trichotomy l had.greatest) [
   | inl lower ↦ record {

@@ -1,10 +1,10 @@
--- What passes a test, of a list.
+-- The elements of a list that pass a test.
 use Rattle.std.proofs.Common.{◌≡◌, Bool, true, false, cond, List, [], ◌∷◌, Contains, refl, sym, ap, ◌∙◌, subst, inl, inr, arith}
 use mathlib.Core.Bool.{false≢true}
 use Rattle.std.specs.Prelude.{filter}
 use Rattle.links.proofs.Members.{contains_cases, contains_head, contains_none, contains_tail}
 
--- what a test keeps of a list
+-- an element that passed the test is in the list and passes the test
 pub kept_in : {X : Type 0} (p : X → Bool) (xs : List X) (x : X) → Contains (filter p xs) x → Contains xs x × (p x ≡ true)
 kept_in p [] x x_in = absurd (contains_none x x_in)
 kept_in {X} p (y ∷ xs) x x_in = search (arith, contains_cases, cond, contains_head, contains_tail, kept_in p xs x)

@@ -1,4 +1,4 @@
--- Links of which those that repeat the one before them are dropped.
+-- Lists from which links that repeat the one before them are dropped.
 use Rattle.std.proofs.Common.{◌≡◌, ℕ, ◌+◌, ◌-◌, ◌<◌, ◌≤◌, ◌⊎◌, Bool, true, false, List, [], ◌∷◌, ◌++◌, Contains, take, set, length, get_or, inl, inr, refl, sym, ap, ◌∙◌, subst, arith}
 use mir.Val.{bool_byte}
 use Rattle.std.proofs.lemmas.List.{take_more, take_more_set, take-set, get_or-take, length-take-le}
@@ -7,7 +7,7 @@ use Rattle.links.specs.LinkSet.{SameLinks}
 use Rattle.links.specs.declared.links.Link.{Link}
 use Rattle.links.proofs.Members.{contains_cases, contains_none}
 
--- one more link comes to each of two lists of the same links, or it is in the second already
+-- if a link is appended to two lists with the same links, they still have the same links
 both_more : (xs ys : List Link) (x : Link) → SameLinks (Contains xs) (Contains ys) → SameLinks (Contains (xs ++ x ∷ [])) (Contains (ys ++ x ∷ []))
 both_more xs ys x same l = (more xs ys (λ m. (same m).0), more ys xs (λ m. (same m).1))
   where
@@ -29,11 +29,11 @@ in_already xs ys x there same l = (
   λ in_ys. Contains-append_left xs (x ∷ []) l ((same l).1 in_ys),
 )
 
--- a number that a truth is added to stays unless that is so
+-- a number to which a truth value is added stays the same, unless the value is true
 pub counted_unless : (b : Bool) (n : ℕ) (P : Type 0) → (b ≡ false → P) → ((n + bool_byte b ≡ n) × P) ⊎ (n + bool_byte b ≡ n + 1)
 counted_unless a1 a2 a3 a4 = search arith
 
--- one more link is written behind those kept, and counted if it doesn't repeat the last of these
+-- the next link is written after the kept ones, and counted unless it repeats the last of them
 pub once_more : (start now : List Link) {i kept kept' : ℕ} (x : Link) → i < length start → x ≡ get_or start i x → kept < length now → 1 ≤ kept
     → ((kept' ≡ kept) × (x ≡ get_or now (kept - 1) x)) ⊎ (kept' ≡ kept + 1) → SameLinks (Contains (take i start)) (Contains (take kept now))
     → SameLinks (Contains (take (i + 1) start)) (Contains (take kept' (set now kept x)))

@@ -1,4 +1,4 @@
--- The order of keys is total, and links with equal keys are one link; so an ascending list is its members.
+-- The order of keys is total, and links with equal keys are equal. So an ascending list is determined by its members.
 use Rattle.std.proofs.Common.{◌≡◌, ◌+◌, ◌<◌, ◌≤◌, ◌^◌, Bool, true, false, IsTrue, is_lt, ◌⊎◌, ◌↔◌, List, ◌∷◌, Contains, get_or, Ordering, Less, Equal, Greater, int_cmp, nat_cmp, refl, ap, ◌∙◌, subst, inl, inr, arith}
 use Rattle.std.specs.Ordering.{ordering_then, ordering_reverse}
 use Rattle.std.specs.List.{IsAllAdjacentAnswer}
@@ -15,7 +15,7 @@ use Rattle.links.specs.Link.{key_cmp, IsBelow, IsAscending}
 use Rattle.links.proofs.Neighbours.{all_pairs_by_neighbours}
 use Rattle.links.proofs.Members.{ascends_head, ascends_tail, same_ascending}
 
--- A link is its weight and its ends: its ghost facts are propositions.
+-- A link is determined by its weight and endpoints, because its ghost facts are propositions.
 pub link_eq : (l m : Link) → l.weight ≡ m.weight → l.low ≡ m.low → l.high ≡ m.high → l ≡ m
 link_eq l m weight low high = λ i. record {
   weight = weight i;
@@ -33,7 +33,7 @@ key_cmp_total =
     (on_total (λ (l : Link). l.weight) int_cmp_total)
     (then_total (on_total (λ (l : Link). l.low) nat_cmp_total) (on_total (λ (l : Link). l.high) nat_cmp_total))
 
--- links that compare as equal are one link
+-- links that compare as equal are equal
 pub equal_keys : (l m : Link) → key_cmp l m ≡ Equal → l ≡ m
 equal_keys l m tied = search (arith, exact_pairs, int_cmp, nat_cmp, exact_signed, exact_unsigned, link_eq)
 
@@ -46,7 +46,7 @@ below_irrefl l below = let tied = tied_itself key_cmp_total l in cc
 pub below_asymm : (l m : Link) → IsBelow l m → IsBelow m l → ⊥
 below_asymm l m below above = below_irrefl l (below_trans l m l below above)
 
--- of two links one is below the other, or they are one
+-- one of two links is below the other, or they are equal
 pub trichotomy : (l m : Link) → IsBelow l m ⊎ (l ≡ m) ⊎ IsBelow m l
 trichotomy l m = search (arith, equal_keys)
 
@@ -62,7 +62,7 @@ link_dec l m = elim (trichotomy l m) [
 pub below_dec : (l m : Link) → IsBelow l m ⊎ (¬ (IsBelow l m))
 below_dec l m = search (arith, trichotomy, below_irrefl, below_asymm)
 
--- the first link of an ascending list is below each other
+-- the first link of an ascending list is below every other link
 pub ascending_head : (l : Link) (ls : List Link) → IsAscending (l ∷ ls) → (m : Link) → Contains ls m → IsBelow l m
 ascending_head = ascends_head IsBelow
 
@@ -79,10 +79,9 @@ is_below l m = is_lt (key_cmp l m)
 is_below_true : (o : Ordering) → is_lt o ≡ true → o ≡ Less
 is_below_true a1 a2 = search arith
 
--- what a look at each pair of neighbours answers
+-- the result of a comparison of each pair of neighbours
 pub ascending_by_neighbours : (links : List Link) (r : Bool) → IsAllAdjacentAnswer (λ l m b. b ≡ is_below l m) links r → IsTrue r ↔ IsAscending links
 ascending_by_neighbours links r answer = all_pairs_by_neighbours IsBelow below_trans is_below (λ l m. (is_below_true (key_cmp l m), λ below. ap is_lt below)) links r answer
 
--- A list that ascends is sorted.
 pub ascending_sorted : (links : List Link) → IsAscending links → IsSorted key_cmp links
 ascending_sorted links up k d _ lt = search (arith, below_asymm, is_lt)

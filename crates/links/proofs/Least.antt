@@ -1,9 +1,11 @@
 -- No spanning forest weighs less than the forest.
 --
--- Take the forest's links one by one, in the order of their keys, into a spanning set without a cycle. Where the set has
--- the link already there is nothing to do. Else the set joins the link's ends, and not by links that are below it, for it
--- is a forest link: so one of those above it is needed for that, and none that was taken before is above it. The link takes
--- the place of that one, which is at least as heavy. What is left in the end is the forest, and no step made it heavier.
+-- Put the forest's links into a spanning set without a cycle, one by one, in the order of their keys. If the set
+-- already has the link, nothing changes. Otherwise, the set joins the link's endpoints. Links below it don't join them,
+-- because it is a forest link. So a link above it is needed to join them, and no link that was put in earlier is above
+-- it. The link replaces that one, which weighs at least as much.
+--
+-- At the end, the set is the forest, and no step made it heavier.
 use Rattle.std.proofs.Common.{◌≡◌, ◌≢◌, ℕ, ℤ, pos, suc, ◌*◌, ◌^◌, ◌⊎◌, List, [], ◌∷◌, ◌++◌, length, Contains, get_or, fold, rules, Ordering, Less, Equal, Greater, int_cmp, nat_cmp, refl, sym, ◌∙◌, subst, inl, inr, arith}
 use Rattle.std.specs.Prelude.{◌+ℤ◌, neg_ℤ}
 use Rattle.std.specs.Int.Signed.{◌≤ℤ◌, ◌<ℤ◌}
@@ -26,11 +28,11 @@ use Rattle.links.proofs.ForestSpans.{forest_no_cycle, forest_spans}
 
 -- ---- weights
 
--- a link that is below another weighs no more
+-- a link that is below another doesn't weigh more
 pub below_weighs : (l m : Link) → IsBelow l m → l.weight ≤ℤ m.weight
 below_weighs l m below = search (arith, int_cmp, int_ranks, nat_cmp, ints)
 
--- the first link's weight, then the others'
+-- the sum is the first link's weight plus the sum of the others
 sum_from : (start : ℤ) (links : List Link) → fold (λ sum l. sum +ℤ l.weight) start links ≡ start +ℤ sum_of_weights links
 sum_from start [] = omega (arith, ints)
 sum_from start (l ∷ links) = search (arith, ints, sum_from (start +ℤ l.weight) links, sum_from (pos 0 +ℤ l.weight) links)
@@ -38,7 +40,7 @@ sum_from start (l ∷ links) = search (arith, ints, sum_from (start +ℤ l.weigh
 pub sum_cons : (l : Link) (links : List Link) → sum_of_weights (l ∷ links) ≡ l.weight +ℤ sum_of_weights links
 sum_cons l links = let own = sum_from (pos 0 +ℤ l.weight) links in omega (arith, ints, own)
 
--- each weight is within 2^63 of 0, so so many links weigh within so many times that
+-- each weight is within 2^63 of 0, so the sum of n weights is within n * 2^63
 pub record AddsUpWithin (n : ℕ) (sum : ℤ) : Type 0 where
   pub above : neg_ℤ (pos (n * 2 ^ 63)) ≤ℤ sum
   pub below : sum ≤ℤ pos (n * 2 ^ 63)
@@ -59,7 +61,7 @@ distinct_tail l ls apart i j d lt in_range = apart (suc i) (suc j) d (omega arit
 record Others (links : List Link) (l : Link) : Type 0 where
   rest : List Link
   sum_is : sum_of_weights links ≡ l.weight +ℤ sum_of_weights rest
-  -- each link of the rest is another one of the list
+  -- each link of the rest is another link of the list
   within : (m : Link) → Contains rest m → Contains links m × (m ≢ l)
   keeps : (m : Link) → Contains links m → m ≢ l → Contains rest m
   distinct : AreDistinct rest
@@ -105,8 +107,8 @@ others_of (k ∷ links) l apart is_in = elim (contains_cases k l links is_in) [
 abbrev Beside : LinkSet → List Link → LinkSet
 Beside S R m = S m × ¬ (Contains R m)
 
--- links each of which a set without a cycle can do without to join two vertices, it can do without together: a walk that
--- takes one of them, and the walk around it, would close a cycle
+-- A set without a cycle joins two vertices, and can do so without any single link of a list. Then it can do so without
+-- all of them: a walk over one of these links and the walk around it would close a cycle.
 all_spared : (S : LinkSet) (u v : ℕ) → HasNoCycle S → Joins S u v → (R : List Link) → ((t : Link) → Contains R t → S t × Joins (Without S t) u v) → Joins (Beside S R) u v
 all_spared S u v none joined [] each = joins_more S (Beside S []) (λ m is_in. (is_in, contains_none m)) u v joined
 all_spared S u v none joined (t ∷ R) each =
@@ -136,7 +138,7 @@ all_spared S u v none joined (t ∷ R) each =
 
 -- ---- the exchange
 
--- of some links, one above l without which the list doesn't join the ends of l; or each of them that is above l can be spared
+-- either a candidate above l is needed to join the endpoints of l, or no candidate above l is
 find : (S : List Link) (l : Link) (candidates : List Link)
     → ((t : Link) × Contains candidates t × IsBelow l t × ¬ (Joins (Without (Contains S) t) l.low l.high))
     ⊎ ((t : Link) → Contains candidates t → IsBelow l t → Joins (Without (Contains S) t) l.low l.high)
@@ -160,7 +162,7 @@ find S l (c ∷ candidates) = next (below_dec l c) (joins_dec (λ m. m ≢ c) di
       | inr in_rest ↦ spared t in_rest t_above
     ])
 
--- those of a list that are above l
+-- the links of a list that are above l
 record Above (l : Link) (links : List Link) : Type 0 where
   part : List Link
   within : (m : Link) → Contains part m → Contains links m × IsBelow l m
@@ -191,8 +193,8 @@ above_of l (k ∷ links) = more (below_dec l k) (above_of l links)
       ];
     }
 
--- A forest link that a set without a cycle lacks, but whose ends it joins, is below one of the set without which it
--- doesn't: else all that are above it could be spared, and those that are left are below it.
+-- If a set without a cycle joins the endpoints of a forest link that it doesn't have, it needs a link above it to do
+-- so. Otherwise, it could do without all links above it, and the remaining links are below it.
 needed : (links : List Link) (l : Link) → IsForestLink links l → (S : List Link) → HasNoCycle (Contains S) → IsPartOf (Contains S) (Contains links) → ¬ (Contains S l) → Joins (Contains S) l.low l.high
     → (t : Link) × Contains S t × IsBelow l t × ¬ (Joins (Without (Contains S) t) l.low l.high)
 needed links l is S none part lacks joined = elim (find S l S) [
@@ -206,14 +208,14 @@ needed links l is S none part lacks joined = elim (find S l S) [
     left : (above : Above l S) → (m : Link) → Beside (Contains S) above.part m → LinksBelow links l m
     left above m m_in = search (arith, trichotomy)
 
--- the forest's links are in two lists, those that are taken and those that aren't yet
+-- the forest's links are in two lists: those that are already taken, and those that are left
 record Taking (links taken left : List Link) : Type 0 where
   are : (m : Link) → Contains taken m ⊎ Contains left m → IsForestLink links m
   all : (m : Link) → IsForestLink links m → Contains taken m ⊎ Contains left m
   below : (m k : Link) → Contains taken m → Contains left k → IsBelow m k
   ascending : IsAscending left
 
--- a spanning forest has the links that are taken, and these others
+-- a spanning forest that has the taken links, and these others
 record Holding (links taken others : List Link) : Type 0 where
   none : HasNoCycle (Contains (taken ++ others))
   part : IsPartOf (Contains (taken ++ others)) (Contains links)
@@ -221,7 +223,6 @@ record Holding (links taken others : List Link) : Type 0 where
   distinct : AreDistinct others
   apart : (m : Link) → Contains others m → ¬ (Contains taken m)
 
--- one link more is taken
 take_next : (links taken : List Link) (l : Link) (left : List Link) → Taking links taken (l ∷ left) → Taking links (l ∷ taken) left
 take_next links taken l left taking = record {
   are = λ m m_in. taking.are m (elim m_in [
@@ -239,7 +240,7 @@ take_next links taken l left taking = record {
   ascending = ascending_tail l left taking.ascending;
 }
 
--- what a spanning forest gives for one link more: one of its others, which weighs no less, and the spanning forest with the link in its place
+-- an exchange: one of the others, which doesn't weigh less, is replaced by the next link in the spanning forest
 record Exchanged (links taken : List Link) (l : Link) (others : List Link) : Type 0 where
   given : Link
   heavier : l.weight ≤ℤ given.weight
@@ -248,14 +249,14 @@ record Exchanged (links taken : List Link) (l : Link) (others : List Link) : Typ
   holding : Holding links (l ∷ taken) rest
 
 module _ (links taken : List Link) (l : Link) (left others : List Link) (taking : Taking links taken (l ∷ left)) (holding : Holding links taken others) where
-  -- the set before, and the set with the link in place of the one given
+  -- the set before the exchange, and the set after it
   abbrev Before : LinkSet
   Before = Contains (taken ++ others)
 
   abbrev After : (given : Link) → Others others given → LinkSet
   After given without = Contains (l ∷ taken ++ without.rest)
 
-  -- it has the link, and what was there but for the one given
+  -- the new set has the link, and all of the old set except the replaced link
   to_after : (given : Link) (without : Others others given) → Contains others given → (m : Link) → WithLink (Without Before given) l m → After given without m
   to_after given without is_in m (inr same) = subst (After given without) (sym same) (contains_head l (taken ++ without.rest))
   to_after given without is_in m (inl (m_in, other)) = contains_tail l m (taken ++ without.rest) (elim (Contains-append_cases taken others m m_in) [
@@ -263,7 +264,7 @@ module _ (links taken : List Link) (l : Link) (left others : List Link) (taking 
     | inr in_others ↦ Contains-append_right taken without.rest m (without.keeps m in_others other)
   ])
 
-  -- and nothing else
+  -- the new set has nothing else
   of_after : (given : Link) (without : Others others given) → Contains others given → (m : Link) → After given without m → WithLink (Without Before given) l m
   of_after given without is_in m m_in = elim (contains_cases l m (taken ++ without.rest) m_in) [
     | inl is ↦ inr is
@@ -273,7 +274,7 @@ module _ (links taken : List Link) (l : Link) (left others : List Link) (taking 
     ])
   ]
 
-  -- what such an exchange leaves is a spanning forest again, where it closes no cycle and joins the ends of the one given
+  -- the new set is a spanning forest if it has no cycle and joins the endpoints of the replaced link
   exchanged : (given : Link) (is_in : Contains others given) → l.weight ≤ℤ given.weight → ((m : Link) → Contains others m → m ≢ given → m ≢ l)
       → HasNoCycle (WithLink (Without Before given) l) → Joins (WithLink (Without Before given) l) given.low given.high → Exchanged links taken l others
   exchanged given is_in heavier other none joined = let without = others_of others given holding.distinct is_in in record {
@@ -302,7 +303,7 @@ module _ (links taken : List Link) (l : Link) (left others : List Link) (taking 
         | inr differs ↦ joins_link (After given without) m (to_after given without is_in m (inl (m_in, differs)))
       ]
 
-  -- the spanning forest has the link: it is given for itself
+  -- if the spanning forest already has the link, it replaces itself
   has_it : Contains others l → Exchanged links taken l others
   has_it is_in = exchanged l is_in (omega (arith, ints)) (λ m m_in differs. differs) (no_cycle_part (WithLink (Without Before l) l) Before back holding.none) (joins_link (WithLink (Without Before l) l) l (inr refl))
     where
@@ -310,7 +311,7 @@ module _ (links taken : List Link) (l : Link) (left others : List Link) (taking 
       back m (inl m_in) = m_in.0
       back m (inr is) = subst Before (sym is) (Contains-append_right taken others l is_in)
 
-  -- it lacks the link: it gives one that it needs to join the link's ends
+  -- if it doesn't, the link replaces one that is needed to join the link's endpoints
   lacks_it : ¬ (Contains others l) → Exchanged links taken l others
   lacks_it lacks = from (needed links l is_forest (taken ++ others) holding.none holding.part outside joined)
     where
@@ -357,7 +358,7 @@ module _ (links taken : List Link) (l : Link) (left others : List Link) (taking 
 
 -- ---- the law
 
--- where the whole forest is taken, a spanning forest has no others: one more would close a cycle
+-- if the whole forest is taken, a spanning forest has no other links, because one more would close a cycle
 no_others : (links taken others : List Link) → Taking links taken [] → Holding links taken others → others ≡ []
 no_others links taken [] taking holding = refl
 no_others links taken (l ∷ others) taking holding =
@@ -371,7 +372,7 @@ no_others links taken (l ∷ others) taking holding =
     other : (m : Link) → IsForestLink links m → Without (Contains (taken ++ l ∷ others)) l m
     other m is = (Contains-append_left taken (l ∷ others) m (in_taken m is), λ same. holding.apart l (contains_head l others) (subst (Contains taken) same (in_taken m is)))
 
--- the links left weigh no more than a spanning forest's others
+-- the remaining links don't weigh more than a spanning forest's others
 no_heavier : (links taken left others : List Link) → Taking links taken left → Holding links taken others → sum_of_weights left ≤ℤ sum_of_weights others
 no_heavier links taken [] others taking holding = subst (λ xs. sum_of_weights [] ≤ℤ sum_of_weights xs) (sym (no_others links taken others taking holding)) (omega (arith, ints))
 no_heavier links taken (l ∷ left) others taking holding =
@@ -385,7 +386,7 @@ no_heavier links taken (l ∷ left) others taking holding =
 pub ascending_distinct : (links : List Link) → IsAscending links → AreDistinct links
 ascending_distinct links up i j d lt in_range same = below_irrefl (get_or links i d) (subst (λ x. IsBelow (get_or links i d) x) (sym same) (up i j d lt in_range))
 
--- so what an ascending list weighs is the sum over the list
+-- so the weight of an ascending list is the sum over the list
 pub own_total : (links : List Link) (total : ℤ) → IsAscending links → total ≡ sum_of_weights links → IsTotalOf links total
 own_total links total up is = record { once = links; distinct = ascending_distinct links up; members = λ l. (λ l_in. l_in, λ l_in. l_in); total_is = is }
 
@@ -416,11 +417,11 @@ forest_is_lightest links forest is = (spanning, total, lightest)
       apart = λ m m_in none. contains_none m none;
     })
 
--- so a forest weighs least
+-- so no spanning forest weighs less than the forest
 pub lightest_forest : (links forest : List Link) → IsForestOf links forest → IsLightest links (sum_of_weights forest)
 lightest_forest links forest is = (forest_is_lightest links forest is).2
 
--- the ends of none of them are joined by others, so not by those below it
+-- no link's endpoints are joined by the other links, and so not by those below it
 pub no_cycle_is_its_forest : NoCycleIsItsForest
 no_cycle_is_its_forest links forest none is l = (λ l_in. ((is.exact l).0 l_in).0, λ l_in. (is.exact l).1 (l_in, λ joined. none l l_in (joins_more (LinksBelow links l) (Without (Contains links) l) other l.low l.high joined)))
   where

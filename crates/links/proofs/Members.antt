@@ -2,7 +2,7 @@
 use Rattle.std.proofs.Common.{◌≡◌, zero, suc, ◌⊎◌, ◌↔◌, List, [], ◌∷◌, Contains, refl, sym, ap₂, ◌∙◌, subst, inl, inr, ⊎_elim, arith}
 use Rattle.std.specs.Prelude.{AllPairs}
 
--- what a list with one more element at its front contains
+-- what a list with an element added in front contains
 pub contains_cases : {X : Type 0} (y x : X) (ys : List X) → Contains (y ∷ ys) x → (x ≡ y) ⊎ Contains ys x
 contains_cases a1 a2 a3 a4 = search arith
 
@@ -15,7 +15,7 @@ contains_tail y x ys (k, lt, e) = (suc k, omega arith, e)
 pub contains_none : {X : Type 0} (x : X) → Contains [] x → ⊥
 contains_none x (k, lt, e) = omega arith
 
--- where the equality of elements is decided, membership is
+-- if equality of elements is decidable, membership is decidable
 pub contains_dec : {X : Type 0} → ((x y : X) → (x ≡ y) ⊎ (¬ (x ≡ y))) → (xs : List X) (x : X) → Contains xs x ⊎ (¬ (Contains xs x))
 contains_dec same [] x = inr (contains_none x)
 contains_dec same (y ∷ ys) x = elim (same x y) [
@@ -26,15 +26,15 @@ contains_dec same (y ∷ ys) x = elim (same x y) [
   ]
 ]
 
--- the first element of a list that ascends is before each other
+-- the first element of an ascending list is before every other element
 pub ascends_head : {X : Type 0} (R : X → X → Type 0) (x : X) (xs : List X) → AllPairs R (x ∷ xs) → (y : X) → Contains xs y → R x y
 ascends_head R x xs up y (k, lt, at) = subst (R x) at (up 0 (suc k) y (omega arith) (omega arith))
 
 pub ascends_tail : {X : Type 0} (R : X → X → Type 0) (x : X) (xs : List X) → AllPairs R (x ∷ xs) → AllPairs R xs
 ascends_tail R x xs up i j d lt in_range = up (suc i) (suc j) d (omega arith) (omega arith)
 
--- Two lists that ascend and have the same members are one list: their heads are each before all other members, and no
--- tail contains its head.
+-- Two ascending lists with the same members are equal. The first element of each is before all its other members, and
+-- no tail contains its list's first element.
 pub same_ascending : {X : Type 0} (R : X → X → Type 0) → ((x : X) → ¬ (R x x)) → ((x y : X) → R x y → ¬ (R y x)) → (xs ys : List X) → AllPairs R xs → AllPairs R ys → ((x : X) → Contains xs x ↔ Contains ys x) → xs ≡ ys
 same_ascending {X = X} R irrefl asymm [] [] up up' same = refl
 same_ascending {X = X} R irrefl asymm [] (y ∷ ys) up up' same = absurd (contains_none y ((same y).1 (contains_head y ys)))

@@ -1,9 +1,9 @@
--- A relation between all pairs of a list, from a look at each pair of neighbours.
+-- A relation between all pairs of a list, from a comparison of each pair of neighbours.
 use Rattle.std.proofs.Common.{◌≡◌, ℕ, zero, suc, ◌+◌, ◌-◌, ◌<◌, add-one, Bool, true, false, IsTrue, ◌↔◌, List, [], ◌∷◌, length, slice_index_or, refl, sym, ◌∙◌, subst, arith}
 use Rattle.std.specs.List.{AllPairs, AllAdjacentBelow, IsAllAdjacentAnswer}
 use mathlib.Core.Bool.{false≢true}
 
--- Each element related to the next is related to all later ones, where the relation is transitive.
+-- If a transitive relation holds between all neighbours, each element is related to all later ones.
 all_pairs_from_neighbours : {X : Type 0} (R : X → X → Type 0) → ((x y z : X) → R x y → R y z → R x z) → (xs : List X) → AllAdjacentBelow R xs (length xs) → AllPairs R xs
 all_pairs_from_neighbours R trans xs adjacent i j d lt in_range =
     let gap : j ≡ i + suc (j - (i + 1)) = omega arith in
@@ -13,7 +13,7 @@ all_pairs_from_neighbours R trans xs adjacent i j d lt in_range =
     reach zero within = adjacent i d within
     reach (suc n) within = search (arith, slice_index_or, add-one, reach n (omega arith))
 
--- what a look at each pair of neighbours answers, with a test that decides the relation
+-- the result of comparing each pair of neighbours by a test that decides the relation
 pub all_pairs_by_neighbours : {X : Type 0} (R : X → X → Type 0) → ((x y z : X) → R x y → R y z → R x z) → (test : X → X → Bool) → ((x y : X) → (test x y ≡ true) ↔ R x y) → (xs : List X) (r : Bool) → IsAllAdjacentAnswer (λ x y b. b ≡ test x y) xs r → IsTrue r ↔ AllPairs R xs
 all_pairs_by_neighbours R trans test decides xs true adjacent = (λ _. all_pairs_from_neighbours R trans xs up, λ _. refl)
   where

@@ -10,18 +10,18 @@ use Rattle.links.proofs.Members.{contains_cases, contains_head, contains_tail, c
 use Rattle.links.proofs.Keys.{trichotomy, below_dec, below_trans, ascending_head, ascending_tail, same_members}
 use Rattle.links.proofs.Walks.{Decided, joins_dec}
 
--- a link below all others in front of them
+-- a link in front of others that are all above it
 ascending_cons : (l : Link) (ls : List Link) → ((m : Link) → Contains ls m → IsBelow l m) → IsAscending ls → IsAscending (l ∷ ls)
 ascending_cons l ls below up = AllPairs-cons IsBelow l ls (λ k d lt. below (get_or ls k d) (Contains-get_or ls k d lt)) up
 
--- the link l beside those of the list
+-- the links of the list, and l
 record Inserted (l : Link) (ls : List Link) : Type 0 where
   all : List Link
   ascending : IsAscending all
   members : (m : Link) → Contains all m ↔ (m ≡ l) ⊎ Contains ls m
   few : length all ≤ length ls + 1
 
--- A link finds its place in an ascending list: before the first that is above it, and nowhere if it is there.
+-- A link is inserted into an ascending list before the first link above it, and isn't inserted if it is already there.
 insert : (l : Link) (ls : List Link) → IsAscending ls → Inserted l ls
 insert l [] up = record { all = l ∷ []; ascending = ascending_cons l [] (λ m is_in. absurd (contains_none m is_in)) up; members = λ m. (contains_cases l m [], to m); few = omega arith }
   where
@@ -75,7 +75,7 @@ insert l (x ∷ xs) up = elim (trichotomy l x) [
           | inr in_xs ↦ contains_tail x m inner.all ((inner.members m).1 (inr in_xs))
         ]
 
--- the links of the list that pass a test, ascending
+-- the links of the list that pass a test, in ascending order
 record Sifted (P : Link → Type 0) (links : List Link) : Type 0 where
   all : List Link
   ascending : IsAscending all
@@ -113,24 +113,24 @@ sift : (P : Link → Type 0) → ((l : Link) → Decided (P l)) → (links : Lis
 sift P test [] = record { all = []; ascending = λ i j d lt in_range. absurd (omega arith); members = λ m. (λ is_in. absurd (contains_none m is_in), λ is. absurd (contains_none m is.0)); few = omega arith }
 sift P test (l ∷ links) = sift_more P l links (test l) (sift P test links)
 
--- of each link of a list it is decided whether smaller ones don't join its ends
+-- whether smaller links join the endpoints of a link of the list is decidable
 apart_dec : (links : List Link) (l : Link) → Decided (¬ (Joins (LinksBelow links l) l.low l.high))
 apart_dec links l = elim (joins_dec (λ m. IsBelow m l) (λ m. below_dec m l) links l.low l.high) [
   | inl joined ↦ inr (λ apart. apart joined)
   | inr apart ↦ inl apart
 ]
 
--- those of which they don't, in ascending order
+-- the links whose endpoints smaller links don't join, in ascending order
 the_forest : (links : List Link) → Sifted (λ l. ¬ (Joins (LinksBelow links l) l.low l.high)) links
 the_forest links = sift (λ l. ¬ (Joins (LinksBelow links l) l.low l.high)) (apart_dec links) links
 
--- They are the forest. Another forest is an ascending list with the same members.
+-- These links are the forest. Every other forest is an ascending list with the same members.
 no_other : (links other : List Link) → IsForestOf links other → other ≡ (the_forest links).all
 no_other links other is = same_members other (the_forest links).all is.ascending (the_forest links).ascending (λ l. (λ is_in. ((the_forest links).members l).1 ((is.exact l).0 is_in), λ is_in. (is.exact l).1 (((the_forest links).members l).0 is_in)))
 
 pub each_has_one_forest : EachHasOneForest
 each_has_one_forest links = ((the_forest links).all, record { ascending = (the_forest links).ascending; exact = (the_forest links).members }, no_other links)
 
--- it has no more links than the list
+-- the forest has at most as many links as the list
 pub forest_few : (links forest : List Link) → IsForestOf links forest → length forest ≤ length links
 forest_few links forest is = subst (λ (xs : List Link). length xs ≤ length links) (sym (no_other links forest is)) (the_forest links).few

@@ -1,4 +1,4 @@
--- Weights that are changed in their order leave the forest at its places.
+-- If weights are changed but keep their order, the forest has the same indices.
 use Rattle.std.proofs.Common.{◌≡◌, ℕ, ℤ, ◌<◌, List, [], ◌∷◌, length, Contains, get_or, Ordering, Less, Equal, Greater, int_cmp, nat_cmp, refl, sym, ap, ap₂, ◌∙◌, subst, inl, inr, arith}
 use Rattle.std.specs.Int.Signed.{◌<ℤ◌}
 use Rattle.std.specs.Ordering.{ordering_then, MatchOrdering}
@@ -26,11 +26,11 @@ ranks_less x y less = search (arith, int_cmp, int_ranks, ints)
 ranks_equal : (x : ℤ) → int_cmp x x ≡ Equal
 ranks_equal x = search (arith, int_cmp, int_ranks, ints)
 
--- links with one key are one
+-- links with the same key are equal
 one_key : (l m : Link) → key_of l ≡ key_of m → l ≡ m
 one_key l m same = link_eq l m (ap (λ (k : Key). k.0) same) (ap (λ (k : Key). k.1) same) (ap (λ (k : Key). k.2) same)
 
--- ---- the links of the one list and of the other
+-- ---- the links of the two lists
 
 module _ (f : ℤ → ℤ) where
   -- l with its weight changed
@@ -55,7 +55,7 @@ module _ (f : ℤ → ℤ) where
       let lt' : k < length xs = omega (arith, lt, as_long xs ys are) in
       (get_or xs k m, Contains-get_or xs k m lt', sym (ap key_of at) ∙ at_place xs ys are k m lt')
 
-  -- some links of a list, with their weights changed
+  -- links of a list, with their weights changed
   all_changed : (links changed : List Link) → AreReweighted f links changed → (xs : List Link) → ((l : Link) → Contains xs l → Contains links l) → (ys : List Link) × AreReweighted f xs ys
   all_changed links changed are [] among = ([], refl)
   all_changed links changed are (x ∷ xs) among =
@@ -89,7 +89,7 @@ module _ (f : ℤ → ℤ) (links changed : List Link) (keeps : KeepsOrder f lin
 
   -- ---- the forests
 
-  -- a link of a set joins the ends that a key names, if they are its own
+  -- a link of a set joins the endpoints that a key names, if they are the link's
   joins_ends : (S : LinkSet) (m : Link) (k : Key) → S m → k.1 ≡ m.low → k.2 ≡ m.high → Joins S k.1 k.2
   joins_ends S m k m_in low high = subst (λ u. Joins S u k.2) (sym low) (subst (λ v. Joins S m.low v) (sym high) (joins_link S m m_in))
 
@@ -107,7 +107,7 @@ module _ (f : ℤ → ℤ) (links changed : List Link) (keeps : KeepsOrder f lin
       other m (m_in, below) = let one = changed_one f links changed are m m_in in
           joins_ends (LinksBelow changed l') one.0 (key_of m) (one.1, below_changed m l one.0 l' m_in l_in one.2 l_is below) (sym (ap (λ (k : Key). k.1) one.2)) (sym (ap (λ (k : Key). k.2) one.2))
 
-  -- the forest's links with their weights changed are the forest of the list with its weights changed
+  -- the forest's links with changed weights are the forest of the list with changed weights
   changed_forest : (forest other : List Link) → IsForestOf links forest → AreReweighted f forest other → IsForestOf changed other
   changed_forest forest other is same = record { ascending = ascending; exact = λ m. (to m, from m) }
     where

@@ -2,8 +2,8 @@
 use Rattle.std.proofs.Common.{◌≡◌, ℕ, ◌+◌, ◌*◌, ◌/◌, ◌≤◌, sym, subst, arith}
 use Rattle.std.proofs.Math.Nat.{mul-add, mul-le-mul_right, div-mul-le_self, le-div_iff_mul-le}
 
--- if each of a + b threads is worth 32,768 links, so is each of the first a, with as many links as the whole list has for each,
--- and each of the others
+-- If the list has 32,768 links for each of a + b threads, so does each of its parts. The first part has, for each of
+-- its a threads, the whole list's average number of links.
 pub worth_parts : (links threads a b : ℕ) → 1 ≤ threads → 32768 * threads ≤ links → a + b ≡ threads
     → (32768 * a ≤ links / threads * a) × (links / threads * a + 32768 * b ≤ links)
 worth_parts links threads a b some worth all =

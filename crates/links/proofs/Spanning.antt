@@ -1,4 +1,4 @@
--- A part of the forest that spans the list is the forest.
+-- A part of the forest that spans the list is the whole forest.
 use Rattle.std.proofs.Common.{◌≡◌, ◌≢◌, ℕ, zero, suc, ◌≤◌, ◌⊎◌, ◌↔◌, List, [], ◌∷◌, length, Contains, sym, subst, inl, inr, arith}
 use Rattle.std.proofs.lemmas.List.Elements.{All-from_recursion, recursion_from_All, All-contains, All-contains_itself}
 use Rattle.links.specs.declared.links.Link.{Link}
@@ -23,9 +23,10 @@ walked S u v (walk, all, leads) = record {
   joined = (walk, recursion_from_All (Contains walk) walk (All-contains_itself walk), leads);
 }
 
--- Other links of the forest don't join the ends of one, where they don't without their greatest. If that is below the
--- one, all are, and it is in the forest. Else it is above: where the others don't join the ends without it, they and the
--- one join its own ends, and all of them are below it.
+-- If other links of the forest don't join the endpoints of a link without the greatest of them, they don't with it
+-- either. If the greatest is below the link, all of them are, and the link is in the forest. Otherwise, it is above the
+-- link. If the others don't join the link's endpoints without it, they and the link join its endpoints, and all of
+-- these are below it.
 by_greatest : (links : List Link) (l : Link) → IsForestLink links l → (Q : List Link) (top : HasGreatest Q) → ((q : Link) → Contains Q q → IsForestLink links q × (q ≢ l)) → ¬ (Joins (Contains top.others) l.low l.high) → ¬ (Joins (Contains Q) l.low l.high)
 by_greatest links l is Q top each fewer joined = by_order (trichotomy top.greatest l)
   where
@@ -68,7 +69,8 @@ others_dont_join links l is (suc fuel) (q ∷ Q) small each joined =
     let fewer : length top.others ≤ fuel = omega (arith, top.shorter) in
     by_greatest links l is (q ∷ Q) top each (others_dont_join links l is fuel top.others fewer (λ m m_in. each m (top.below m m_in).0)) joined
 
--- It joins the ends of each link of the forest by a walk; no walk over others does, so it has that link.
+-- The part joins the endpoints of each forest link by a walk. No walk over other forest links does, so the part has the
+-- link.
 pub spanning_part : (links : List Link) (P : Link → Type 0) → ((l : Link) → P l → IsForestLink links l) → ((u v : ℕ) → Joins (Contains links) u v → Joins P u v) → (l : Link) → P l ↔ IsForestLink links l
 spanning_part links P part spans l = (part l, taken)
   where

@@ -1,4 +1,4 @@
--- Cuts: what a test of each span says of each shard, and that the shards joined together are the list.
+-- Cuts: what a test of each span says about each shard, and that the joined shards are the list.
 use Rattle.std.proofs.Common.{◌≡◌, refl, sym, ap, ap₂, ◌∙◌, subst, inl, inr, ℕ, zero, suc, ◌+◌, ◌-◌, ◌*◌, ◌/◌, ◌<◌, ◌≤◌, Bool, true, false, ◌&&◌, List, [], ◌∷◌, ◌++◌, length, map, drop, get_or, arith}
 use Rattle.std.specs.Prelude.{nat_le, eqb, ltb, leb, if◌then◌else◌, Some, None}
 use Rattle.std.specs.List.{slice_range, list_all}
@@ -16,14 +16,14 @@ use Rattle.links.specs.declared.links.Link.{Link}
 use Rattle.links.specs.Cut.{joined, links_at, spans_from, links_in, shards_at, is_in_order, is_small, places_refusal, even_refusal, IsEvenCut}
 use Rattle.links.specs.declared.cuts.CutFault.TheVariants.{NoShards, TooManyShards, ShardTooLarge, BadPlaces}
 
--- both tests hold where their conjunction does
+-- if a conjunction of two tests is true, so are both tests
 pub both_first : (a b : Bool) → (a && b) ≡ true → a ≡ true
 both_first a1 a2 a3 = search arith
 
 pub both_second : (a b : Bool) → (a && b) ≡ true → b ≡ true
 both_second a1 a2 a3 = search arith
 
--- a test that each span passes holds of each
+-- if every span passes a test, so does the span at index i
 pub test_at : (p : (ℕ × ℕ) → Bool) (from len : ℕ) (places : List ℕ) (i : ℕ) → i ≤ length places
     → list_all p (spans_from from len places) ≡ true → p (get_or (from ∷ places) i 0, get_or (places ++ len ∷ []) i 0) ≡ true
 test_at p from len [] zero h all = both_first _ _ all
@@ -31,7 +31,7 @@ test_at p from len [] (suc i) h all = absurd (omega (arith, h))
 test_at p from len (q ∷ places) zero h all = both_first _ _ all
 test_at p from len (q ∷ places) (suc i) h all = test_at p q len places i (omega (arith, h)) (both_second _ _ all)
 
--- and it holds of all where it holds of each
+-- if the span at every index passes a test, every span does
 pub test_all : (p : (ℕ × ℕ) → Bool) (from len : ℕ) (places : List ℕ)
     → ((i : ℕ) → i ≤ length places → p (get_or (from ∷ places) i 0, get_or (places ++ len ∷ []) i 0) ≡ true)
     → list_all p (spans_from from len places) ≡ true
@@ -41,7 +41,7 @@ test_all p from len (q ∷ places) each =
     let here : p (from, q) ≡ true = each 0 (omega arith) in
     rw (here, rest) refl
 
--- where no shard ends before it begins, none begins or ends past the end of the list
+-- if no shard ends before it begins, none begins or ends past the end of the list
 pub begins_within : (from len : ℕ) (places : List ℕ) → list_all is_in_order (spans_from from len places) ≡ true → from ≤ len
 begins_within from len [] all = leb-true from len (both_first _ _ all)
 begins_within from len (q ∷ places) all =
@@ -56,7 +56,7 @@ ends_within from len [] (suc i) all h = omega arith
 ends_within from len (q ∷ places) zero all h = begins_within q len places (both_second _ _ all)
 ends_within from len (q ∷ places) (suc i) all h = ends_within q len places i (both_second _ _ all) (omega (arith, h))
 
--- the shards from a place on are the list from there on
+-- the shards from an index on are the list from that index on
 pub joined_from : (links : List Link) (from : ℕ) (places : List ℕ) → list_all is_in_order (spans_from from (length links) places) ≡ true
     → joined (map (links_in links) (spans_from from (length links) places)) ≡ drop from links
 joined_from links from [] all =
@@ -73,7 +73,7 @@ pub shards_joined : (links : List Link) (places : List ℕ) → list_all is_in_o
     → joined (shards_at links places) ≡ links
 shards_joined links places all = joined_from links 0 places all
 
--- there is one span more than places
+-- there is one span more than there are indices
 pub spans_length : (from len : ℕ) (places : List ℕ) → length (spans_from from len places) ≡ length places + 1
 spans_length from len [] = refl
 spans_length from len (q ∷ places) = ap suc (spans_length q len places) ∙ omega arith
@@ -89,7 +89,7 @@ shard_from links from [] (suc i) h = absurd (omega (arith, h))
 shard_from links from (q ∷ places) zero h = refl
 shard_from links from (q ∷ places) (suc i) h = shard_from links q places i (omega (arith, h))
 
--- what a cut that isn't refused keeps
+-- what is true of a cut that is allowed
 pub record IsAllowed (len : ℕ) (places : List ℕ) : Type 0 where
   pub few : length places < MAX_SHARDS
   pub in_order : list_all is_in_order (spans_from 0 len places) ≡ true
@@ -107,7 +107,7 @@ not_refused len places is = search (arith, nat_tests)
 
 -- ---- even shards
 
--- the places between even shards
+-- the indices between even shards
 pub record AreEven (len count : ℕ) (places : List ℕ) : Type 0 where
   pub some : 0 < count
   pub number : length places + 1 ≡ count
@@ -169,6 +169,6 @@ even_unrefused a1 a2 a3 a4 = search arith
 pub even_limits : (len count : ℕ) → even_refusal len count ≡ None → (0 < count) × (count ≤ MAX_SHARDS) × (len ≤ MAX_SHARD_LINKS * count)
 even_limits len count e = search (arith, even_unrefused, nat_tests)
 
--- a span's links are no more than its places
+-- a span has at most as many links as indices
 pub part_few : (links : List Link) (from to : ℕ) → length (slice_range links from to) ≤ to - from
 part_few links from to = let few = length-take (to - from) (drop from links) in omega (arith, few)

@@ -1,10 +1,10 @@
--- Lists of links: what stands in them, a part of them.
+-- Lists of links: their members, and parts of them.
 use Rattle.std.proofs.Common.{◌≢◌, ◌<◌, List, [], ◌∷◌, length, Contains, sym, ◌∙◌, subst, inl, inr, arith}
 use Rattle.links.specs.declared.links.Link.{Link}
 use Rattle.links.specs.LinkSet.{LinkSet, Either}
 use Rattle.links.proofs.Members.{contains_cases, contains_head, contains_tail, contains_none}
 
--- a list without one of its links: shorter, and with all the others
+-- a list without one of its links: it is shorter, and has all the others
 pub record Fewer (links : List Link) (l : Link) : Type 0 where
   pub rest : List Link
   pub shorter : length rest < length links
@@ -25,7 +25,7 @@ without_one (k ∷ links) l is_in = elim (contains_cases k l links is_in) [
   }
 ]
 
--- of links that are each in one of two sets, those in the second
+-- the links of a list that are in the second of two sets, if each is in one of them
 pub record PartIn (S P : LinkSet) (links : List Link) : Type 0 where
   pub part : List Link
   pub within : (m : Link) → Contains part m → P m

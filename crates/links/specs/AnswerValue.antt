@@ -1,8 +1,8 @@
--- What an answer says, without where its offers lie in memory.
+-- What an answer says, whatever the layout of its offers in memory.
 use Rattle.std.specs.Prelude.{ℕ, List}
 use Rattle.links.specs.Offers.{Offer}
 
--- the round and the shard that were asked, and the offers
+-- the round and the shard that were asked about, and the offers
 pub record AnswerValue : Type 0 where
   pub round : ℕ
   pub shard : ℕ

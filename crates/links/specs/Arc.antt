@@ -1,4 +1,4 @@
--- What an arc line of a file says: its two ends, and its weight.
+-- An arc line of a file: its two endpoints and its weight.
 use Rattle.std.specs.Prelude.{ℕ, ℤ}
 
 pub record Arc : Type 0 where

@@ -6,7 +6,7 @@ use Rattle.links.specs.declared.links.Link.{Link}
 use Rattle.links.specs.declared.cuts.CutFault.{CutFault}
 use Rattle.links.specs.declared.cuts.CutFault.TheVariants.{NoShards, TooManyShards, ShardTooLarge, BadPlaces, Memory}
 
--- the links of the shards, one shard behind the other
+-- the links of the shards, one shard after the other
 abbrev pub joined : List (List Link) → List Link
 joined shards = flat_map (λ s. s) shards
 
@@ -14,7 +14,7 @@ joined shards = flat_map (λ s. s) shards
 abbrev pub links_at : List (List Link) → ℕ → List Link
 links_at shards number = slice_index_or shards number []
 
--- the places where the shards of a list of this length begin and end, from a place on: each shard ends where the next one begins
+-- where the shards of a list of length `len` begin and end, from `from` on: each shard ends where the next one begins
 abbrev pub spans_from : ℕ → ℕ → List ℕ → List (ℕ × ℕ)
 spans_from from len places = zip (from ∷ places) (places ++ len ∷ [])
 
@@ -22,24 +22,25 @@ spans_from from len places = zip (from ∷ places) (places ++ len ∷ [])
 abbrev pub links_in : List Link → (ℕ × ℕ) → List Link
 links_in links span = slice_range links span.0 span.1
 
--- the shards of a list that is cut at the places
+-- the shards of a list that is cut at the given indices
 abbrev pub shards_at : List Link → List ℕ → List (List Link)
 shards_at links places = map (links_in links) (spans_from 0 (length links) places)
 
--- shard i of L links has the places from floor(i L / count) up to floor((i + 1) L / count)
+-- shard i of L links has the indices from floor(i L / count) up to floor((i + 1) L / count)
 pub record IsEvenCut (links : List Link) (count : ℕ) (shards : List (List Link)) : Type 0 where
   pub number : length shards ≡ count
   pub each : (i : ℕ) → i < count → links_at shards i ≡ slice_range links (i * length links / count) ((i + 1) * length links / count)
 
--- no shard ends before it begins
+-- the shard doesn't end before it begins
 abbrev pub is_in_order : (ℕ × ℕ) → Bool
 is_in_order span = nat_le span.0 span.1
 
--- a shard isn't too large
+-- the shard isn't too large
 abbrev pub is_small : (ℕ × ℕ) → Bool
 is_small span = nat_le (span.1 - span.0) MAX_SHARD_LINKS
 
--- why a list of this length can't be cut into so many even shards: more links than so many shards hold make one too large
+-- why a list of length `len` can't be cut into `count` even shards: if the shards can't hold all links, one is too
+-- large
 abbrev pub even_refusal : ℕ → ℕ → Option CutFault
 even_refusal len count =
     if count == 0 then Some NoShards
@@ -47,19 +48,19 @@ even_refusal len count =
     else (if nat_lt (MAX_SHARD_LINKS * count) len then Some ShardTooLarge
     else None))
 
--- why a list of this length can't be cut at the places: there is one shard more than places
+-- why a list of length `len` can't be cut at the given indices: there is one shard more than indices
 abbrev pub places_refusal : ℕ → List ℕ → Option CutFault
 places_refusal len places =
     if nat_le MAX_SHARDS (length places) then Some TooManyShards
     else (if list_all is_in_order (spans_from 0 len places) then (if list_all is_small (spans_from 0 len places) then None else Some ShardTooLarge)
     else Some BadPlaces)
 
--- the fault of a call that makes a cut: the refusal, or want of memory where there is none
+-- the error of a call that makes a cut: the cause if the cut isn't allowed, otherwise out of memory
 abbrev pub IsCutFault : Option CutFault → CutFault → Type 0
 IsCutFault None fault = fault ≡ Memory
 IsCutFault (Some refusal) fault = fault ≡ refusal
 
--- how many links shard i of an even cut of so many links has
+-- how many links shard i of an even cut of `len` links has
 abbrev pub even_size : ℕ → ℕ → ℕ → ℕ
 even_size len count i = (i + 1) * len / count - i * len / count
 
@@ -67,7 +68,7 @@ even_size len count i = (i + 1) * len / count - i * len / count
 abbrev pub HasLargeShard : ℕ → ℕ → Type 0
 HasLargeShard len count = (i : ℕ) × (i < count) × (MAX_SHARD_LINKS < even_size len count i)
 
--- an even cut into an allowed number of shards is refused exactly where one of its shards is too large
+-- an even cut into an allowed number of shards is rejected exactly if one of its shards is too large
 abbrev pub RefusedForALargeShard : Type 0
 RefusedForALargeShard =
     (len count : ℕ) → 1 ≤ count → count ≤ MAX_SHARDS → (even_refusal len count ≡ Some ShardTooLarge) ↔ HasLargeShard len count

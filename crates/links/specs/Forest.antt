@@ -8,16 +8,16 @@ use Rattle.links.specs.Walk.{Joins}
 abbrev pub LinksBelow : List Link → Link → Link → Type 0
 LinksBelow links l m = Contains links m × IsBelow m l
 
--- a link of the list whose ends aren't joined by the links of smaller key
+-- a link of the list whose endpoints aren't joined by the links of smaller keys
 abbrev pub IsForestLink : List Link → Link → Type 0
 IsForestLink links l = Contains links l × ¬ (Joins (LinksBelow links l) l.low l.high)
 
--- the forest: its links and no others, keys ascending, each once
+-- the forest: these links and no others, with ascending keys, each once
 pub record IsForestOf (links forest : List Link) : Type 0 where
   pub ascending : IsAscending forest
   pub exact : (l : Link) → Contains forest l ↔ IsForestLink links l
 
--- each list of links has a forest, and no other
+-- each list of links has exactly one forest
 abbrev pub EachHasOneForest : Type 0
 EachHasOneForest =
     (links : List Link)

@@ -2,7 +2,7 @@
 use Rattle.std.specs.Prelude.{◌≡◌, ℕ, ◌-◌, ◌≤◌, List, length, map, slice_index}
 use Rattle.limits.specs.declared.TheConstants.{MAX_VERTICES}
 
--- the label of vertex v: the labels stand in the order of the vertices, which are numbered from 1
+-- the label of vertex v: the labels are in the order of the vertices, which are numbered from 1
 abbrev pub label_of : List ℕ → ℕ → ℕ
 label_of labels v = slice_index labels (v - 1)
 
@@ -22,12 +22,12 @@ pub record AreApart (n : ℕ) (labels : List ℕ) : Type 0 where
   pub vertices : length labels ≡ n
   pub itself : (v : ℕ) → 1 ≤ v → v ≤ n → label_of labels v ≡ v
 
--- labels coarsen finer ones of the same vertices: vertices of one label in the finer ones have one label in them
+-- labels coarsen finer ones of the same vertices: vertices with the same finer label have the same label
 pub record Coarsens (labels finer : List ℕ) : Type 0 where
   pub vertices : length labels ≡ length finer
   pub together : (u v : ℕ) → 1 ≤ u → u ≤ length finer → 1 ≤ v → v ≤ length finer
       → label_of finer u ≡ label_of finer v → label_of labels u ≡ label_of labels v
 
--- its number in the place of each label
+-- each label replaced by its number
 abbrev pub renamed : List ℕ → List ℕ → List ℕ
 renamed numbers labels = map (λ (c : ℕ). slice_index numbers c) labels

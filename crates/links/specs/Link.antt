@@ -6,7 +6,7 @@ use Rattle.std.specs.declared.cmp.Ordering.TheVariants.{Less}
 use Rattle.links.specs.Arc.{Arc}
 use Rattle.links.specs.declared.links.Link.{Link}
 
--- a key: the weight, then the lower end, then the higher end
+-- a key: the weight, then the lower endpoint, then the higher endpoint
 abbrev pub Key : Type 0
 Key = ℤ × ℕ × ℕ
 
@@ -14,7 +14,7 @@ Key = ℤ × ℕ × ℕ
 abbrev pub key_of : Link → Key
 key_of l = (l.weight, l.low, l.high)
 
--- keys compare by weight, ties by the lower end, and those by the higher end
+-- keys compare by weight, then by the lower endpoint, then by the higher endpoint
 abbrev pub key_cmp : Link → Link → Ordering
 key_cmp l m = ordering_then (int_cmp l.weight m.weight) (ordering_then (nat_cmp l.low m.low) (nat_cmp l.high m.high))
 
@@ -22,22 +22,22 @@ key_cmp l m = ordering_then (int_cmp l.weight m.weight) (ordering_then (nat_cmp 
 abbrev pub IsBelow : Link → Link → Type 0
 IsBelow l m = key_cmp l m ≡ Less
 
--- an arc whose ends differ
+-- an arc whose endpoints differ
 abbrev pub is_no_loop : Arc → Bool
 is_no_loop a = not (a.tail == a.head)
 
--- the key that an arc gives: its direction is forgotten
+-- the key of the link that an arc gives, without its direction
 abbrev pub arc_key : Arc → Key
 arc_key a = (a.weight, min a.tail a.head, max a.tail a.head)
 
--- the links are those of the arcs that are no loops, in the arcs' order, repeats kept
+-- the links are those of the arcs that aren't loops, in the arcs' order and with repeats
 abbrev pub AreLinksOf : List Arc → List Link → Type 0
 AreLinksOf arcs links = map key_of links ≡ map arc_key (filter is_no_loop arcs)
 
--- the keys ascend strictly: each link is below each later one
+-- the keys ascend strictly: each link is below every later one
 abbrev pub IsAscending : List Link → Type 0
 IsAscending links = AllPairs IsBelow links
 
--- the ends of the links are vertices of a graph with the vertices 1 to n
+-- the endpoints of the links are vertices of a graph with the vertices 1 to n
 abbrev pub EndsUpTo : ℕ → List Link → Type 0
 EndsUpTo n links = All (λ l. l.high ≤ n) links

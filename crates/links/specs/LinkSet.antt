@@ -3,7 +3,7 @@ use Rattle.std.specs.Prelude.{ℕ, ◌≢◌, ◌⊎◌, ◌↔◌, List, Contai
 use Rattle.links.specs.declared.links.Link.{Link}
 use Rattle.links.specs.Walk.{Joins}
 
--- a set of links, by what it is to be in it; a list of links stands for the set of its members, `Contains list`
+-- a set of links, as the condition to be in it; the set of a list's links is `Contains list`
 abbrev pub LinkSet : Type 1
 LinkSet = Link → Type 0
 
@@ -23,7 +23,7 @@ IsPartOf S T = (l : Link) → S l → T l
 abbrev pub SameLinks : LinkSet → LinkSet → Type 0
 SameLinks S T = (l : Link) → S l ↔ T l
 
--- no link of the set has its ends joined by the others
+-- no link of the set has its endpoints joined by the others
 abbrev pub HasNoCycle : LinkSet → Type 0
 HasNoCycle S = (l : Link) → S l → ¬ (Joins (Without S l) l.low l.high)
 

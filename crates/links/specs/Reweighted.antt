@@ -1,4 +1,4 @@
--- Links whose weights are changed, and still stand in the same order.
+-- Links whose weights are changed but keep their order.
 use Rattle.std.specs.Prelude.{◌≡◌, ℕ, ◌<◌, ℤ, ◌↔◌, List, length, map, slice_index_or, Contains}
 use Rattle.std.specs.Int.Signed.{◌<ℤ◌}
 use Rattle.links.specs.declared.links.Link.{Link}
@@ -9,7 +9,7 @@ use Rattle.links.specs.Forest.{IsForestOf}
 abbrev pub KeepsOrder : (ℤ → ℤ) → List Link → Type 0
 KeepsOrder f links = (l m : Link) → Contains links l → Contains links m → l.weight <ℤ m.weight → f l.weight <ℤ f m.weight
 
--- the key of a link with its weight changed by the function
+-- the key of a link after the function has changed its weight
 abbrev pub reweighted_key : (ℤ → ℤ) → Link → Key
 reweighted_key f l = (f l.weight, l.low, l.high)
 
@@ -19,13 +19,14 @@ AreReweighted f links changed = map key_of changed ≡ map (reweighted_key f) li
 
 -- ---- the laws
 
--- if a function that keeps the order of a list's weights changes them, the forest is the list's, with its weights changed
+-- if a function keeps the order of a list's weights, the forest of the changed list is the list's forest with changed
+-- weights
 abbrev pub ForestOfReweighted : Type 0
 ForestOfReweighted =
     (f : ℤ → ℤ) (links changed : List Link) → KeepsOrder f links → AreReweighted f links changed
     → (forest other : List Link) → IsForestOf links forest → IsForestOf changed other → AreReweighted f forest other
 
--- and its links stand at the same places: link k of the one forest stands in its list exactly where that of the other does in its own
+-- the links have the same indices: link k of a forest is at the same index of its list, before the change and after it
 abbrev pub PlacesOfReweighted : Type 0
 PlacesOfReweighted =
     (f : ℤ → ℤ) (links changed : List Link) → KeepsOrder f links → AreReweighted f links changed

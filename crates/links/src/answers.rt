@@ -1,11 +1,12 @@
-//! What a worker answers.
 use crate::offered::Offers;
 use std::alloc::{Allocator, Global};
 use std::marker::Model;
 
-/// What a worker answers to an ask: a round and a shard, and a place in the shard for each of some components.
-/// They are to be the round and the shard of the ask, each component that a link of the shard leaves, and the
-/// place of the least such link: a worker keeps to that, and nothing here tests it.
+/// What a worker sends back when it is asked about a shard in a round: for some components, the index of a link in the
+/// shard.
+///
+/// The round and the shard should be those that were asked about. There should be one offer for each component that a
+/// link of the shard leaves, with the index of the least such link. Workers do this, but this type doesn't check it.
 #[derive(Drop)]
 pub struct Answer<A: Allocator = Global> {
     pub round: u32,

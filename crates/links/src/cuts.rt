@@ -9,8 +9,8 @@ use limits::{MAX_ARCS, MAX_SHARD_LINKS, MAX_SHARDS};
 use std::alloc::{AllocError, Allocator, Global};
 use std::marker::Model;
 
-/// Why a list isn't cut, in the order in which the causes are looked for: no shards, too many, places out of order,
-/// a shard that is too large, no memory.
+/// Why a list can't be cut. The causes are checked in this order: no shards, too many shards, indices out of order, a
+/// shard that is too large, out of memory.
 #[derive(Clone, Copy, Debug, PartialEq, Eq)]
 pub enum CutFault {
     /// The number of shards is 0.
@@ -19,9 +19,9 @@ pub enum CutFault {
     TooManyShards,
     /// A shard has more than `MAX_SHARD_LINKS` links.
     ShardTooLarge,
-    /// A place is past the end of the list, or less than the one before it.
+    /// An index is past the end of the list, or less than the one before it.
     BadPlaces,
-    /// An allocation was refused.
+    /// Out of memory.
     Memory,
 }
 
@@ -33,10 +33,10 @@ impl From<AllocError> for CutFault {
     }
 }
 
-/// A list of links, cut into shards that are numbered from 0: joined together they are the list.
+/// A list of links, cut into shards that are numbered from 0. Joined together, the shards are the list.
 ///
-/// It stands over the caller's list, of which it copies no link, and keeps the places where it is cut: 8 bytes a
-/// shard. There are 1 to `MAX_SHARDS` shards, each of at most `MAX_SHARD_LINKS` links.
+/// The list is borrowed and its links aren't copied. A cut stores only the indices between the shards, 8 bytes each.
+/// There are 1 to `MAX_SHARDS` shards, and each has at most `MAX_SHARD_LINKS` links.
 #[derive(Drop)]
 pub struct Cut<'a, A: Allocator = Global> {
     links: &'a [Link],
@@ -56,8 +56,9 @@ impl<'a, A: Allocator> Model for Cut<'a, A> {
 }
 
 impl<'a, A: Allocator + Copy> Cut<'a, A> {
-    /// Cuts a list of L links into `count` shards whose sizes differ by at most one: shard i has the places from
-    /// floor(i L / count) up to but not including floor((i + 1) L / count). It costs time for each shard alone.
+    /// Cuts a list of L links into `count` shards whose sizes differ by at most one. Shard i has the indices from
+    /// floor(i L / count) up to, but not including, floor((i + 1) L / count). The time depends only on the number of
+    /// shards.
     pub fn even(alloc: A, links: &'a [Link], count: u32) -> Result<Self, CutFault>
         requires few_links { length links.now ≤ MAX_ARCS }
         ensures even { IfOk result (IsEvenCut links.now count) }
@@ -70,8 +71,8 @@ impl<'a, A: Allocator + Copy> Cut<'a, A> {
         Ok(Cut { links, places })
     }
 
-    /// Cuts a list at the places, so that there is one shard more than places: the first has what stands before the
-    /// first place, and the last what stands from the last place on. It copies the places.
+    /// Cuts a list at the given indices, into one shard more than there are indices. The first shard has the links
+    /// before the first index, and the last shard has those from the last index on. The indices are copied.
     pub fn at(alloc: A, links: &'a [Link], places: &[usize]) -> Result<Self, CutFault>
         requires few_links { length links.now ≤ MAX_ARCS }
         ensures cut { IfOk result (λ cut. cut ≡ shards_at links.now places.now) }
@@ -95,14 +96,14 @@ impl<'a, A: Allocator> Cut<'a, A> {
         self.places.len() as u32 + 1
     }
 
-    /// The list that was cut: the links of all shards, one shard behind the other.
+    /// The list that was cut: the links of all shards, one shard after the other.
     pub fn links(&self) -> &'a [Link]
         ensures { result.now ≡ joined self.now }
     {
         self.links
     }
 
-    /// The shard of this number. It costs no time for the shard's links, and takes no memory.
+    /// The shard with this number. Takes constant time and no memory.
     pub fn shard(&self, number: u32) -> Shard<'a>
         requires { number < length self.now }
         ensures number { result.number ≡ number }
@@ -118,7 +119,7 @@ impl<'a, A: Allocator> Cut<'a, A> {
     }
 }
 
-// Where the shard of this number begins and ends.
+// Where the shard with this number begins and ends.
 fn span(places: &[usize], links: usize, number: u32) -> (usize, usize)
     requires allowed { places_refusal links places.now ≡ None }
     requires in_range { number ≤ length places.now }
@@ -131,7 +132,6 @@ fn span(places: &[usize], links: usize, number: u32) -> (usize, usize)
     (begins_at(places, number), ends_at(places, links, number))
 }
 
-// Where the shard of this number begins.
 fn begins_at(places: &[usize], number: u32) -> usize
     requires { number ≤ length places.now }
     ensures { result ≡ slice_index (0 ∷ places.now) number }
@@ -143,7 +143,6 @@ fn begins_at(places: &[usize], number: u32) -> usize
     }
 }
 
-// Where the shard of this number ends.
 fn ends_at(places: &[usize], links: usize, number: u32) -> usize
     requires { number ≤ length places.now }
     ensures { result ≡ slice_index (places.now ++ links ∷ []) number }
@@ -155,8 +154,8 @@ fn ends_at(places: &[usize], links: usize, number: u32) -> usize
     }
 }
 
-/// Whether a list of `length` links can be cut into `count` even shards: the refusal that `Cut::even` gives, without
-/// memory.
+/// Checks whether a list of `length` links can be cut into `count` even shards. Returns the error that `Cut::even`
+/// would return, except `Memory`, and allocates nothing.
 pub fn check_even(length: usize, count: u32) -> Result<(), CutFault>
     requires few_links { length ≤ MAX_ARCS }
     ensures allowed { OnOk result (even_refusal length count ≡ None) }
@@ -174,8 +173,8 @@ pub fn check_even(length: usize, count: u32) -> Result<(), CutFault>
     Ok(())
 }
 
-/// Whether a list of `length` links can be cut at the places: the refusal that `Cut::at` gives, without memory. It
-/// looks at each place once.
+/// Checks whether a list of `length` links can be cut at the given indices. Returns the error that `Cut::at` would
+/// return, except `Memory`. It looks at each index once and allocates nothing.
 pub fn check_places(length: usize, places: &[usize]) -> Result<(), CutFault>
     requires few_links { length ≤ MAX_ARCS }
     ensures allowed { OnOk result (places_refusal length places.now ≡ None) }
@@ -193,7 +192,6 @@ pub fn check_places(length: usize, places: &[usize]) -> Result<(), CutFault>
     Ok(())
 }
 
-// Whether no place is less than the one before it, nor past the end.
 fn are_in_order(length: usize, places: &[usize]) -> bool
     ensures { result ≡ list_all is_in_order (spans_from 0 length places.now) }
 {
@@ -207,7 +205,6 @@ fn are_in_order(length: usize, places: &[usize]) -> bool
     from <= length
 }
 
-// Whether no shard has too many links, where the places are in order.
 fn are_small(length: usize, places: &[usize]) -> bool
     requires { IsTrue (list_all is_in_order (spans_from 0 length places.now)) }
     ensures { result ≡ list_all is_small (spans_from 0 length places.now) }
@@ -222,7 +219,6 @@ fn are_small(length: usize, places: &[usize]) -> bool
     length.saturating_sub(from) <= MAX_SHARD_LINKS
 }
 
-// The places between `count` even shards of a list.
 fn even_places<A: Allocator + Copy>(
     alloc: A,
     links: usize,

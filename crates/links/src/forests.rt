@@ -6,9 +6,10 @@ use crate::links::Link;
 use std::alloc::{Allocator, Global};
 use std::marker::Model;
 
-/// Links in strictly ascending order of their keys: the form in which a forest is handed on and written.
+/// Links in strictly ascending order of their keys: the form in which a forest is passed on and written.
 ///
-/// That its links are the forest of some graph is what the call says that gave it.
+/// The type doesn't promise that the links are the forest of any graph. The contract of the call that made the value
+/// does.
 #[derive(Drop)]
 pub struct Forest<A: Allocator = Global> {
     links: Vec<Link, A>,
@@ -26,7 +27,7 @@ impl<A: Allocator> Model for Forest<A> {
     ghost invariant = { λ f. IsAscending f.links.items };
 }
 
-/// Whether each link has a smaller key than the next, and so than all later ones. It looks at each link once.
+/// Returns whether each link has a smaller key than the next, and so than all later ones. Looks at each link once.
 pub fn is_ascending(links: &[Link]) -> bool
     ensures { IsTrue result ↔ IsAscending links.now }
 {
@@ -34,8 +35,8 @@ pub fn is_ascending(links: &[Link]) -> bool
 }
 
 impl<A: Allocator> Forest<A> {
-    /// The links of a list that ascends strictly; none, and the list is dropped, where it doesn't. It looks at each
-    /// link once, takes no memory and keeps the list's.
+    /// Makes a forest of a list whose keys ascend strictly. If they don't, returns `None` and drops the list. Looks at
+    /// each link once, allocates nothing, and keeps the list's memory.
     pub fn of_list(links: Vec<Link, A>) -> Option<Self>
         ensures exactly_ascending { IsSome result ↔ IsAscending links.items }
         ensures same_links { IfSome result (λ forest. forest ≡ links.items) }
@@ -47,7 +48,8 @@ impl<A: Allocator> Forest<A> {
         }
     }
 
-    /// A forest of links that are known to ascend: for a caller that made them so. It takes no memory and keeps the list's.
+    /// Makes a forest of links that the caller knows to ascend strictly. Allocates nothing, and keeps the list's
+    /// memory.
     pub fn of_ascending(links: Vec<Link, A>) -> Self
         requires { IsAscending links.items }
         ensures { result ≡ links.items }
@@ -55,8 +57,8 @@ impl<A: Allocator> Forest<A> {
         Forest { links }
     }
 
-    /// What it weighs: the sum of the weights of its links. It looks at each link once, takes no memory, and never wraps:
-    /// a list in memory has fewer than 2^64 links.
+    /// Returns the sum of the weights of the forest's links. Looks at each link once and allocates nothing. The sum
+    /// never overflows, because a list in memory has fewer than 2^64 links.
     pub fn total(&self) -> i128
         ensures sum { result ≡ sum_of_weights self.now }
         ensures total { IsTotalOf self.now result }
@@ -68,7 +70,7 @@ impl<A: Allocator> Forest<A> {
         total
     }
 
-    /// Its links, in ascending order, each once.
+    /// The links in ascending order, each once.
     pub fn links(&self) -> &[Link]
         ensures links { result.now ≡ self.now }
         ensures ascending { IsAscending self.now }

@@ -8,10 +8,10 @@ use limits::MAX_VERTICES;
 use std::alloc::{AllocError, Allocator, Global};
 use std::marker::Model;
 
-/// Labels of the vertices 1 to n of a graph: vertices with one label are one component.
+/// Labels of the vertices 1 to n of a graph. Vertices with the same label are in the same component.
 ///
-/// A label is from 1 to its vertex, and a label's label is itself, so each component is named by one of its
-/// vertices. At most `MAX_VERTICES` vertices, 4 bytes each, and 4 more where their bytes were kept beside them by
+/// The label of vertex v is between 1 and v, and a label is its own label. So each component is named after one of its
+/// vertices. There are at most `MAX_VERTICES` vertices. Labels take 4 bytes per vertex, and 4 more after
 /// [`Labels::spell`].
 #[derive(Drop)]
 pub struct Labels<A: Allocator = Global> {
@@ -33,7 +33,7 @@ impl<A: Allocator> Model for Labels<A> {
 }
 
 impl<A: Allocator + Copy> Labels<A> {
-    /// Each of the vertices 1 to `n` labelled by itself. The only error is want of memory.
+    /// Labels each of the vertices 1 to `n` with itself. The only error is out of memory.
     pub fn apart(alloc: A, n: u32) -> Result<Self, AllocError>
         requires { n ≤ MAX_VERTICES }
         ensures apart { IfOk result (AreApart n) }
@@ -45,10 +45,11 @@ impl<A: Allocator + Copy> Labels<A> {
         Ok(Labels::of_known(labels))
     }
 
-    /// Keeps the bytes of the labels beside them, for [`Labels::spelled`]: once, for all who send these labels. Where
-    /// they are kept already it does nothing. The only error is want of memory; then they are not kept.
+    /// Stores the bytes of the labels, for [`Labels::spelled`], so that everyone who sends the labels can use the same
+    /// bytes. If they are already stored, it does nothing. The only error is out of memory, and then no bytes are
+    /// stored.
     ///
-    /// One pass, and 4 bytes a vertex.
+    /// Makes one pass, and allocates 4 bytes per vertex.
     pub fn spell(&mut self) -> Result<(), AllocError>
         ensures { self.new ≡ self.old }
     {
@@ -62,9 +63,9 @@ impl<A: Allocator + Copy> Labels<A> {
 }
 
 impl<A: Allocator> Labels<A> {
-    /// The labels of a list, in the order of the vertices; none, and the list is dropped, where they are no such
-    /// labels or more than `MAX_VERTICES`. It looks at each label once and where that points, takes no memory and keeps the
-    /// list's.
+    /// Makes labels of a list, in the order of the vertices. Returns `None` and drops the list if the numbers aren't
+    /// valid labels or there are more than `MAX_VERTICES`. Looks at each label and at its label once, allocates
+    /// nothing, and keeps the list's memory.
     pub fn of_list(labels: Vec<u32, A>) -> Option<Self>
         ensures exactly_labels { IsSome result ↔ AreLabels labels.items }
         ensures same_labels { IfSome result (λ made. made ≡ labels.items) }
@@ -76,8 +77,8 @@ impl<A: Allocator> Labels<A> {
         }
     }
 
-    /// The labels of a list that is known to hold such labels, in the order of the vertices. It looks at none of them,
-    /// takes no memory and keeps the list's.
+    /// Makes labels of a list that the caller knows to be valid labels, in the order of the vertices. Looks at none of
+    /// them, allocates nothing, and keeps the list's memory.
     pub fn of_known(labels: Vec<u32, A>) -> Self
         requires { AreLabels labels.items }
         ensures { result ≡ labels.items }
@@ -88,10 +89,10 @@ impl<A: Allocator> Labels<A> {
         }
     }
 
-    /// Gives each vertex, in place of its label, the name of that label: the number that stands at the label's place, where
-    /// the new numbers are labels too. Where the bytes of the labels are kept, those of the new ones are written over them.
+    /// Replaces each label by its name, which is the number in `names` at the label's index. The new numbers must be
+    /// valid labels too. If the bytes of the labels are stored, they are overwritten with those of the new labels.
     ///
-    /// One pass, or two where the bytes are kept. It takes no memory.
+    /// Makes one pass, or two if the bytes are stored. Allocates nothing.
     pub fn rename(&mut self, names: &[u32])
         requires within { All (λ c. c < length names.now) self.old }
         requires labels { AreLabels (renamed names.now self.old) }
@@ -122,7 +123,7 @@ impl<A: Allocator> Labels<A> {
         self.labels.len() as u32
     }
 
-    /// The labels of the vertices 1 to n in order, so that of vertex v stands at v - 1.
+    /// The labels of the vertices 1 to n in order: the label of vertex v is at index v - 1.
     pub fn as_slice(&self) -> &[u32]
         ensures labels { result.now ≡ self.now }
         ensures are_labels { AreLabels self.now }
@@ -130,7 +131,8 @@ impl<A: Allocator> Labels<A> {
         self.labels.as_slice()
     }
 
-    /// The bytes of the labels in order, four of each with the most significant first, where [`Labels::spell`] kept them.
+    /// The bytes of the labels in order, four per label with the most significant byte first, if [`Labels::spell`]
+    /// stored them.
     pub fn spelled(&self) -> Option<&[u8]>
         ensures { IfSome result (λ bytes. bytes.now ≡ flat_map (to_be_bytes w32) self.now) }
     {
@@ -140,11 +142,12 @@ impl<A: Allocator> Labels<A> {
         }
     }
 
-    /// Whether these labels coarsen `finer`: both are of the same number of vertices, and vertices of one label in `finer`
-    /// have one label in these. So the components of `finer` are whole parts of these ones; labels coarsen themselves.
+    /// Returns whether these labels coarsen `finer`: both have the same number of vertices, and vertices with the same
+    /// label in `finer` have the same label here. So each component of `finer` lies within one component of these
+    /// labels. Labels coarsen themselves.
     ///
-    /// One pass over both, which takes no memory: O(n) time for n vertices, much less a vertex where both have the same
-    /// labels.
+    /// Makes one pass over both and allocates nothing. The time is O(n) for n vertices, and much less per vertex if
+    /// both have the same labels.
     pub fn coarsens<B: Allocator>(&self, finer: &Labels<B>) -> bool
         ensures { IsTrue result ↔ Coarsens self.now finer.now }
     {
@@ -154,7 +157,6 @@ impl<A: Allocator> Labels<A> {
     }
 }
 
-// The four bytes of each label, the most significant first.
 fn cells_of<A: Allocator>(alloc: A, labels: &[u32]) -> Result<Vec<[u8; 4], A>, AllocError>
     ensures { IfOk result (λ cells. cells.items ≡ map (to_be_bytes w32) labels.now) }
 {
@@ -165,7 +167,6 @@ fn cells_of<A: Allocator>(alloc: A, labels: &[u32]) -> Result<Vec<[u8; 4], A>, A
     Ok(cells)
 }
 
-// Gives each label its name.
 fn rename_each(labels: &mut [u32], names: &[u32])
     requires { All (λ c. c < length names.now) labels.old }
     ensures { labels.new ≡ renamed names.now labels.old }
@@ -175,7 +176,6 @@ fn rename_each(labels: &mut [u32], names: &[u32])
     }
 }
 
-// Writes the four bytes of each label, the most significant first.
 fn spell_each(cells: &mut [[u8; 4]], labels: &[u32])
     requires { length cells.old ≡ length labels.now }
     ensures { cells.new ≡ map (to_be_bytes w32) labels.now }
@@ -185,7 +185,6 @@ fn spell_each(cells: &mut [[u8; 4]], labels: &[u32])
     }
 }
 
-// Whether the list holds labels of the vertices 1, 2, .. in order.
 fn are_labels(labels: &[u32]) -> bool
     ensures { IsTrue result ↔ AreLabels labels.now }
 {
@@ -200,8 +199,8 @@ fn are_labels(labels: &[u32]) -> bool
     true
 }
 
-// Whether the label of vertex v is from 1 to v, and its own label. One comparison sees both bounds, since 0 wraps
-// round to a place behind all.
+// Returns whether the label of vertex v is between 1 and v, and is its own label. One comparison checks both bounds,
+// since subtracting 1 from 0 wraps to an index past all others.
 #[inline]
 fn is_labelled(labels: &[u32], v: usize) -> bool
     requires from_one { 1 ≤ v }
@@ -214,8 +213,8 @@ fn is_labelled(labels: &[u32], v: usize) -> bool
     place < v && labels[place] == label
 }
 
-// Whether each vertex has the label of the vertex that labels it in the finer labels. Labels label themselves, so that
-// it is so where both labels of a vertex are one.
+// Returns whether each vertex has the same label as the vertex that is its label in `finer`. Labels label themselves,
+// so this holds for every vertex whose two labels are equal.
 fn are_coarser(labels: &[u32], finer: &[u32]) -> bool
     requires vertices { length labels.now ≡ length finer.now }
     requires labels { AreLabels labels.now }

@@ -1,26 +1,31 @@
-//! Links of an undirected graph, the order of their keys, and what a minimum spanning forest is. Beside them stand what
-//! rounds over workers speak of: labels, offers, answers, shards and cuts. `link_key` hands all of it on, beside the
-//! sequential solver.
+//! The edges of an undirected graph, the order of their keys, and what a minimum spanning forest is. In the API, an
+//! edge is called a *link*. The crate also has the types of the rounds over workers: labels, offers, answers, shards
+//! and cuts. `link_key` re-exports all of this, and adds the sequential solver.
 //!
 //! ```text
-//!   arc (u, v, w)  --Link::of_arc-->  Link  --sorting-->  ascending  --Forest::of_distinct, where no link closes a cycle--> Forest
+//!   arc (u, v, w)  --Link::of_arc-->  Link  --sorting-->  links in the order of their keys
+//!   links of a forest, in any order  --Forest::of_distinct-->  Forest
 //!   labels of the vertices 1 to n  --Labels::of_list, or Labels::apart-->  Labels
-//!   pairs (component, place)  --Offers::of_pairs-->  Offers
+//!   pairs (component, index)  --Offers::of_pairs-->  Offers
 //!   list of links  --Cut::even, Cut::at-->  Cut  --shard(number)-->  Shard
 //! ```
 //!
 //! What it promises:
-//! - Each list has one forest, the links whose ends aren't joined by smaller ones, and no spanning forest weighs less. Its
-//!   links up to a weight join what the list's do, and they and the components make the vertices. It can be found in parts,
-//!   and only the set of links and the order of their weights decide which links it has ([`laws`]).
-//! - `Forest`, `Labels` and `Offers` are made of a list exactly where it is such a one.
-//! - The shards of a [`Cut`], one after the other, are the list that was cut; a cut that isn't allowed has its cause.
+//! - Each list has exactly one minimum spanning forest: the links whose endpoints aren't joined by links of smaller
+//!   keys. No spanning forest weighs less.
+//! - The forest's links up to a weight join exactly what the list's links up to that weight join. The number of the
+//!   forest's links plus the number of components is the number of vertices.
+//! - The forest can be found in parts. Only the set of links and the order of their weights decide which links it has
+//!   ([`laws`]).
+//! - A list can be turned into a `Forest`, `Labels` or `Offers` exactly if it meets the type's conditions.
+//! - The shards of a [`Cut`], one after the other, are the list that was cut. If a cut isn't allowed, the error gives
+//!   the cause.
 //!
-//! Where to start a change: what is meant stands in `specs/` (`Link`, `Walk`, `Forest`, `Least`, `Thresholds`, `Covers`,
-//! `Components`, `Reweighted`, `Labels`, `Offers`, `Cut`). `labellings` and `offered` say which lists are labels and
-//! offers, `cuts` where a list is cut; `sorting` puts links in the order of their keys, `by_threads` does so by several
-//! threads, for shares of the list that `shares` says, and `of_distinct` orders links that are a forest's already. `repeats` drops
-//! links that stand twice side by side.
+//! To change a definition, see `specs/`: `Link`, `Walk`, `Forest`, `Least`, `Thresholds`, `Covers`, `Components`,
+//! `Reweighted`, `Labels`, `Offers` and `Cut`. `labellings` and `offered` check whether a list is labels or offers, and
+//! `cuts` splits a list. `sorting` puts links in the order of their keys. `by_threads` does so with several threads,
+//! and `shares` divides the list among them. `of_distinct` makes a forest of links that are already known to be a
+//! forest's. `repeats` drops adjacent links that are equal.
 #![tactic(auto)]
 
 mod answers;

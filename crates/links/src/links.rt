@@ -4,11 +4,10 @@ ghost use Rattle.limits.specs.declared.TheConstants.{MAX_VERTICES};
 
 use limits::MAX_VERTICES;
 
-/// A link of an undirected graph: two different vertices, the lower one first, and a weight.
+/// A link, which is an edge of an undirected graph: two different vertices, the lower one first, and a weight.
 ///
-/// Links compare by their keys: the weight, then the lower end, then the higher end. So links that are equal are
-/// one link, and two links between the same vertices differ in their weights. The vertices are numbered from 1 to
-/// at most `MAX_VERTICES`.
+/// Links compare by their keys: the weight, then the lower endpoint, then the higher one. So two links between the same
+/// vertices are equal exactly if their weights are. Vertices are numbered from 1 to at most `MAX_VERTICES`.
 #[derive(Clone, Copy, Debug, PartialEq, Eq, PartialOrd, Ord, Hash)]
 pub struct Link {
     pub weight: i64,
@@ -23,8 +22,8 @@ pub struct Link {
 impl Link {
     ghost use Rattle.links.specs.Link.{key_of, arc_key};
 
-    /// The link of an arc from `u` to `v` of weight `w`, whose direction is forgotten; none for a loop, an arc from
-    /// a vertex to itself. It takes no memory.
+    /// The link of an arc from `u` to `v` with weight `w`, without its direction. Returns `None` for a loop, an arc
+    /// from a vertex to itself. Allocates nothing.
     pub fn of_arc(u: u32, v: u32, w: i64) -> Option<Link>
         requires tail_from_one { 1 ≤ u }
         requires tail_in_limit { u ≤ MAX_VERTICES }

@@ -1,4 +1,4 @@
-//! The forest of links that are known to be its links, each once, and that stand in any order.
+//! Makes a forest of links that are known to be a forest's links, each once, in any order.
 ghost use Rattle.std.specs.List.Sorted.{IsPermutation};
 ghost use Rattle.links.specs.Link.{IsAscending};
 ghost use Rattle.links.specs.Least.{AreDistinct};
@@ -10,10 +10,9 @@ use std::alloc::Allocator;
 use std::thread::Threads;
 
 impl<A: Allocator + Copy> Forest<A> {
-    /// The links of a list of which no two are one, in whatever order they stand: they are put in the order of their
-    /// keys, in the list's own memory.
+    /// Makes a forest of distinct links in any order. Sorts them by their keys, in the list's own memory.
     ///
-    /// For m links it costs O(m log m) time. It takes no memory.
+    /// For m links this takes O(m log m) time. Allocates nothing.
     pub fn of_distinct(links: Vec<Link, A>) -> Self
         requires distinct { AreDistinct links.items }
         ensures same { IsPermutation links.items result }
@@ -24,7 +23,7 @@ impl<A: Allocator + Copy> Forest<A> {
         Forest::of_ascending(links)
     }
 
-    /// The same by threads where there are many links, as many as there are processors.
+    /// Like [`Forest::of_distinct`], but sorts long lists with as many threads as there are processors.
     pub fn of_distinct_par<R: Threads + Sync>(rt: &R, links: Vec<Link, A>) -> Self
         requires distinct { AreDistinct links.items }
         ensures same { IsPermutation links.items result }

@@ -4,8 +4,8 @@ ghost use Rattle.links.specs.Offers.{AreOffers};
 use std::alloc::{Allocator, Global};
 use std::marker::Model;
 
-/// The links that a scan offers: for each of some components, the place in the shard of the link that is offered
-/// for it, counted from 0. The components ascend strictly.
+/// The links that a scan of a shard offers: for some components, the index in the shard of the link that is offered for
+/// the component. Indices are counted from 0, and the components ascend strictly.
 #[derive(Drop)]
 pub struct Offers<A: Allocator = Global> {
     pairs: Vec<(u32, u32), A>,
@@ -23,8 +23,8 @@ impl<A: Allocator> Model for Offers<A> {
 }
 
 impl<A: Allocator> Offers<A> {
-    /// The offers of a list of pairs (component, place); none, and the list is dropped, where the components don't
-    /// ascend strictly. It looks at each pair once, takes no memory and keeps the list's.
+    /// Makes offers of a list of pairs (component, index). If the components don't ascend strictly, returns `None` and
+    /// drops the list. Looks at each pair once, allocates nothing, and keeps the list's memory.
     pub fn of_pairs(pairs: Vec<(u32, u32), A>) -> Option<Self>
         ensures exactly_ascending { IsSome result ↔ AreOffers pairs.items }
         ensures same_pairs { IfSome result (λ offers. offers ≡ pairs.items) }
@@ -36,8 +36,8 @@ impl<A: Allocator> Offers<A> {
         }
     }
 
-    /// The offers of a list of pairs (component, place) whose components are known to ascend strictly: for a caller that made
-    /// the list in that order. It looks at none of them, takes no time and no memory, and keeps the list's.
+    /// Makes offers of a list of pairs (component, index) whose components the caller knows to ascend strictly. Looks
+    /// at no pair, takes constant time, allocates nothing, and keeps the list's memory.
     pub fn of_known(pairs: Vec<(u32, u32), A>) -> Self
         requires ascending { AreOffers pairs.items }
         ensures same_pairs { result ≡ pairs.items }
@@ -45,7 +45,7 @@ impl<A: Allocator> Offers<A> {
         Offers { pairs }
     }
 
-    /// The pairs (component, place), in ascending order of the components.
+    /// The pairs (component, index), in ascending order of the components.
     pub fn pairs(&self) -> &[(u32, u32)]
         ensures pairs { result.now ≡ self.now }
         ensures ascending { AreOffers self.now }
@@ -54,7 +54,6 @@ impl<A: Allocator> Offers<A> {
     }
 }
 
-// Whether each component is below the next, and so below all later ones.
 fn are_offers(pairs: &[(u32, u32)]) -> bool
     ensures { IsTrue result ↔ AreOffers pairs.now }
 {

@@ -1,17 +1,18 @@
-//! Links that repeat the one before them: files that write an edge in both directions have these side by side.
+//! Drops links that repeat the one before them, as in files that list each edge in both directions, one after the
+//! other.
 ghost use Rattle.std.specs.Prelude.{◌≡◌, ◌≤◌, take, length, false, Contains};
 ghost use Rattle.links.specs.LinkSet.{SameLinks};
 
 use crate::links::Link;
 use std::alloc::Allocator;
 
-// So many links, at the most, tell whether there are repeats.
+// The largest number of links that are sampled to find out whether the list has repeats.
 const SAMPLE: usize = 64;
 
-/// Drops the links from an index on that repeat the one before them, if some of the first 64 of these do. Otherwise, the
-/// list stays as it is, whatever follows: nothing depends on this call but the time that repeats would take.
+/// Drops the links at or after an index that repeat the link before them, if at least one of the first 64 of them does.
+/// Otherwise, the list stays as it is, whatever follows. The call only saves the time that repeats would take.
 ///
-/// It takes O(m) time for m links from the index on, and no memory.
+/// Takes O(m) time for m links from the index on, and no memory.
 pub fn drop_usual_repeats<A: Allocator>(links: &mut Vec<Link, A>, from: usize)
     requires in_range { from ≤ length links.old.items }
     ensures few { length links.new.items ≤ length links.old.items }
@@ -24,14 +25,15 @@ pub fn drop_usual_repeats<A: Allocator>(links: &mut Vec<Link, A>, from: usize)
     links.truncate(kept);
 }
 
-// Whether some of the first few of these repeat the one before them.
+// Returns whether one of the first few links repeats the one before it.
 fn has_repeats(links: &[Link]) -> bool {
     let few = &links[..links.len().min(SAMPLE)];
     !few.is_sorted_by(|earlier, later| earlier != later)
 }
 
-// Puts the links from an index on that don't repeat the one before them after those in front, in their order, and returns
-// how many are in front then. It takes no branch on the links.
+// Moves the links from an index on that don't repeat the one before them to the front of that part, in order. Returns
+// the number of links that are left, including those before the index. The loop has no branch that depends on the
+// links.
 fn put_once_behind(links: &mut [Link], from: usize) -> usize
     requires in_range { from ≤ length links.old }
     ensures in_range { result ≤ length links.new }
@@ -49,7 +51,6 @@ fn put_once_behind(links: &mut [Link], from: usize) -> usize
     kept
 }
 
-// Whether they are two links.
 #[inline]
 fn is_other(link: &Link, last: &Link) -> bool
     ensures { result ≡ false → link.now ≡ last.now }

@@ -1,6 +1,6 @@
 use crate::links::Link;
 
-/// A numbered part of a list of links, as a worker holds it. Numbers count from 0.
+/// A numbered part of a list of links, which one worker scans. Numbers begin at 0.
 #[derive(Clone, Copy, Debug)]
 pub struct Shard<'a> {
     pub number: u32,

@@ -1,22 +1,22 @@
-//! How many threads a piece of work over links is worth, and how two parts of it share them.
+//! How many threads a piece of work on links is worth, and how two parts of it share them.
 ghost use Rattle.std.specs.Prelude.{◌+◌, ◌*◌, ◌≤◌, ◌<◌, ◌⊎◌, IfSome, IfNone};
 
-// So many links, at the least, are worth a thread of their own.
+// The smallest number of links that is worth a thread of its own.
 pub(crate) const LEAST_SHARE: usize = 1 << 15;
 
-/// Two parts of a list of links, each for some of the threads.
+/// Two parts of a list of links, each with its share of the threads.
 #[derive(Clone, Copy)]
 pub struct Shares {
-    /// How many links the first part has.
+    /// The number of links in the first part.
     pub first: usize,
-    /// How many threads go over the first part.
+    /// The number of threads that work on the first part.
     pub ahead: usize,
-    /// How many threads go over the rest.
+    /// The number of threads that work on the rest.
     pub behind: usize,
 }
 
-/// How two parts of so many links share so many threads, so that each thread has about as many links; none where one
-/// thread goes over all: each thread has 32,768 links at least.
+/// Splits `links` links and `threads` threads into two parts, so that each thread has about the same number of links.
+/// Returns `None` if one thread should do all the work: each thread has at least 32,768 links.
 pub fn shares_of(links: usize, threads: usize) -> Option<Shares>
     ensures first { IfSome result (λ shares. shares.first ≤ links) }
     ensures some { IfSome result (λ shares. (1 ≤ shares.ahead) × (1 ≤ shares.behind)) }

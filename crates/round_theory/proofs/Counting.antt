@@ -20,13 +20,13 @@ size-nil : (c : ℕ) → size_of c [] ≡ 0
 unfolding size_of
 size-nil c = refl
 
--- a label that a place has counts at least that place
+-- a label that is at an index counts at least once
 pub size_one : (c : ℕ) (xs : List ℕ) (k : ℕ) → k < length xs → get_or xs k 0 ≡ c → 1 ≤ size_of c xs
 size_one c [] k lt at = absurd (omega arith)
 size_one c (x ∷ xs) zero lt at = omega (arith, size-hit c x xs at)
 size_one c (x ∷ xs) (suc k) lt at = search (arith, cases_eq, size-hit, size-miss, size_one c xs k (omega arith) at)
 
--- two labels count no place twice
+-- two labels together count at most the length of the list
 pub two_sizes : (c d : ℕ) (xs : List ℕ) → c ≢ d → size_of c xs + size_of d xs ≤ length xs
 two_sizes c d [] other = omega (arith, size-nil c, size-nil d)
 two_sizes c d (x ∷ xs) other = search (arith, cases_eq, size-hit, size-miss, two_sizes c d xs other)
@@ -34,7 +34,8 @@ two_sizes c d (x ∷ xs) other = search (arith, cases_eq, size-hit, size-miss, t
 size_grows : (e y : ℕ) (ys : List ℕ) → size_of e ys ≤ size_of e (y ∷ ys)
 size_grows e y ys = search (arith, cases_eq, size-hit, size-miss)
 
--- Where every place that had one of two labels has the label e in a new list, e counts at least what they counted together.
+-- If every entry with one of two labels gets the label e in a new list, e counts at least what the two counted
+-- together.
 pub sizes_add : (c d e : ℕ) (old new : List ℕ) → length old ≡ length new → c ≢ d → ((k : ℕ) → k < length old → get_or old k 0 ≡ c → get_or new k 0 ≡ e)
     → ((k : ℕ) → k < length old → get_or old k 0 ≡ d → get_or new k 0 ≡ e) → size_of c old + size_of d old ≤ size_of e new
 sizes_add c d e [] new long other from_c from_d = omega (arith, size-nil c, size-nil d)

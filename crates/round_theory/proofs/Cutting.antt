@@ -11,7 +11,7 @@ use Rattle.round_theory.specs.LinkSet.{LinkSet, SameLinks}
 use Rattle.round_theory.specs.Offers.{Leaves, IsLeastLeaving, IsFirstPlace, AreLightOffers, Hearing, Names, IsNamed, HaveLinksOf, AreAllLight}
 use Rattle.round_theory.proofs.Leaving.{least_leaving_exists}
 
--- an element with a property, where it stands
+-- an element with a property, and its index
 pub any_from : {X : Type 0} (P : X → Type 0) (xs : List X) (x : X) → Contains xs x → P x → Any P xs
 any_from P xs x (k, lt, at) here = (k, x, lt, at, here)
 
@@ -24,7 +24,7 @@ any_cons a1 a2 a3 a4 = search arith
 any_more : {X : Type 0} (P : X → Type 0) (y : X) (xs : List X) → Any P xs → Any P (y ∷ xs)
 any_more P y xs (k, x, lt, at, here) = (suc k, x, omega arith, at, here)
 
--- what stands in one of the lists stands in them joined end to end, and nothing else does
+-- an element is in one of the lists exactly if it is in their concatenation
 pub flat_map_contains : {X Y : Type 0} (f : X → List Y) (xs : List X) (y : Y) → Contains (flat_map f xs) y ↔ Any (λ x. Contains (f x) y) xs
 flat_map_contains f [] y = (λ is_in. absurd (contains_none y is_in), λ some. absurd (omega (arith, some.2)))
 flat_map_contains f (x ∷ xs) y = (to (flat_map_contains f xs y).0, back (flat_map_contains f xs y).1)
@@ -41,7 +41,7 @@ flat_map_contains f (x ∷ xs) y = (to (flat_map_contains f xs y).0, back (flat_
       | inr later ↦ Contains-append_right (f x) (flat_map f xs) y (rest later)
     ]
 
--- each link of a list stands somewhere first
+-- each link of a list has a first index
 pub first_place : (links : List Link) (l : Link) → Contains links l → (i : ℕ) × IsFirstPlace links l i
 first_place [] l is_in = absurd (contains_none l is_in)
 first_place (k ∷ links) l is_in = elim (link_dec k l) [
@@ -56,11 +56,11 @@ first_place (k ∷ links) l is_in = elim (link_dec k l) [
     later other i is zero lt = other
     later other i is (suc j) lt = is.first j (omega arith)
 
--- the least of more links that leaves c is the least of those among them
+-- if the least link of a set that leaves c is in a smaller set, it is the least there too
 least_of_fewer : (labels : List ℕ) (S R : LinkSet) (c : ℕ) (l : Link) → ((m : Link) → S m → R m) → S l → IsLeastLeaving labels R c l → IsLeastLeaving labels S c l
 least_of_fewer labels S R c l more is_in is = record { member = is_in; leaves = is.leaves; least = λ m m_in. is.least m (more m m_in) }
 
--- a named link stands in the shard
+-- a named link is in the shard
 pub named_in_shard : (h : Hearing) (l : Link) → Names h l → Contains h.shard l
 named_in_shard h l names = (names.place, names.within, names.here)
 
@@ -70,13 +70,13 @@ light_names labels h light c l is =
     let at = first_place h.shard l is.member in
     record { label = c; place = at.0; offered = (light.exact c at.0).1 (l, is, at.1); within = at.1.within; here = at.1.here }
 
--- what is below l, and not below k, which isn't below l
+-- if k isn't below l and m isn't below k, then m isn't below l
 pub not_between : (k l m : Link) → ¬ (IsBelow k l) → ¬ (IsBelow m k) → ¬ (IsBelow m l)
 not_between k l m k_not m_not below = search (arith, trichotomy, below_trans)
 
--- The least link of the list that leaves c is the least of its shard, so it is named; and of the named links, which
--- stand in the list, none is less. Another way round, each link of a shard that leaves c is no less than the
--- one that the shard's offers name for c.
+-- The least link of the list that leaves c is the least of its shard, so it is named. The named links are in the list,
+-- so none of them is less. In the other direction, no link of a shard that leaves c is less than the link that the
+-- shard's offers name for c.
 pub light_offers_suffice : (links : List Link) (labels : List ℕ) (heard : List Hearing) → HaveLinksOf heard links
     → AreAllLight labels heard → (c : ℕ) (l : Link) → IsLeastLeaving labels (IsNamed heard) c l ↔ IsLeastLeaving labels (Contains links) c l
 light_offers_suffice links labels heard covers light c l = (to, back)

@@ -1,4 +1,4 @@
--- Each set of links whose joining is decided has exactly one labelling.
+-- If it is decidable what a set of links joins, the set has exactly one labelling.
 use Rattle.std.proofs.Common.{◌^◌, ◌≡◌, ℕ, zero, suc, ◌+◌, ◌-◌, ◌<◌, ◌≤◌, ◌⊎◌, ◌↔◌, List, map, length, get_or, Contains, sym, ◌∙◌, subst, inl, inr, arith}
 use Rattle.std.specs.List.{range_with_len}
 use Rattle.std.proofs.lemmas.Grind.{same_number_lists}
@@ -11,7 +11,7 @@ use Rattle.round_theory.specs.LinkSet.{LinkSet, SameLinks}
 use Rattle.links.specs.Labels.{label_of, IsLabelled, AreLabels}
 use Rattle.round_theory.specs.Labelling.{IsVertex, IsLeastJoined, IsLabelling}
 
--- whether the links of a list join two vertices is decided
+-- whether the links of a list join two vertices is decidable
 pub list_joins_dec : (links : List Link) (u v : ℕ) → Decided (Joins (Contains links) u v)
 list_joins_dec links u v =
     dec_along (at.0) (at.1) (joins_dec (λ _. Unit {0}) (λ _. inl tt) links u v)
@@ -19,7 +19,7 @@ list_joins_dec links u v =
     at : Joins (Passing links (λ _. Unit {0})) u v ↔ Joins (Contains links) u v
     at = joins_alike (Passing links (λ _. Unit {0})) (Contains links) (λ l. (λ is_in. is_in.0, λ is_in. (is_in, tt))) u v
 
--- the least number with a decided property, if one below a bound has it
+-- the least number with a decidable property, if a number below the bound has it
 pub least_below : (P : ℕ → Type 0) → ((u : ℕ) → Decided (P u)) → (k : ℕ) → ((u : ℕ) × P u × ((w : ℕ) → P w → u ≤ w)) ⊎ ((w : ℕ) → w < k → ¬ (P w))
 least_below P test zero = inr (λ w lt. absurd (omega arith))
 least_below P test (suc k) = elim (least_below P test k) [
@@ -30,7 +30,7 @@ least_below P test (suc k) = elim (least_below P test k) [
   ]
 ]
 
--- the least vertex that is joined to v: one at most v is, v itself
+-- the least vertex that is joined to v: v itself is joined to v, so one exists
 pub least_joined : (S : LinkSet) → ((u v : ℕ) → Decided (Joins S u v)) → (v : ℕ) → (u : ℕ) × IsLeastJoined S v u
 least_joined S test v = elim (least_below (Joins S v) (test v) (suc v)) [
   | inl found ↦ (found.0, record { joined = found.1; least = found.2 })
@@ -58,7 +58,7 @@ labelling_exists n S test = (
   },
 )
 
--- equal at each vertex, and as long, two lists of labels are one
+-- two lists of labels with the same length and the same label of each vertex are equal
 pub same_labels : (n : ℕ) (a b : List ℕ) → length a ≡ n → length b ≡ n → ((v : ℕ) → IsVertex n v → label_of a v ≡ label_of b v) → a ≡ b
 same_labels n a b a_long b_long each = same_number_lists a b (a_long ∙ sym b_long) (λ k lt.
     let back : k + 1 - 1 ≡ k = omega arith in
@@ -72,7 +72,7 @@ labelling_unique n S a b is_a is_b = same_labels n a b is_a.each_vertex is_b.eac
     let ge : label_of b v ≤ label_of a v = at_b.least (label_of a v) at_a.joined in
     omega arith)
 
--- a labelling by a set is one by each set with the same links
+-- a labelling by a set is a labelling by each set with the same links
 pub labelling_alike : (n : ℕ) (S R : LinkSet) (labels : List ℕ) → SameLinks S R → IsLabelling n S labels → IsLabelling n R labels
 labelling_alike n S R labels same is = record {
   each_vertex = is.each_vertex;
@@ -82,8 +82,8 @@ labelling_alike n S R labels same is = record {
   };
 }
 
--- Two vertices have one label exactly when the set joins them: each is joined to its label, and to the same
--- vertices as the other where they are joined.
+-- Two vertices have the same label exactly if the set joins them. Each is joined to its label, and joined vertices are
+-- joined to the same vertices.
 pub one_label : (n : ℕ) (S : LinkSet) (labels : List ℕ) → IsLabelling n S labels → (u v : ℕ) → IsVertex n u → IsVertex n v → (label_of labels u ≡ label_of labels v) ↔ Joins S u v
 one_label n S labels is u v u_vertex v_vertex = (to, back)
   where
@@ -102,18 +102,18 @@ one_label n S labels is u v u_vertex v_vertex = (to, back)
         let ge : label_of labels v ≤ label_of labels u = at_v.least (label_of labels u) (joins_trans S v u (label_of labels u) (joins_symm S u v joined) at_u.joined) in
         omega arith
 
--- the ends of a link are vertices
+-- the endpoints of a link are vertices
 pub low_vertex : (n : ℕ) (l : Link) → l.high ≤ n → IsVertex n l.low
 low_vertex n l le = (l.from_one, omega (arith, l.ascending, le))
 
 pub high_vertex : (n : ℕ) (l : Link) → l.high ≤ n → IsVertex n l.high
 high_vertex n l le = (omega (arith, l.from_one, l.ascending), le)
 
--- the ends of a link have one label exactly when the set joins them
+-- the endpoints of a link have the same label exactly if the set joins them
 pub ends_label : (n : ℕ) (S : LinkSet) (labels : List ℕ) → IsLabelling n S labels → (l : Link) → l.high ≤ n → (label_of labels l.low ≡ label_of labels l.high) ↔ Joins S l.low l.high
 ends_label n S labels is l le = one_label n S labels is l.low l.high (low_vertex n l le) (high_vertex n l le)
 
--- what a vertex is joined to is at least 1, as the ends of each link are
+-- the vertices that a vertex is joined to are at least 1, as the endpoints of each link are
 pub joined_from_one : (S : LinkSet) (u v : ℕ) → Joins S u v → 1 ≤ u → 1 ≤ v
 joined_from_one S u v joined = (joins_least S (λ x y. (1 ≤ x) ↔ (1 ≤ y)) (λ x. (λ p. p, λ p. p)) (λ x y e. (e.1, e.0)) (λ x y z e f. (λ p. f.0 (e.0 p), λ p. e.1 (f.1 p)))
     (λ l is_in. (λ _. omega (arith, l.from_one, l.ascending), λ _. l.from_one)) u v joined).0

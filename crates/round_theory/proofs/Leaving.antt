@@ -22,7 +22,7 @@ pub record LeavesIn (labels : List ℕ) (S : LinkSet) (c : ℕ) : Type 0 where
   pub member : S link
   pub leaves : Leaves labels link c
 
--- A walk from a vertex with label c to one without takes a link that leaves c: the first that ends outside.
+-- A walk from a vertex with label c to one with another label takes a link that leaves c: the first that ends outside.
 pub crossing : (labels : List ℕ) (S : LinkSet) (c u v : ℕ) → Joins S u v → label_of labels u ≡ c → label_of labels v ≢ c → LeavesIn labels S c
 crossing labels S c u v (walk, all, leads) inside outside = along u walk all leads inside
   where
@@ -37,13 +37,13 @@ crossing labels S c u v (walk, all, leads) inside outside = along u walk all lea
       | inr out ↦ record { link = l; member = is_in; leaves = inr (out, ap (label_of labels) (sym at) ∙ inside) }
     ]
 
--- where the ends of a link that leaves c are joined, a link that they are joined by leaves c too
+-- if links join the endpoints of a link that leaves c, one of them leaves c too
 pub crossing_ends : (labels : List ℕ) (S : LinkSet) (c : ℕ) (l : Link) → Leaves labels l c → Joins S l.low l.high → LeavesIn labels S c
 crossing_ends labels S c l (inl (inside, outside)) joined = crossing labels S c l.low l.high joined inside outside
 crossing_ends labels S c l (inr (outside, inside)) joined = crossing labels S c l.high l.low (joins_symm S l.low l.high joined) inside outside
 
--- The cut property. Were the ends of the least leaving link joined by smaller links of the list, one of those
--- would leave the component too.
+-- The cut property. If smaller links of the list joined the endpoints of the least leaving link, one of them would
+-- leave the component too.
 pub least_leaving_in_forest : (links : List Link) (labels : List ℕ) (c : ℕ) (l : Link) → IsLeastLeaving labels (Contains links) c l → IsForestLink links l
 least_leaving_in_forest links labels c l is = (
   is.member,
@@ -52,15 +52,15 @@ least_leaving_in_forest links labels c l is = (
       is.least out.link out.member.0 out.leaves out.member.1,
 )
 
--- a link that leaves a label has ends of different labels
+-- the endpoints of a link that leaves a label have different labels
 pub leaves_apart : (labels : List ℕ) (l : Link) (c : ℕ) → Leaves labels l c → label_of labels l.low ≢ label_of labels l.high
 leaves_apart a1 a2 a3 a4 a5 = search arith
 
--- it leaves the label of one of its ends
+-- a link that leaves a label leaves the label of one of its endpoints
 pub leaves_end : (labels : List ℕ) (l : Link) (c : ℕ) → Leaves labels l c → (c ≡ label_of labels l.low) ⊎ (c ≡ label_of labels l.high)
 leaves_end a1 a2 a3 a4 = search arith
 
--- and a link with ends of different labels leaves both
+-- a link whose endpoints have different labels leaves both labels
 pub leaves_low : (labels : List ℕ) (l : Link) → label_of labels l.low ≢ label_of labels l.high → Leaves labels l (label_of labels l.low)
 leaves_low labels l apart = inl (refl, λ same. apart (sym same))
 
@@ -70,24 +70,24 @@ leaves_high labels l apart = inr (apart, refl)
 pub leaves_dec : (labels : List ℕ) (l : Link) (c : ℕ) → Decided (Leaves labels l c)
 leaves_dec labels l c = search (arith, cases_eq, leaves_apart, leaves_end)
 
--- of two links neither of which is below the other, one is the other
+-- if neither of two links is below the other, they are equal
 pub same_unless_below : (l m : Link) → ¬ (IsBelow l m) → ¬ (IsBelow m l) → l ≡ m
 same_unless_below l m not_below not_above = search (arith, trichotomy)
 
 pub least_leaving_unique : (labels : List ℕ) (S : LinkSet) (c : ℕ) (l m : Link) → IsLeastLeaving labels S c l → IsLeastLeaving labels S c m → l ≡ m
 least_leaving_unique labels S c l m at_l at_m = same_unless_below l m (at_m.least l at_l.member at_l.leaves) (at_l.least m at_m.member at_m.leaves)
 
--- what is not below l isn't below a link below l
+-- a link that isn't below k isn't below any link below k
 pub not_below_lower : (l k m : Link) → IsBelow l k → ¬ (IsBelow m k) → ¬ (IsBelow m l)
 not_below_lower l k m lower not_below below = not_below (below_trans m l k below lower)
 
--- Of the links of a list either none leaves c, or there is a least that does: one more link in front is the
--- least if it leaves c and is below the least of the others.
+-- Either no link of a list leaves c, or there is a least link that does. A link added in front is the least if it
+-- leaves c and is below the least of the others.
 pub least_leaving : (labels : List ℕ) (links : List Link) (c : ℕ) → ((l : Link) × IsLeastLeaving labels (Contains links) c l) ⊎ ((m : Link) → Contains links m → ¬ (Leaves labels m c))
 least_leaving labels [] c = inr (λ m m_in leaves. contains_none m m_in)
 least_leaving labels (l ∷ links) c = more (leaves_dec labels l c) (least_leaving labels links c)
   where
-    -- the least stays where the new link isn't below it
+    -- the least stays the same if the new link isn't below it
     stays : (k : Link) → IsLeastLeaving labels (Contains links) c k → (Leaves labels l c → ¬ (IsBelow l k)) → IsLeastLeaving labels (Contains (l ∷ links)) c k
     stays k is not_below = record {
       member = contains_tail l k links is.member;
@@ -98,7 +98,7 @@ least_leaving labels (l ∷ links) c = more (leaves_dec labels l c) (least_leavi
       ];
     }
 
-    -- the new link is the least where it isn't above one of the others that leaves c
+    -- the new link is the least if no other link that leaves c is below it
     first : Leaves labels l c → ((m : Link) → Contains links m → Leaves labels m c → ¬ (IsBelow m l)) → IsLeastLeaving labels (Contains (l ∷ links)) c l
     first leaves least = record {
       member = contains_head l links;
@@ -131,8 +131,8 @@ least_leaving_exists links labels c m m_in leaves = elim (least_leaving labels l
 pub leaves_both_ends : (labels : List ℕ) (l : Link) (c : ℕ) → Leaves labels l c ↔ (label_of labels l.low ≢ label_of labels l.high) × ((c ≡ label_of labels l.low) ⊎ (c ≡ label_of labels l.high))
 leaves_both_ends labels l c = search (arith, leaves_apart, leaves_end, leaves_low, leaves_high)
 
--- A set spans a list exactly where no link of the list leaves a label: a link whose ends are joined has one label at
--- both, and where each link is so, a walk over the list becomes one over the set.
+-- A set spans a list exactly if no link of the list leaves a label. If the endpoints of a link are joined, they have
+-- the same label. If this is so for each link, a walk over the list becomes a walk over the set.
 pub spans_where_none_leaves : (n : ℕ) (links : List Link) (S : LinkSet) (labels : List ℕ) → EndsUpTo n links
     → IsLabelling n S labels → Spans S links ↔ ((l : Link) (c : ℕ) → Contains links l → ¬ (Leaves labels l c))
 spans_where_none_leaves n links S labels ends is = (to, back)

@@ -43,7 +43,7 @@ offers_below links labels (suc bound) = more (offers_below links labels bound)
       | inr none ↦ record { offers = had.offers; are = rw (add-one) at (offers_skip links labels bound had.offers had.are none) }
     ]
 
--- a number above the labels of all ends
+-- a number above the labels of all endpoints
 record EndsBound (labels : List ℕ) (links : List Link) : Type 0 where
   bound : ℕ
   above : (l : Link) → Contains links l → (label_of labels l.low < bound) × (label_of labels l.high < bound)
@@ -63,7 +63,8 @@ ends_bound labels (x ∷ links) = more (ends_bound labels links)
       ];
     }
 
--- Label by label, up to a number above all labels of ends: a link leaves the labels of its ends alone.
+-- Label by label, up to a number above the labels of all endpoints, since a link leaves only the labels of its
+-- endpoints.
 pub light_offers_exist : (links : List Link) (labels : List ℕ) → (offers : List Offer) × AreLightOffers links labels offers
 light_offers_exist links labels =
     (had.offers, record { ascending = had.are.ascending; exact = λ c i. (λ c_in. ((had.are.exact c i).0 c_in).1, λ offer. (had.are.exact c i).1 (below c i offer, offer)) })

@@ -1,11 +1,11 @@
--- The ends of links.
+-- The endpoints of links.
 use Rattle.std.proofs.Common.{ℕ, ◌≤◌, List, Contains}
 use Rattle.links.specs.declared.links.Link.{Link}
 use Rattle.std.proofs.lemmas.List.Elements.{All-contains}
 use Rattle.links.specs.Link.{EndsUpTo}
 use Rattle.round_theory.specs.LinkSet.{LinkSet}
 
--- every end of every link of a set is one of the vertices 1 to n
+-- all endpoints of the links of a set are among the vertices 1 to n
 abbrev pub HasEndsUpTo : ℕ → LinkSet → Type 0
 HasEndsUpTo n S = (l : Link) → S l → l.high ≤ n
 

@@ -14,21 +14,19 @@ use Rattle.round_theory.proofs.Lists.{set_ends}
 use Rattle.round_theory.proofs.Labels.{low_vertex, high_vertex}
 use Rattle.round_theory.proofs.Leaving.{leaves_end, least_leaving_unique}
 
--- a link stands first at one place
 first_place_unique : (links : List Link) (l : Link) (i j : ℕ) → IsFirstPlace links l i → IsFirstPlace links l j → i ≡ j
 first_place_unique links l i j at_i at_j = search (arith, cases_lt)
 
--- a label has one light offer at most
 light_offer_unique : (links : List Link) (labels : List ℕ) (c i j : ℕ) → IsLightOffer links labels c i → IsLightOffer links labels c j → i ≡ j
 light_offer_unique links labels c i j (l, least, at) (m, least', at') =
     let same = least_leaving_unique labels (Contains links) c l m least least' in
     first_place_unique links m i j (subst (λ k. IsFirstPlace links k i) same at) at'
 
--- where all labels are vertices, so is each that a link leaves
+-- if all labels are vertices, so is each label that a link leaves
 pub left_label_is_vertex : (labels : List ℕ) (l : Link) (c : ℕ) → AreLabels labels → l.high ≤ length labels → Leaves labels l c → IsVertex (length labels) c
 left_label_is_vertex labels l c are ends leaves = search (arith, leaves_end, low_vertex, high_vertex)
 
--- the offers for the labels below one
+-- the offers for the labels below a bound
 pub record AreOffersBelow (links : List Link) (labels : List ℕ) (bound : ℕ) (offers : List Offer) : Type 0 where
   pub ascending : AreOffers offers
   pub exact : (c i : ℕ) → Contains offers (c, i) ↔ ((c < bound) × IsLightOffer links labels c i)
@@ -63,7 +61,7 @@ offers_skip links labels bound offers are none = record {
   );
 }
 
--- or a light offer for it is added
+-- or a light offer for the next label is added
 pub offers_push : (links : List Link) (labels : List ℕ) (bound place : ℕ) (offers : List Offer) → AreOffersBelow links labels bound offers
     → IsLightOffer links labels bound place → AreOffersBelow links labels (bound + 1) (offers ++ (bound, place) ∷ [])
 offers_push links labels bound place offers are light = record {

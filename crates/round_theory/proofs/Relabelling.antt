@@ -1,4 +1,5 @@
--- A labelling made link by link: at first each vertex labels itself, and a link makes the labels of its ends one.
+-- A labelling made link by link. At first each vertex labels itself, and each link replaces the greater label of its
+-- endpoints by the lesser.
 use Rattle.std.proofs.Common.{◌≡◌, ◌≢◌, ℕ, ◌+◌, ◌-◌, ◌<◌, ◌≤◌, ◌⊎◌, ◌==◌, ◌↔◌, min, max, cond, List, []}
 use Rattle.std.proofs.Common.{◌∷◌, ◌++◌, length, get_or, take, Contains, refl, sym, ap, ◌∙◌, subst, inl, inr, arith, eq-eqb, ne_eqb}
 use Rattle.std.specs.Prelude.{if◌then◌else◌}
@@ -26,7 +27,7 @@ labelling_none n labels long own = record {
       };
 }
 
--- labels of their own vertices are the labelling by no links
+-- labels by which each vertex labels itself are the labelling by no links
 pub apart_by_no_links : (n : ℕ) (labels : List ℕ) → AreApart n labels ↔ IsLabelling n (Contains []) labels
 apart_by_no_links n labels = (
   λ apart. labelling_none n labels apart.vertices
@@ -37,7 +38,7 @@ apart_by_no_links n labels = (
   },
 )
 
--- what had the one label has the other, and all else its own
+-- vertices with label `from` get label `to`, and all others keep theirs
 pub record IsMoved (n from to : ℕ) (old new : List ℕ) : Type 0 where
   pub each_vertex : length new ≡ n
   pub moved : (v : ℕ) → IsVertex n v → label_of old v ≡ from → label_of new v ≡ to
@@ -47,8 +48,8 @@ pub moved_by_test : (n from to : ℕ) (old new : List ℕ) → length old ≡ n 
     → ((k : ℕ) → k < length old → get_or new k 0 ≡ (if get_or old k 0 == from then to else get_or old k 0)) → IsMoved n from to old new
 moved_by_test n from to old new old_long new_long each = search (arith, cond, eq-eqb, ne_eqb)
 
--- One more link: the greater of its ends' labels gives way to the lesser. Each vertex stays joined to its label; and
--- where the link joins it to further vertices, those have one of the two labels at least.
+-- One link is added: the greater label of its endpoints is replaced by the lesser. Each vertex stays joined to its
+-- label. All vertices that the link newly joins to it are at least one of the two labels, and so at least the lesser.
 module _ (n : ℕ) (S : LinkSet) (old new : List ℕ) (l : Link) (is : IsLabelling n S old) (l_ends : l.high ≤ n)
     (moved : IsMoved n (max (label_of old l.low) (label_of old l.high)) (min (label_of old l.low) (label_of old l.high)) old new) where
   abbrev a : ℕ
@@ -79,7 +80,7 @@ module _ (n : ℕ) (S : LinkSet) (old new : List ℕ) (l : Link) (is : IsLabelli
   not_greater : (v : ℕ) → IsVertex n v → label_of new v ≤ label_of old v
   not_greater v vertex = search (arith, cases_eq, max)
 
-  -- what had the label of one of the ends has the lesser of the two
+  -- a vertex with the label of either endpoint gets the lesser of the two
   lesser_of : (v : ℕ) → IsVertex n v → (label_of old v ≡ a) ⊎ (label_of old v ≡ b) → label_of new v ≡ min a b
   lesser_of v vertex either = search (arith, cases_eq, max)
 
@@ -103,7 +104,7 @@ module _ (n : ℕ) (S : LinkSet) (old new : List ℕ) (l : Link) (is : IsLabelli
       not_after v vertex w (inr (inr (to, from))) =
           omega (arith, lesser_of v vertex (inr ((one_label n S old is v l.high vertex (high_vertex n l l_ends)).1 to)), at_low.least w from)
 
--- the links of a list's prefix with one more
+-- the links of a prefix of the list, and the next link
 prefix_with_link : (links : List Link) (i : ℕ) (x : Link) → i < length links → x ≡ get_or links i x → SameLinks (WithLink (Contains (take i links)) x) (Contains (take (i + 1) links))
 prefix_with_link links i x within read l = (to, back)
   where
@@ -117,7 +118,7 @@ prefix_with_link links i x within read l = (to, back)
     back : Contains (take (i + 1) links) l → WithLink (Contains (take i links)) x l
     back l_in = elim (Contains-push_cases (take i links) x l (subst (λ xs. Contains xs l) (sym prefix) l_in)) [ inl in_prefix ↦ inl in_prefix | inr same ↦ inr (sym same) ]
 
--- the labels after one more link of a list
+-- the labels after the next link of a list
 pub labelling_more : (n : ℕ) (links : List Link) (i : ℕ) (x : Link) (old new : List ℕ) → i < length links → x ≡ get_or links i x → x.high ≤ n → IsLabelling n (Contains (take i links)) old
     → IsMoved n (max (label_of old x.low) (label_of old x.high)) (min (label_of old x.low) (label_of old x.high)) old new → IsLabelling n (Contains (take (i + 1) links)) new
 labelling_more n links i x old new within read ends is moved =

@@ -1,4 +1,4 @@
--- The rounds, one after the other, until one has nothing to add.
+-- The rounds, one after the other, until one adds nothing.
 use Rattle.std.proofs.Common.{sym, ◌≡◌, subst₂, ◌-◌, get_or, refl, ℕ, suc, ◌+◌, ◌<◌, List, [], ◌∷◌, ◌++◌, length, Contains, subst, inl, inr, arith, add-one}
 use Rattle.std.proofs.lemmas.Bool.{cases_lt}
 use Rattle.std.specs.Prelude.{AllPairs}
@@ -14,22 +14,20 @@ use Rattle.round_theory.proofs.Labels.{labelling_alike}
 use Rattle.round_theory.proofs.Leaving.{least_leaving_exists}
 use Rattle.round_theory.proofs.Rounds.{round_by_round, adds_nothing}
 
--- nothing is taken before the first round
 pub nothing_taken : (n : ℕ) (links : List Link) → SameLinks (Contains []) (TakenAfter n links 0)
 nothing_taken n links l = (contains_none l, λ none. absurd none)
 
--- one round more
 pub taken_more : (n : ℕ) (links taken added : List Link) (i : ℕ) → SameLinks (Contains taken) (TakenAfter n links i)
     → AreRoundPicks n links taken added → SameLinks (Contains (taken ++ added)) (TakenAfter n links (i + 1))
 taken_more n links taken added i before picks = rw (add-one) (round_by_round n links taken added i before picks)
 
--- what is taken after so many rounds, each of which added something, and what the next adds
+-- what is taken after a number of rounds, each of which added something, and what the next round adds
 pub record AreRoundsSoFar (n : ℕ) (links taken added : List Link) (rounds : ℕ) : Type 0 where
   pub same : SameLinks (Contains taken) (TakenAfter n links rounds)
   pub next : AreRoundPicks n links taken added
   pub earlier : (k : ℕ) → k < rounds → ¬ (SameLinks (TakenAfter n links (suc k)) (TakenAfter n links k))
 
--- where there is something to add, the round adds it
+-- if the next round has links to add, it adds them
 pub round_adds : (n : ℕ) (links taken added : List Link) (rounds : ℕ) → EndsUpTo n links → AreRoundsSoFar n links taken added rounds
     → 0 < length added → ¬ (SameLinks (TakenAfter n links (suc rounds)) (TakenAfter n links rounds))
 round_adds n links taken [] rounds ends are some same = omega arith
@@ -38,7 +36,7 @@ round_adds n links taken (x ∷ added) rounds ends are some same =
     let (c, least) = (picks x).0 (contains_head x added) in
     (adds_nothing n links ends rounds labels (labelling_alike n (Contains taken) (TakenAfter n links rounds) labels are.same is)).0 same x c least.member least.leaves
 
--- where the next round has nothing to add, the number is found
+-- if the next round has none, the number of merging rounds is found
 pub rounds_end : (n : ℕ) (links taken added : List Link) (rounds : ℕ) → EndsUpTo n links → AreRoundsSoFar n links taken added rounds → length added ≡ 0 → IsMergingRounds n links rounds
 rounds_end n links taken added rounds ends are none = record { still = still; first = are.earlier }
   where
@@ -53,7 +51,7 @@ rounds_end n links taken added rounds ends are none = record { still = still; fi
             let best = least_leaving_exists links labels c l l_in leaves in
             contains_none best.0 (subst (λ xs. Contains xs best.0) (nil_from_length added none) ((picks best.0).1 (c, best.1)))
 
--- two lists whose elements are each once, and none in both
+-- if R holds between the elements of each of two lists and across them, it holds between all elements of both
 pub all_pairs_append : {X : Type 0} (R : X → X → Type 0) (xs ys : List X) → AllPairs R xs → AllPairs R ys → ((x y : X) → Contains xs x → Contains ys y → R x y) → AllPairs R (xs ++ ys)
 all_pairs_append R xs ys xs_pairs ys_pairs across i j d lt within = elim (cases_lt j (length xs)) [
   | inl j_left ↦ subst₂ R (sym (get_or_append_left xs ys d i (omega arith))) (sym (get_or_append_left xs ys d j j_left)) (xs_pairs i j d lt j_left)

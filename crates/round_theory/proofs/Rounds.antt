@@ -1,4 +1,4 @@
--- Borůvka's rounds: part of the forest, ending with all of it, at most the logarithm of n of them.
+-- Borůvka's rounds take a part of the forest, and end with all of it after at most log2 n rounds.
 use Rattle.std.proofs.Common.{◌≡◌, ◌≢◌, ℕ, zero, suc, ◌+◌, ◌-◌, ◌^◌, ◌<◌, ◌≤◌, max, ◌⊎◌, ◌↔◌, List, [], ◌∷◌, ◌++◌, length, get_or, Contains, sym, ap, ◌∙◌, subst, inl, inr, arith}
 use Rattle.std.proofs.lemmas.Bool.{cases_eq, cases_lt}
 use Rattle.std.proofs.lemmas.List.Elements.{Contains-append_cases, Contains-append_left, Contains-append_right}
@@ -20,7 +20,7 @@ use Rattle.round_theory.proofs.Leaving.{leaves_apart, leaves_end, leaves_low, le
 use Rattle.links.proofs.ForestSpans.{spanning_part_is_forest}
 use Rattle.round_theory.proofs.Counting.{size_of, size_one, two_sizes, sizes_add}
 
--- a set that is the set of a list's members
+-- a set that has a list of its members
 pub record Listed (S : LinkSet) : Type 0 where
   pub members : List Link
   pub same : SameLinks (Contains members) S
@@ -48,7 +48,7 @@ picks_for labels links c = elim (least_leaving labels links c) [
   | inr none ↦ record { picks = []; within = λ l l_in. absurd (contains_none l l_in); all = λ l is. absurd (none l is.member is.leaves) }
 ]
 
--- the picks for the labels at the ends of some links
+-- the picks for the labels of the endpoints of some links
 record PicksAt (labels : List ℕ) (links some : List Link) : Type 0 where
   picks : List Link
   within : (l : Link) → Contains picks l → IsPick labels (Contains links) l
@@ -77,7 +77,7 @@ picks_at labels links (x ∷ some) = more (picks_for labels links (label_of labe
       ];
     }
 
--- The picks of a list are finitely many: a pick is picked for the label of one of its own ends.
+-- The picks of a list are finitely many: a pick is picked for the label of one of its own endpoints.
 pub picks_listed : (labels : List ℕ) (links : List Link) → Listed (IsPick labels (Contains links))
 picks_listed labels links = record { members = had.picks; same = λ l. (had.within l, λ pick. all l pick.0 pick.1) }
   where
@@ -90,7 +90,7 @@ picks_listed labels links = record { members = had.picks; same = λ l. (had.with
       | inr high ↦ had.high l l is.member (subst (λ x. IsLeastLeaving labels (Contains links) x l) high is)
     ]
 
--- whether a set with a list of its members joins two vertices is decided
+-- whether a set with a list of its members joins two vertices is decidable
 pub listed_joins_dec : (S : LinkSet) → Listed S → (u v : ℕ) → Decided (Joins S u v)
 listed_joins_dec S listed u v =
     let alike = joins_alike (Contains listed.members) S listed.same u v in
@@ -123,7 +123,6 @@ module _ (n : ℕ) (links : List Link) where
               let same : labels ≡ by_labels.0 = labelling_unique n (TakenAfter n links i) labels by_labels.0 is by_labels.1 in
               Contains-append_right before.members picks.members l ((picks.same l).1 (subst (λ x. IsPick x (Contains links) l) same pick))
 
-  -- the labelling by what is taken
   pub round_labelling : (i : ℕ) → (labels : List ℕ) × IsLabelling n (TakenAfter n links i) labels
   round_labelling i = labelling_exists n (TakenAfter n links i) (listed_joins_dec (TakenAfter n links i) (taken_listed i))
 
@@ -138,7 +137,7 @@ module _ (n : ℕ) (links : List Link) where
   rounds_keep i zero l is_in = let same : i ≡ 0 + i = omega arith in subst (λ k. TakenAfter n links k l) same is_in
   rounds_keep i (suc j) l is_in = let same : suc (j + i) ≡ suc j + i = omega arith in subst (λ k. TakenAfter n links k l) same (inl (rounds_keep i j l is_in))
 
-  -- either some link of the list has ends of different labels, or no link of it leaves a label
+  -- either a link of the list has endpoints with different labels, or no link of it leaves a label
   pub leaving_or_none : (labels : List ℕ) (some : List Link)
       → ((l : Link) × Contains some l × (label_of labels l.low ≢ label_of labels l.high)) ⊎ ((l : Link) → Contains some l → label_of labels l.low ≡ label_of labels l.high)
   leaving_or_none labels [] = inr (λ l l_in. absurd (contains_none l l_in))
@@ -151,11 +150,12 @@ module _ (n : ℕ) (links : List Link) where
   ]
 
   module _ (ends : EndsUpTo n links) where
-    -- a link that is taken has its ends in one component
+    -- the endpoints of a taken link are in the same component
     taken_ends : (i : ℕ) (labels : List ℕ) → IsLabelling n (TakenAfter n links i) labels → (l : Link) → TakenAfter n links i l → label_of labels l.low ≡ label_of labels l.high
     taken_ends i labels is l taken = (ends_label n (TakenAfter n links i) labels is l (set_ends n links ends l (rounds_in_forest i l taken).0)).1 (joins_link (TakenAfter n links i) l taken)
 
-    -- A round adds nothing exactly where no link leaves a label: where one does, the least that does is added, and it wasn't taken.
+    -- A round adds nothing exactly if no link leaves a label. If one does, the least such link is added, and it wasn't
+    -- taken.
     pub adds_nothing : (i : ℕ) (labels : List ℕ) → IsLabelling n (TakenAfter n links i) labels
         → SameLinks (TakenAfter n links (suc i)) (TakenAfter n links i) ↔ ((l : Link) (c : ℕ) → Contains links l → ¬ (Leaves labels l c))
     adds_nothing i labels is = (to, λ none l. (back none l, λ old. inl old))
@@ -171,16 +171,16 @@ module _ (n : ℕ) (links : List Link) where
             let same : labels' ≡ labels = labelling_unique n (TakenAfter n links i) labels' labels is' is in
             absurd (none l c least.member (subst (λ x. Leaves x l c) same least.leaves))
 
-    -- every component that some link leaves after i rounds has at least 2 ^ i vertices
+    -- every component that a link leaves after i rounds has at least 2 ^ i vertices
     abbrev pub HasLargeComponents : ℕ → Type 0
     HasLargeComponents i = (labels : List ℕ) → IsLabelling n (TakenAfter n links i) labels → (l : Link) (c : ℕ) → Contains links l → Leaves labels l c → 2 ^ i ≤ size_of c labels
 
-    -- at first each has one
+    -- at first each component has one vertex
     large_at_first : HasLargeComponents 0
     large_at_first labels is l c l_in leaves = search (arith, leaves_end, low_vertex, set_ends, high_vertex, size_of, size_one)
 
-    -- In a round a component that a link leaves is joined by its pick to another, which the pick leaves too; so a
-    -- component that a link leaves after the round holds two of those before.
+    -- In a round, each component that a link leaves is merged with another by its pick, which leaves that one too. So a
+    -- component that a link leaves after the round contains two earlier such components.
     large_after_round : (i : ℕ) → HasLargeComponents i → HasLargeComponents (suc i)
     large_after_round i before new is_new l c l_in leaves = elim (leaves_end new l c leaves) [
       | inl low ↦ at_end l.low (low_vertex n l l_ends) (sym low) (leaves_low old l apart)
@@ -196,11 +196,11 @@ module _ (n : ℕ) (links : List Link) where
         is_old : IsLabelling n (TakenAfter n links i) old
         is_old = (round_labelling i).1
 
-        -- vertices that the round's set joins have one new label
+        -- vertices that the links taken after the round join have the same new label
         one_new : (u v : ℕ) → IsVertex n u → IsVertex n v → Joins (TakenAfter n links (suc i)) u v → label_of new u ≡ label_of new v
         one_new u v u_vertex v_vertex = (one_label n (TakenAfter n links (suc i)) new is_new u v u_vertex v_vertex).1
 
-        -- what was joined stays joined
+        -- vertices that were joined stay joined
         still : (u v : ℕ) → IsVertex n u → IsVertex n v → label_of old u ≡ label_of old v → label_of new u ≡ label_of new v
         still u v u_vertex v_vertex same =
             one_new u v u_vertex v_vertex
@@ -209,7 +209,7 @@ module _ (n : ℕ) (links : List Link) where
         apart : label_of old l.low ≢ label_of old l.high
         apart same = leaves_apart new l c leaves (still l.low l.high (low_vertex n l l_ends) (high_vertex n l l_ends) same)
 
-        -- u and x are in one old component, y in another, and the round joins x and y
+        -- u and x are in one old component, y is in another, and the round joins x and y
         two_joined : (u x y : ℕ) → IsVertex n u → IsVertex n x → IsVertex n y → label_of new u ≡ c → label_of old x ≡ label_of old u → label_of old y ≢ label_of old u
             → label_of new x ≡ label_of new y → 2 ^ i ≤ size_of (label_of old u) old → 2 ^ i ≤ size_of (label_of old y) old → 2 ^ suc i ≤ size_of c new
         two_joined u x y u_vertex x_vertex y_vertex has inside outside joined u_size y_size =
@@ -271,7 +271,6 @@ module _ (n : ℕ) (links : List Link) where
           pow-suc 2 i,
         )
 
-    -- whether a round adds nothing is decided
     pub still_dec : (i : ℕ) → Decided (SameLinks (TakenAfter n links (suc i)) (TakenAfter n links i))
     still_dec i =
         let (labels, is) = round_labelling i in
@@ -280,7 +279,7 @@ module _ (n : ℕ) (links : List Link) where
           | inr none ↦ inl ((adds_nothing i labels is).1 (λ l c l_in leaves. leaves_apart labels l c leaves (none l l_in)))
         ]
 
-    -- two such numbers are each the least, so they are one
+    -- each of two such numbers is the least, so they are equal
     rounds_unique : (r q : ℕ) → IsMergingRounds n links r → IsMergingRounds n links q → q ≡ r
     rounds_unique r q is_r is_q = elim (cases_lt q r) [
       | inl lt ↦ absurd (is_r.first q lt is_q.still)
@@ -300,8 +299,8 @@ module _ (n : ℕ) (links : List Link) where
             let is : IsMergingRounds n links r = record { still = still; first = λ k lt same. let le : r ≤ k = least k same in absurd (omega arith) } in
             (r, is, λ q is_q. rounds_unique r q is is_q)
 
-    -- From that round on: no link leaves a component, so what is taken joins the ends of each; it is part of the
-    -- forest, and spans the list.
+    -- From that round on, no link leaves a component. So what is taken joins the endpoints of each link. It is a part
+    -- of the forest that spans the list, and so the whole forest.
     pub forest_from_then_on : (r : ℕ) → IsMergingRounds n links r → (i : ℕ) → r ≤ i → SameLinks (TakenAfter n links i) (IsForestLink links)
     forest_from_then_on r is i le l = (rounds_in_forest i l, λ is_forest. later ((spanning_part_is_forest links (TakenAfter n links r) (rounds_in_forest r) spans l).1 is_forest))
       where
@@ -324,7 +323,7 @@ module _ (n : ℕ) (links : List Link) where
     pub round_in_time : (i : ℕ) → ¬ (SameLinks (TakenAfter n links (suc i)) (TakenAfter n links i)) → 2 ^ suc i ≤ n
     round_in_time i adds = elim (still_or_large i) [ inl still ↦ absurd (adds still) | inr large ↦ large ]
 
--- A step of a solver is a round: its labelling is the round's, and so are its picks.
+-- A step of a solver is a round if its labelling and its picks are the round's.
 pub round_by_round : (n : ℕ) (links taken added : List Link) (i : ℕ) → SameLinks (Contains taken) (TakenAfter n links i)
     → AreRoundPicks n links taken added → SameLinks (Contains (taken ++ added)) (TakenAfter n links (suc i))
 round_by_round n links taken added i before (labels, is, picks) l = (to, back)
@@ -344,11 +343,11 @@ round_by_round n links taken added i before (labels, is, picks) l = (to, back)
         let same : labels' ≡ labels = labelling_unique n (TakenAfter n links i) labels' labels is' is_round in
         Contains-append_right taken added l ((picks l).1 (subst (λ x. IsPick x (Contains links) l) same pick))
 
--- the least link of a set that leaves a label is that of each set with the same links
+-- the least link of a set that leaves a label is also the least in each set with the same links
 pub least_leaving_alike : (labels : List ℕ) (S R : LinkSet) (c : ℕ) (l : Link) → SameLinks S R → IsLeastLeaving labels S c l → IsLeastLeaving labels R c l
 least_leaving_alike labels S R c l same is = record { member = (same l).0 is.member; leaves = is.leaves; least = λ m m_in. is.least m ((same m).1 m_in) }
 
--- Lists with the same links have the same rounds: by the same labels they have the same picks.
+-- Lists with the same links have the same rounds: under the same labels they have the same picks.
 rounds_alike_to : (n : ℕ) (links other : List Link) → SameLinks (Contains links) (Contains other) → (i : ℕ)
     → SameLinks (TakenAfter n links i) (TakenAfter n other i) → IsPartOf (TakenAfter n links (suc i)) (TakenAfter n other (suc i))
 rounds_alike_to n links other same i before l (inl old) = inl ((before l).0 old)

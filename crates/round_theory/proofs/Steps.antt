@@ -15,7 +15,7 @@ use Rattle.links.proofs.Cycles.{no_cycle_part, no_cycle_either}
 use Rattle.round_theory.proofs.Labels.{same_labels, one_label, low_vertex, high_vertex, ends_label, labelling_alike}
 use Rattle.round_theory.proofs.Leaving.{crossing_ends, leaves_apart, leaves_end}
 
--- the links of two lists, one after the other
+-- the links of two concatenated lists
 pub append_either : (xs ys : List Link) → SameLinks (Contains (xs ++ ys)) (Either (Contains xs) (Contains ys))
 append_either xs ys l = (λ is_in. Contains-append_cases xs ys l is_in, back)
   where
@@ -26,20 +26,20 @@ append_either xs ys l = (λ is_in. Contains-append_cases xs ys l is_in, back)
 pub ends_either : (n : ℕ) (S P : LinkSet) → HasEndsUpTo n S → HasEndsUpTo n P → HasEndsUpTo n (Either S P)
 ends_either a1 a2 a3 a4 a5 a6 a7 = search arith
 
--- what a vertex is joined to is a vertex
+-- a vertex is joined only to vertices
 pub joined_vertex : (n : ℕ) (S : LinkSet) → HasEndsUpTo n S → (u v : ℕ) → Joins S u v → IsVertex n u → IsVertex n v
 joined_vertex n S ends u v joined =
     (joins_least S (λ x y. IsVertex n x ↔ IsVertex n y) (λ x. (λ p. p, λ p. p)) (λ x y e. (e.1, e.0)) (λ x y z e f. (λ p. f.0 (e.0 p), λ p. e.1 (f.1 p)))
     (λ l is_in. (λ _. high_vertex n l (ends l is_in), λ _. low_vertex n l (ends l is_in))) u v joined).0
 
--- a walk over links between components may begin at any vertex of the first
+-- a walk over links between components can begin at any vertex of the first component
 over_from : (labels : List ℕ) (u u' : ℕ) (walk : List Link) (v : ℕ) → label_of labels u ≡ label_of labels u' → IsWalkOver labels u' walk v → IsWalkOver labels u walk v
 over_from labels u u' [] v same is = same ∙ is
 over_from labels u u' (l ∷ walk) v same (inl (at, leads)) = inl (same ∙ at, leads)
 over_from labels u u' (l ∷ walk) v same (inr (at, leads)) = inr (same ∙ at, leads)
 
 module _ (n : ℕ) (S P : LinkSet) (labels : List ℕ) (S_ends : HasEndsUpTo n S) (P_ends : HasEndsUpTo n P) (is : IsLabelling n S labels) where
-  -- along a walk over both sets: a link of S stays in its component, one of P is a step
+  -- along a walk over both sets: a link of S stays in its component, and a link of P is a step of the walk over P
   over_from_joined : (u v : ℕ) → Joins (Either S P) u v → JoinsOver labels P u v
   over_from_joined u v (walk, all, leads) = along u walk all leads
     where
@@ -57,7 +57,7 @@ module _ (n : ℕ) (S P : LinkSet) (labels : List ℕ) (S_ends : HasEndsUpTo n S
       along u (l ∷ walk) (inr in_P, all) (inl (at, leads)) = let rest = along l.high walk all leads in (l ∷ rest.0, (in_P, rest.1), inl (ap (label_of labels) at, rest.2))
       along u (l ∷ walk) (inr in_P, all) (inr (at, leads)) = let rest = along l.low walk all leads in (l ∷ rest.0, (in_P, rest.1), inr (ap (label_of labels) at, rest.2))
 
-  -- back: where a step begins in the component in which the one before it ended, S joins the two vertices
+  -- in the other direction: if a step begins in the component where the one before it ended, S joins the two vertices
   joined_from_over : (u v : ℕ) → IsVertex n u → IsVertex n v → JoinsOver labels P u v → Joins (Either S P) u v
   joined_from_over u v u_vertex v_vertex (walk, all, leads) = along u walk u_vertex all leads
     where
@@ -116,7 +116,7 @@ relabelled_by_steps n taken added labels taken_ends added_ends is new = (
       (labelling_from_relabelling n (Contains taken) (Contains added) labels (set_ends n taken taken_ends) (set_ends n added added_ends) is new re),
 )
 
--- what components and links join: a vertex and itself, and what is joined to what is joined
+-- what components and links join is an equivalence relation
 over_refl : (labels : List ℕ) (P : LinkSet) (u : ℕ) → JoinsOver labels P u u
 over_refl labels P u = ([], tt, refl)
 
@@ -151,13 +151,14 @@ relabelling_is_labels n P old new few re = record {
         at.least (label_of new (label_of new v)) again.vertex (over_trans old P v (label_of new v) (label_of new (label_of new v)) at.joined again.joined) in
         record { from_one = at.vertex.0; at_most_itself = at.least v vertex (over_refl old P v); own = omega arith }
 
--- A pick leaves a component of the taken links, so they don't join its ends.
+-- A pick leaves a component of the taken links, so they don't join its endpoints.
 pub pick_apart : (n : ℕ) (S O : LinkSet) (labels : List ℕ) → HasEndsUpTo n S → IsLabelling n S labels → (l : Link) → IsPick labels O l → ¬ (S l)
 pick_apart n S O labels ends is l (c, least) in_S =
     leaves_apart labels l c least.leaves ((ends_label n S labels is l (ends l in_S)).1 (joins_link S l in_S))
 
--- Picks in the order of their keys never find their ends joined: a walk between the ends of a pick leaves the
--- component that picked it by another offered link, and not by a smaller one, as the pick is the least.
+-- If picks are added in the order of their keys, their endpoints are never joined yet. A walk between the endpoints of
+-- a pick leaves the component that picked it by another offered link. That link isn't smaller, because the pick is the
+-- least.
 pub picks_close_no_cycle : (n : ℕ) (S O : LinkSet) (labels : List ℕ) → HasEndsUpTo n S → IsLabelling n S labels → HasNoCycle S → HasNoCycle (Either S (IsPick labels O))
 picks_close_no_cycle n S O labels ends is none = no_cycle_either S (IsPick labels O) none closes
   where
@@ -178,7 +179,6 @@ added_close_no_cycle O n taken added labels ends is none part =
     to : IsPartOf (Contains (taken ++ added)) (Either (Contains taken) (IsPick labels O))
     to l is_in = elim ((append_either taken added l).0 is_in) [ inl in_taken ↦ inl in_taken | inr in_added ↦ inr (part l in_added) ]
 
--- a pick is an offered link, and a new one
 pub pick_is_new : (O : LinkSet) (n : ℕ) (taken : List Link) (labels : List ℕ) → EndsUpTo n taken → IsLabelling n (Contains taken) labels → (l : Link) → IsPick labels O l → O l × ¬ (Contains taken l)
 pick_is_new O n taken labels ends is l pick = (pick.1.member, pick_apart n (Contains taken) O labels (set_ends n taken ends) is l pick)
 

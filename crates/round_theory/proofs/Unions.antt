@@ -1,4 +1,4 @@
--- The least leaving link of two sets together.
+-- The least leaving link of the union of two sets.
 use Rattle.std.proofs.Common.{List, ◌++◌, ℕ, ◌↔◌, sym, subst, inl, inr, arith}
 use Rattle.std.proofs.lemmas.List.Elements.{Contains-append_cases, Contains-append_left, Contains-append_right}
 use Rattle.links.specs.declared.links.Link.{Link}
@@ -8,7 +8,7 @@ use Rattle.round_theory.specs.Offers.{Leaves, IsLeastLeaving, NoneLeaves, IsLess
 use Rattle.round_theory.proofs.Leaving.{least_leaving_unique}
 use Rattle.round_theory.proofs.Cutting.{any_from, not_between}
 
--- what is named by two lists of hearings, one after the other
+-- the links that two concatenated lists of hearings name
 pub named_either : (first second : List Hearing) → SameLinks (IsNamed (first ++ second)) (Either (IsNamed first) (IsNamed second))
 named_either first second l = (to, back)
   where
@@ -22,20 +22,20 @@ named_either first second l = (to, back)
     back (inl (k, h, lt, at, names)) = any_from (λ (h : Hearing). Names h l) (first ++ second) h (Contains-append_left first second h (k, lt, at)) names
     back (inr (k, h, lt, at, names)) = any_from (λ (h : Hearing). Names h l) (first ++ second) h (Contains-append_right first second h (k, lt, at)) names
 
--- a least link of the one set is one of both where none of the other that leaves the label is below it
+-- a set's least link stays the least of both sets, if no link of the other set that leaves the label is below it
 pub least_stays : (S T U : LinkSet) → SameLinks U (Either S T) → (labels : List ℕ) (c : ℕ) (l : Link)
     → IsLeastLeaving labels S c l → ((m : Link) → T m → Leaves labels m c → ¬ (IsBelow m l)) → IsLeastLeaving labels U c l
 least_stays S T U both labels c l is others = search arith
 
--- and a least link of both is one of the set that has it
+-- the least link of both sets is the least link of a set that has it
 pub least_of_part : (S T U : LinkSet) → SameLinks U (Either S T) → (labels : List ℕ) (c : ℕ) (l : Link) → S l → IsLeastLeaving labels U c l → IsLeastLeaving labels S c l
 least_of_part S T U both labels c l in_S is = record { member = in_S; leaves = is.leaves; least = λ m m_in. is.least m ((both m).1 (inl m_in)) }
 
 pub either_turned : (S T U : LinkSet) → SameLinks U (Either S T) → SameLinks U (Either T S)
 either_turned S T U both l = search arith
 
--- The least of both sets is the least of the one that has it, and isn't above the other's. The other way round, what
--- isn't above the other set's least isn't above any of its links.
+-- The least link of both sets is the least of the set that has it, and isn't above the least of the other. In the other
+-- direction, a link that isn't above the other set's least isn't above any of its links.
 pub least_of_both : (S T U : LinkSet) → SameLinks U (Either S T) → (labels : List ℕ) (c : ℕ) (l m : Link)
     → IsLeastLeaving labels S c l → IsLeastLeaving labels T c m → (k : Link) → IsLeastLeaving labels U c k ↔ IsLesser l m k
 least_of_both S T U both labels c l m is_l is_m k = (to, back)
@@ -58,7 +58,7 @@ least_of_both S T U both labels c l m is_l is_m k = (to, back)
         subst (IsLeastLeaving labels U c) (sym same)
         (least_stays T S U (either_turned S T U both) labels c m is_m (λ x x_in leaves. not_between l m x not_below (is_l.least x x_in leaves)))
 
--- where no link of the second set leaves the label
+-- if no link of the second set leaves the label
 pub least_of_first : (S T U : LinkSet) → SameLinks U (Either S T) → (labels : List ℕ) (c : ℕ) → NoneLeaves labels T c → (k : Link) → IsLeastLeaving labels U c k ↔ IsLeastLeaving labels S c k
 least_of_first S T U both labels c none k = search (arith, least_stays, least_of_part)
 

@@ -10,35 +10,35 @@ use Rattle.round_theory.specs.LinkSet.{LinkSet}
 abbrev pub IsVertex : ℕ → ℕ → Type 0
 IsVertex n v = (1 ≤ v) × (v ≤ n)
 
--- of all vertices that the set joins v to, u is the least
+-- u is the least of all vertices that the set joins with v
 pub record IsLeastJoined (S : LinkSet) (v u : ℕ) : Type 0 where
   pub joined : Joins S v u
   pub least : (w : ℕ) → Joins S v w → u ≤ w
 
--- the labelling of the vertices 1 to n by a set: each vertex gets the least vertex that the set joins it to
+-- the labelling of the vertices 1 to n by a set: each vertex is labelled by the least vertex that the set joins with it
 pub record IsLabelling (n : ℕ) (S : LinkSet) (labels : List ℕ) : Type 0 where
   pub each_vertex : length labels ≡ n
   pub least : (v : ℕ) → IsVertex n v → IsLeastJoined S v (label_of labels v)
 
--- a walk over links between components: each link begins in the component where the one before it ended, at whichever of its vertices
+-- a walk over links between components: each link begins in the component where the one before it ended
 abbrev pub IsWalkOver : List ℕ → ℕ → List Link → ℕ → Type 0
 IsWalkOver labels u [] v = label_of labels u ≡ label_of labels v
 IsWalkOver labels u (l ∷ walk) v =
     ((label_of labels u ≡ label_of labels l.low) × IsWalkOver labels l.high walk v)
     ⊎ ((label_of labels u ≡ label_of labels l.high) × IsWalkOver labels l.low walk v)
 
--- the components that the labels give and the links of the set join u and v
+-- the components that the labels give, together with the links of the set, join u and v
 abbrev pub JoinsOver : List ℕ → LinkSet → ℕ → ℕ → Type 0
 JoinsOver labels S u v = (walk : List Link) × AllByRecursion S walk × IsWalkOver labels u walk v
 
--- of all vertices 1 to n that the components and the set join v to, u is the least
+-- u is the least of the vertices 1 to n that the components and the set join with v
 pub record IsLeastJoinedOver (n : ℕ) (labels : List ℕ) (S : LinkSet) (v u : ℕ) : Type 0 where
   pub vertex : IsVertex n u
   pub joined : JoinsOver labels S v u
   pub least : (w : ℕ) → IsVertex n w → JoinsOver labels S v w → u ≤ w
 
--- the new labels join the components that the old ones give by the links of a set: each vertex gets the least vertex
--- that the old components and the set join it to
+-- the new labels join the components of the old ones by the links of a set: each vertex gets the least vertex that the
+-- old components and the set join with it
 pub record IsRelabelling (n : ℕ) (old : List ℕ) (S : LinkSet) (new : List ℕ) : Type 0 where
   pub each_vertex : length new ≡ n
   pub least : (v : ℕ) → IsVertex n v → IsLeastJoinedOver n old S v (label_of new v)

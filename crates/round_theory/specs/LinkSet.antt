@@ -1,2 +1,2 @@
--- Sets of links, handed on from link_key. Declares nothing.
+-- Re-exports the sets of links from `links`. Declares nothing.
 pub use Rattle.links.specs.LinkSet.{LinkSet, Either, Without, IsPartOf, SameLinks, HasNoCycle, Spans}

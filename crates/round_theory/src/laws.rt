@@ -1,4 +1,4 @@
-//! The laws: each is the contract of a function that does nothing.
+//! The laws, each as the contract of a function that does nothing.
 
 ghost use Rattle.round_theory.specs.Laws.{SetHasLabelling, LabellingIsUnique, OneLabelWhereJoined, LabellingIsLabels, ApartByNoLinks, SpansWhereNoneLeaves, ForestHasNoCycle, ForestSpans, SpanningPartIsForest, LeastLeavingExists, LeastLeavingIsInForest, RoundsAreInForest, RoundsAreFinite, RoundsOfSameLinks, RoundByRound, AddsNothingWhereNoneLeaves, OneNumberOfRounds, ForestFromThenOn, RoundsAtMostLogarithm, MergingRoundIsInTime, LightOffersSuffice, AnyCutAnyOrder, OrderOfHearingIsFree, LeavesBothEnds, JoinedBySteps, RelabelledBySteps, RelabellingIsUnique, RelabellingIsLabels, OfEachSet, PicksAreNew, PickedFromBothSides, PicksCloseNoCycle, OfEachUnion, UnionHasBoth, LeastOfBoth, LeastOfFirst, LeastOfSecond, LightOffersExist, LightOffersAreUnique, LightOffersLeave};
 
@@ -12,7 +12,7 @@ pub fn one_labelling()
     ensures spans { SpansWhereNoneLeaves }
 {}
 
-/// The forest of a list has no cycle and spans the list, and no other part of it spans the list.
+/// The forest of a list has no cycle and spans the list, and no other part of the forest spans it.
 pub fn forest_spans()
     ensures no_cycle { ForestHasNoCycle }
     ensures spans { ForestSpans }
@@ -25,7 +25,7 @@ pub fn cut_property()
     ensures in_forest { LeastLeavingIsInForest }
 {}
 
-/// Rounds take links of the forest alone, until they have all of it.
+/// The rounds take only links of the forest, until they have taken all of them.
 pub fn rounds_end_with_forest()
     ensures in_forest { RoundsAreInForest }
     ensures finite { RoundsAreFinite }
@@ -36,14 +36,14 @@ pub fn rounds_end_with_forest()
     ensures forest { ForestFromThenOn }
 {}
 
-/// At most the logarithm of n rounds merge anything: each round joins every component that a link leaves to
-/// another one, so the number of such components halves at least.
+/// At most log2 n rounds merge components. Each round merges every component that a link leaves with another one, so
+/// the number of such components is at least halved.
 pub fn rounds_double_components()
     ensures at_most { RoundsAtMostLogarithm }
     ensures in_time { MergingRoundIsInTime }
 {}
 
-/// The light offers of the shards name the least link of the whole list that leaves each component.
+/// The light offers of the shards name, for each component, the least link of the whole list that leaves it.
 pub fn light_offers_suffice()
     ensures suffice { LightOffersSuffice }
     ensures any_cut { AnyCutAnyOrder }
@@ -51,7 +51,7 @@ pub fn light_offers_suffice()
     ensures both_ends { LeavesBothEnds }
 {}
 
-/// Adding links to a set joins its components by them.
+/// After links are added to a set, its components are those that the added links join.
 pub fn joining_by_steps()
     ensures joined { JoinedBySteps }
     ensures relabelled { RelabelledBySteps }
@@ -66,7 +66,7 @@ pub fn picks_close_no_cycle()
     ensures no_cycle { OfEachSet PicksCloseNoCycle }
 {}
 
-/// The least link of two sets together that leaves a component is the lesser of the two sets' leasts.
+/// The least link that leaves a component, in the union of two sets, is the lesser of the least links in each set.
 pub fn least_of_both()
     ensures union { OfEachUnion UnionHasBoth }
     ensures lesser { OfEachUnion LeastOfBoth }
@@ -74,7 +74,7 @@ pub fn least_of_both()
     ensures second { OfEachUnion LeastOfSecond }
 {}
 
-/// A list of links has exactly one list of light offers under given labels, and each of them names a link that leaves
+/// Under given labels, a list of links has exactly one list of light offers, and each offer names a link that leaves
 /// its component.
 pub fn one_list_of_light_offers()
     ensures exists { LightOffersExist }

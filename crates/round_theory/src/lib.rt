@@ -1,5 +1,5 @@
-//! Borůvka's rounds: what they mean, and why they end with the minimum spanning forest. Each law is over the
-//! definitions alone, so that no thread and no socket enters it.
+//! Borůvka's rounds: what they mean, and why they end with the minimum spanning forest. All laws are about definitions
+//! only, so threads and sockets play no role in them.
 //!
 //! ```text
 //!     labelling by what is taken --leaves--> offers of the shards --least for each label--> picks --added--> taken
@@ -8,20 +8,26 @@
 //! ```
 //!
 //! What it promises:
-//! - A set of links has one labelling; the forest has no cycle, spans the list, and is the only part of it that spans.
-//! - The least link that leaves a component is in the forest, so rounds take the forest's links alone, and end with all
-//!   of them after at most the logarithm of n merging rounds.
-//! - A list has one list of light offers; those of shards name what a round picks, whatever the cut and their order.
-//! - Whatever is offered, light or not, picks are new links and close no cycle.
-//! - A [`Port`] is whom rounds ask: what is known of it says what each ask did, and when its answers are honest.
+//! - A set of links has exactly one labelling. The forest has no cycle and spans the list, and no other part of the
+//!   forest spans it.
+//! - The least link that leaves a component is in the forest. So the rounds take only links of the forest. After at
+//!   most log2 n merging rounds they have taken all of them.
+//! - A list has exactly one list of light offers: for each label, the least link of the list that leaves it. The light
+//!   offers of the shards name the links that a round picks, however the list is cut and in whatever order the shards
+//!   are scanned.
+//! - Whatever is offered, light or not, the picks are new links and close no cycle.
+//! - A [`Port`] is what the rounds ask for offers. Its state shows what each ask did, and when its answers are honest.
 //!
-//! Where to start a change: the definitions stand in `specs/` (`Labelling`, `Offers`, `Rounds`) and the laws in
-//! `specs/Laws`; [`laws`] promises them. That their premises can be met is shown on a triangle: by `round_core::examples`, and by
-//! calls in `worked_runs`. A layer above cites a law, and shows of its own step alone that it labels, offers, picks or adds
-//! what the definition says. A clause can't speak of
-//! every set of links, so the laws of picks stand for the members of a list, and for what the offers that were heard
-//! name. What rounds need of whatever answers them stands in `port`, with `specs/Ports` (what an ask does to a port)
-//! and `specs/Exchanges` (what a port was asked and answered); `wires` has ports over lines of bytes.
+//! To change a definition, see `specs/`: `Labelling`, `Offers` and `Rounds`. The laws are in `specs/Laws`, and [`laws`]
+//! promises them. The example of a triangle in `round_core::examples` and calls in `worked_runs` show that their
+//! premises can be met. A crate that uses a law proves only that its own step labels, offers, picks or adds what the
+//! definition says.
+//!
+//! A clause can't quantify over all sets of links. So the laws of picks are about two kinds of sets: the links of a
+//! list, and the links that received offers name.
+//!
+//! What the rounds need of a port is in `port`, with `specs/Ports` (what an ask does to a port) and `specs/Exchanges`
+//! (what a port was asked and answered). `wires` has ports over lines of bytes.
 #![tactic(auto)]
 
 mod fault;

@@ -1,6 +1,7 @@
--- The gate and the tally at a call: what each is handed, a `&` to it with a token of the lifetime, and what a caller has of it. Assumes `Logic`.
---     Asks         the gate is asked whether the next allocation is refused, and answers by the number of one
---     Counts       the tally counts a block of a size that is handed out, or that comes back: one contract, since neither says anything
+-- The gate and the tally at a call: the arguments of each, a `&` to it with a token of the lifetime, and what a caller
+-- has of it. Assumes `Logic`.
+--     Asks         the gate decides whether the next allocation fails, by the number of an allocation
+--     Counts       the tally counts a block that is allocated or freed: one contract, because neither says anything
 use Rattle.std.specs.Prelude.{T}
 use Rattle.std.proofs.lemmas.Bool.{false≢true}
 use Rattle.std.proofs.Common.{◌≡◌, ℕ, ◌^◌, ◌<◌, Bool, true, false, not, List, [], ◌∷◌, refl, ap, w64}
@@ -25,11 +26,11 @@ use Rattle.test_memory.specs.contracts.gate.Gate.refuses_next as GR
 use Rattle.test_memory.specs.contracts.tally.Tally as TA
 use Rattle.test_memory.specs.contracts.tally.Tally.give as TG
 
--- what the gate answered, and of which number
+-- the gate's decision, and its number
 abbrev pub Ruling : Refusals → Type 0
 Ruling refusals = (refused : Bool) × IsSaidOf refusals refused
 
--- an allocation that wasn't refused is let pass
+-- an allocation that the gate doesn't refuse is passed on
 pub let_pass : (refusals : Refusals) (refused : Bool) → IsSaidOf refusals refused → T (not refused) → IsLetPass refusals
 let_pass refusals true said passed = absurd passed
 let_pass refusals false said passed = record { number = said.number; from_one = said.from_one; below = said.below; passes = λ is. false≢true (said.refused_is.1 is) }

@@ -1,4 +1,4 @@
--- What is found of a run is within the numbers that are tried.
+-- What a run shows is within the numbers that are tried.
 use Rattle.std.proofs.Common.{ℕ, ◌<◌, ◌≤◌, arith}
 use Rattle.test_memory.specs.declared.in_turn.Found.{Found}
 use Rattle.test_memory.specs.declared.in_turn.Found.TheVariants.{Each, Passes, Fails, Leaks, More}

@@ -1,7 +1,7 @@
 use std::sync::atomic::AtomicU64;
 use std::sync::atomic::Ordering::SeqCst;
 
-// A count that threads share. It starts at 0.
+// A count that threads share. It begins at 0.
 #[derive(Drop)]
 pub(crate) struct Counter {
     count: AtomicU64,
@@ -14,12 +14,11 @@ impl Counter {
         }
     }
 
-    // One more.
     pub(crate) fn count(&self) {
         self.count.fetch_add(1, SeqCst);
     }
 
-    // One more, and how many there were before.
+    // Adds one, and returns the count before that.
     pub(crate) fn next(&self) -> u64 {
         self.count.fetch_add(1, SeqCst)
     }

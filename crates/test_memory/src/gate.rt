@@ -4,7 +4,7 @@ ghost use Rattle.test_memory.specs.Refused.{IsSaidOf};
 use crate::counter::Counter;
 use crate::refusals::Refusals;
 
-// Numbers the allocations from 1 as they are asked for, and says which are refused.
+// Numbers the allocations from 1 in the order in which they are requested, and decides which of them fail.
 #[derive(Drop)]
 pub(crate) struct Gate {
     asked: Counter,
@@ -21,7 +21,8 @@ impl Gate {
         }
     }
 
-    // Whether the next allocation is refused. That its number is the next one is no part of the clause.
+    // Returns whether the next allocation is made to fail. The clause doesn't say that the allocation has the next
+    // number.
     pub(crate) fn refuses_next(&self) -> bool
         ensures { IsSaidOf self.now.refusals result }
     {

@@ -5,22 +5,24 @@ use crate::refusals::Refusals;
 use crate::refusing::Refusing;
 use std::alloc::Allocator;
 
-/// What was found of some work whose allocations were refused in turn.
+/// What was found about some work whose allocations were made to fail in turn.
 #[derive(Clone, Copy, Debug, PartialEq, Eq)]
 pub enum Found {
-    /// It makes so many allocations, fails where all from any one of them on are refused, and leaves no block behind.
+    /// The work makes this many allocations. It fails if all allocations from any one of them on fail, and leaves no
+    /// block.
     Each(u64),
-    /// It ended well though each allocation from this number on was refused.
+    /// The work succeeded although each allocation from this number on failed.
     Passes(u64),
-    /// It failed though no allocation was refused: it makes fewer than this number.
+    /// The work failed although no allocation was made to fail: it makes fewer than this number.
     Fails(u64),
-    /// A block of it still lived after a run in which the allocation of this number was refused, or was to be.
+    /// A block of the work still existed after a run in which the allocation with this number was to fail.
     Leaks(u64),
-    /// It makes as many allocations as were to be tried, or more.
+    /// The work makes at least as many allocations as were to be tried.
     More,
 }
 
-// What one run did: whether it ended well, how many allocations it asked for, and how many of its blocks lived after it.
+// What one run did: whether it succeeded, how many allocations it requested, and how many of its blocks existed
+// afterwards.
 #[derive(Clone, Copy)]
 pub(crate) struct Ran {
     pub(crate) well: bool,
@@ -28,7 +30,7 @@ pub(crate) struct Ran {
     pub(crate) live: u64,
 }
 
-// What is found by a run in which all allocations from this number on are refused, if the search ends with it.
+// What a run shows in which all allocations from `number` on were made to fail, if the search ends with it.
 fn judge(number: u64, ran: Ran) -> Option<Found>
     requires from_one { 0 < number }
     ensures { (found : _) → result ≡ Some found ↔ IsFoundOf number ran found }
@@ -47,7 +49,6 @@ fn judge(number: u64, ran: Ran) -> Option<Found>
     }
 }
 
-// One run of the work.
 fn run<B, E, F>(inner: B, refusals: Refusals, work: &F) -> Ran
 where
     B: Allocator + Copy,
@@ -64,14 +65,15 @@ where
     }
 }
 
-/// Runs the work with its allocations refused in turn, and says what was found.
+/// Runs the work while its allocations are made to fail in turn, and returns what was found.
 ///
-/// For each number from 1 on, up to `most`, it is run once with all allocations from that number on refused, and once
-/// with that one alone, until a run asks for fewer. The first has to fail wherever an allocation was refused. The second
-/// need not: a collection that is refused room for many items may ask for less. After each of them no block may live.
+/// For each number from 1 on, up to `most`, the work runs twice, until it requests fewer allocations than that number.
+/// In the first run, all allocations from that number on fail, and the work must fail if one of them was requested. In
+/// the second, only the allocation with that number fails. Then the work may succeed: a collection that can't get
+/// memory for many items may request less. After each run, no block may be left.
 ///
-/// It costs two runs for each allocation, and one more. Write the result's type on the last closure, as
-/// `|memory: &Refusing<Global>| -> Result<(), AllocError> { .. }`.
+/// This takes two runs for each allocation, and one more. Write the result's type on the last closure, as in `|memory:
+/// &Refusing<Global>| -> Result<(), AllocError> { .. }`.
 pub fn refuse_each<B, E, F>(inner: B, most: u64, work: F) -> Found
 where
     B: Allocator + Copy,

@@ -1,5 +1,5 @@
-//! Memory for tests: an allocator that counts its blocks and their bytes, and refuses the allocations that a test names.
-//! [`refuse_each`] runs some work with each of its allocations refused in turn.
+//! Memory for tests: an allocator that counts its blocks and their bytes, and makes chosen allocations fail.
+//! [`refuse_each`] runs some work while each of its allocations is made to fail in turn.
 //!
 //! ```text
 //!   allocate ──► Gate: next number, refused? ──► inner allocator ──► a block: `Tally` counts it
@@ -7,14 +7,16 @@
 //! ```
 //!
 //! What it promises:
-//! - The blocks of [`Refusing`] are those of the allocator behind it, whole and no one else's.
-//! - It refuses those whose numbers [`Refusals`] has, from 1 on as they are asked for; a `Vec` asks for each growth.
-//! - What [`refuse_each`] concludes from one run: it failed where an allocation was refused, and left no block behind.
-//! - No contract sees an atomic count: that each allocation has the next number, that blocks and bytes are counted,
-//!   and what `refuse_each` finds of all its runs, is tested and not proved.
+//! - The blocks of [`Refusing`] are whole blocks of its inner allocator, and no one else has them.
+//! - It refuses the allocations whose numbers are in [`Refusals`]. They are numbered from 1 in the order in which they
+//!   are requested. A `Vec` requests an allocation whenever it grows.
+//! - What [`refuse_each`] concludes from one run follows from what the run did: whether it failed, whether an
+//!   allocation was refused, and whether a block was left.
+//! - Atomic counts don't occur in contracts. So some facts are tested and not proved: that each allocation has the next
+//!   number, that blocks and bytes are counted, and what `refuse_each` finds over all its runs.
 //!
-//! Where to start a change: `refusals` says which numbers are refused, `counter`, `tally` and `gate` hold the counts, `in_turn`
-//! runs work over them. A change of `allocate` or `deallocate` in `refusing` changes its proof by hand in
+//! To change which numbers are refused, see `refusals`. The counts are in `counter`, `tally` and `gate`, and `in_turn`
+//! runs work over them. If you change `allocate` or `deallocate` in `refusing`, change their proofs by hand in
 //! `proofs/refusing`.
 #![tactic(auto)]
 

@@ -1,7 +1,7 @@
 ghost use Rattle.std.specs.Prelude.{◌≡◌, ℕ, ◌<◌, ◌≤◌, ◌^◌, ◌↔◌, IsTrue};
 ghost use Rattle.test_memory.specs.Refused.{IsRefused};
 
-/// Which allocations are refused: those whose number, counted from 1, is from `first` to `last`.
+/// Which allocations are made to fail: those whose numbers are from `first` to `last`. Numbers begin at 1.
 #[derive(Clone, Copy, Debug, PartialEq, Eq)]
 pub struct Refusals {
     pub first: u64,
@@ -9,14 +9,14 @@ pub struct Refusals {
 }
 
 impl Refusals {
-    /// None is refused.
+    /// No allocation fails.
     pub fn none() -> Refusals
         ensures { (number : ℕ) → ¬ IsRefused result number }
     {
         Refusals { first: 1, last: 0 }
     }
 
-    /// The one of this number is refused, and no other.
+    /// Only the allocation with this number fails.
     pub fn only(number: u64) -> Refusals
         ensures { (other : ℕ) → IsRefused result other ↔ (other ≡ number) }
     {
@@ -26,7 +26,7 @@ impl Refusals {
         }
     }
 
-    /// The one of this number is refused, and each later one.
+    /// The allocation with this number fails, and so does each later one.
     pub fn since(number: u64) -> Refusals
         ensures { (other : ℕ) → other < 2 ^ 64 → IsRefused result other ↔ (number ≤ other) }
     {
@@ -36,7 +36,6 @@ impl Refusals {
         }
     }
 
-    /// Whether the allocation of this number is refused.
     pub(crate) fn include(self, number: u64) -> bool
         ensures { IsTrue result ↔ IsRefused self number }
     {

@@ -9,9 +9,10 @@ use crate::refusals::Refusals;
 use crate::tally::Tally;
 use std::alloc::{AllocError, Allocator};
 
-/// An allocator that counts what is asked of it, passes it on to another, and refuses some of it.
+/// An allocator that counts the requests that it gets, passes them on to another allocator, and makes some of them
+/// fail.
 ///
-/// A collection takes it as `&Refusing<B>`, which is `Copy`; the test keeps the allocator itself and reads its counts.
+/// A collection uses it as `&Refusing<B>`, which is `Copy`. The test keeps the allocator itself and reads its counts.
 #[derive(Drop)]
 pub struct Refusing<B: Allocator> {
     inner: B,
@@ -19,7 +20,7 @@ pub struct Refusing<B: Allocator> {
     blocks: Tally,
 }
 
-/// How many bytes blocks have: those that live, and the most that lived at once.
+/// The number of bytes of all blocks: of those that exist now, and the largest number at any time.
 #[derive(Clone, Copy, Debug, PartialEq, Eq)]
 pub struct Bytes {
     pub now: u64,
@@ -27,7 +28,7 @@ pub struct Bytes {
 }
 
 impl<B: Allocator> Refusing<B> {
-    /// Blocks of `inner`, but for the allocations that are refused.
+    /// An allocator of `inner`'s blocks, except that the allocations of `refusals` fail.
     pub fn new(inner: B, refusals: Refusals) -> Refusing<B>
         ensures { result.gate.refusals ≡ refusals }
     {
@@ -38,38 +39,38 @@ impl<B: Allocator> Refusing<B> {
         }
     }
 
-    /// Which allocations are refused.
+    /// Which allocations are made to fail.
     pub fn refusals(&self) -> Refusals
         ensures { result ≡ self.now.gate.refusals }
     {
         self.gate.refusals()
     }
 
-    /// How many allocations were asked for, the refused ones among them.
+    /// How many allocations were requested, including those that failed.
     pub fn asked(&self) -> u64 {
         self.gate.asked()
     }
 
-    /// How many blocks were handed out.
+    /// How many blocks were allocated.
     pub fn given(&self) -> u64 {
         self.blocks.given()
     }
 
-    /// How many blocks came back.
+    /// How many blocks were deallocated.
     pub fn given_back(&self) -> u64 {
         self.blocks.given_back()
     }
 
-    /// How many blocks live: they were handed out and haven't come back. Exact where no other thread takes or gives back
-    /// a block meanwhile.
+    /// How many blocks exist: those allocated and not yet deallocated. The number is exact if no other thread allocates
+    /// or deallocates during the call.
     pub fn live(&self) -> u64 {
         let given_back = self.given_back();
         self.given().saturating_sub(given_back)
     }
 
-    /// How many bytes the blocks have that live, and the most that lived at once since [`Refusing::watch`] was called
-    /// last. A block that grows lives beside the one that it grew from, until its content is copied. Exact where no other
-    /// thread takes or gives back a block meanwhile.
+    /// How many bytes the existing blocks have, and the largest number of bytes at any time since the last call of
+    /// [`Refusing::watch`]. A block that grows exists together with its successor until its content is copied. The
+    /// numbers are exact if no other thread allocates or deallocates during the call.
     pub fn bytes(&self) -> Bytes
         ensures { result.now ≤ result.most }
     {
@@ -80,7 +81,8 @@ impl<B: Allocator> Refusing<B> {
         }
     }
 
-    /// From now on the most bytes are those since now. Returns the bytes that live.
+    /// Restarts the largest number of bytes from the current one, and returns the number of bytes of the existing
+    /// blocks.
     pub fn watch(&self) -> u64 {
         self.blocks.restart();
         self.blocks.bytes()

@@ -2,8 +2,8 @@ use crate::counter::Counter;
 use std::sync::atomic::AtomicU64;
 use std::sync::atomic::Ordering::SeqCst;
 
-// The blocks that were handed out and those that came back, the bytes of those that live, and the most bytes that lived
-// at once. Threads share it.
+// The number of blocks allocated and of blocks deallocated, the bytes of the blocks that exist, and the largest number
+// of bytes at any time. Threads share it.
 #[derive(Drop)]
 pub(crate) struct Tally {
     given: Counter,
@@ -22,7 +22,7 @@ impl Tally {
         }
     }
 
-    // One more block of this size was handed out.
+    // Counts an allocated block of this size.
     pub(crate) fn give(&self, size: usize) {
         self.given.count();
         let before = self.bytes.fetch_add(size as u64, SeqCst);
@@ -30,7 +30,7 @@ impl Tally {
             .fetch_max(before.saturating_add(size as u64), SeqCst);
     }
 
-    // One of this size came back.
+    // Counts a deallocated block of this size.
     pub(crate) fn take_back(&self, size: usize) {
         self.given_back.count();
         self.bytes.fetch_sub(size as u64, SeqCst);
@@ -52,7 +52,7 @@ impl Tally {
         self.peak.load(SeqCst)
     }
 
-    // The peak is what lives now.
+    // Sets the largest number of bytes to the current one.
     pub(crate) fn restart(&self) {
         self.peak.store(self.bytes(), SeqCst);
     }

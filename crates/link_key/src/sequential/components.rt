@@ -1,4 +1,4 @@
-//! The components that the links of a forest join, by the solver's rounds.
+//! Finds the components that the links of a forest join, with the solver's rounds.
 ghost use Rattle.std.specs.Prelude.{◌≡◌, ◌≢◌, ℕ, ◌+◌, ◌<◌, ◌≤◌, ◌↔◌, length, slice_index, All, Contains, IfOk, IfSome, IsSome, IsTrue};
 ghost use Rattle.limits.specs.declared.TheConstants.{MAX_VERTICES, MAX_ARCS};
 ghost use Rattle.links.specs.Labels.{label_of};
@@ -13,12 +13,12 @@ use links::sorting::sort;
 use links::{Labels, Link};
 use std::alloc::{AllocError, Allocator};
 
-/// Labels each of the vertices 1 to `n` by the least vertex of its component under these links, which may stand in any
-/// order; none if a link stands twice or the links close a cycle.
+/// Labels each of the vertices 1 to `n` with the least vertex of its component under these links, which can be in any
+/// order. Returns `None` if a link occurs twice or the links close a cycle.
 ///
-/// The components are joined in Borůvka's rounds, as [`super::forest_of`] joins them. For k links it costs
-/// O(k log k + n log n) time. Memory beside the list: at most 13 bytes a link and 12 a vertex. The only error is want of
-/// memory.
+/// The components are joined in Borůvka's rounds, as in [`super::forest_of`]. For k links this takes O(k log k + n log
+/// n) time. In addition to the list, it needs at most 13 bytes per link and 12 bytes per vertex. The only error is out
+/// of memory.
 pub fn components_of<A: Allocator + Copy>(
     alloc: A,
     n: u32,
@@ -43,8 +43,8 @@ pub fn components_of<A: Allocator + Copy>(
     Ok(Some(Labels::of_known(labels)))
 }
 
-// Numbers the components of the vertices 1 to n under links in the order of their keys, and says whether these close no
-// cycle: whether the rounds take each of them.
+// Numbers the components of the vertices 1 to n under links in the order of their keys. Also returns whether the links
+// close no cycle, which is so exactly if the rounds take every link.
 fn components_in_order<A: Allocator + Copy>(
     alloc: A,
     n: u32,
@@ -66,14 +66,13 @@ fn components_in_order<A: Allocator + Copy>(
     Ok((components, taken))
 }
 
-// Whether all are marked.
 fn are_all_marked(marks: &[bool]) -> bool
     ensures { IsTrue result ↔ All IsTrue marks.now }
 {
     marks.iter().all(|mark| *mark)
 }
 
-// The first vertex that has its number, vertex by vertex from 1 on.
+// For each vertex from 1 on, the first vertex that has the same number.
 fn first_vertices<A: Allocator + Copy>(
     alloc: A,
     count: u32,
@@ -96,7 +95,6 @@ fn first_vertices<A: Allocator + Copy>(
     Ok(labels)
 }
 
-// The first vertex that was found, or else this one; 0 is none.
 fn first_or(found: u32, v: u32) -> u32
     ensures new { found ≡ 0 → result ≡ v }
     ensures old { found ≢ 0 → result ≡ found }

@@ -1,10 +1,12 @@
-//! Borůvka's rounds over links in the order of their keys, by first touch, between components that are numbered.
+//! Borůvka's rounds between numbered components, over links in the order of their keys, by first touch.
 //!
-//! Of links in ascending order the first that touches a component is the least that leaves it. So a round goes over
-//! the links once: it marks a link where the component at one of its ends wasn't touched before, and both components
-//! have one number then. What nothing touched gets a new number of its own, so that the next round has a table of
-//! the components that are left. What is marked in the end, in the order of keys, is taken. That a round marks as many
-//! links as it can is promised by no contract: the time stands on it, and the forest doesn't.
+//! If the links are in ascending order, the first link that touches a component is the least link that leaves it. So a
+//! round makes one pass over the links. It marks a link if no earlier link touched the component at one of its
+//! endpoints, and then both components get the same number. Each component that no link touched gets a new number of
+//! its own, so that the next round has a table of the remaining components.
+//!
+//! At the end, the marked links are taken, in the order of their keys. No contract promises that a round marks as many
+//! links as it can. The running time depends on that, but the forest doesn't.
 ghost use Rattle.std.specs.Prelude.{◌≡◌, false, ◌+◌, ◌<◌, ◌≤◌, [], ◌++◌, map, take, drop, length, slice_index, EachIndex, IfOk, OnOk, IsTrue};
 ghost use Rattle.std.specs.List.{filter};
 ghost use Rattle.limits.specs.declared.TheConstants.{MAX_VERTICES};
@@ -16,10 +18,10 @@ use limits::MAX_VERTICES;
 use links::Link;
 use std::alloc::{AllocError, Allocator};
 
-// The most links that have ranks.
+// The largest number of links that can have ranks.
 pub(crate) const MAX_RANKS: usize = u32::MAX as usize;
 
-// A link's place in a list that is in the order of keys, its rank, and the labels of its ends.
+// A link's rank, which is its index in a list in the order of keys, and the labels of its endpoints.
 #[derive(Clone, Copy)]
 pub(crate) struct Open {
     low: u32,
@@ -27,14 +29,13 @@ pub(crate) struct Open {
     rank: u32,
 }
 
-// New numbers of the labels 1 to some label: 1 to `count`.
+// New numbers, 1 to `count`, for labels that begin at 1.
 #[derive(Drop)]
 pub(crate) struct Renaming<A: Allocator> {
     pub numbers: Vec<u32, A>,
     pub count: u32,
 }
 
-// The entry of the table at c, where it has one, else 0.
 #[inline]
 fn entry(table: &[u32], c: u32) -> u32
     ensures { result ≡ slice_index table.now c }
@@ -42,8 +43,9 @@ fn entry(table: &[u32], c: u32) -> u32
     table.get(c as usize).copied().unwrap_or(0)
 }
 
-// Puts the links from a place on whose ends have different labels behind the first so many, in their order. Returns how
-// many they are with these. It takes no branch on the labels, so that those of the next links are looked up meanwhile.
+// Moves the links from index `from` on whose endpoints have different labels to directly after the first `first` links,
+// in their order. Returns the number of these links and the first ones together. The loop has no branch that depends on
+// the labels, so the processor can look up the labels of the next links in the meantime.
 pub(crate) fn put_apart_behind(
     links: &mut [Link],
     first: usize,
@@ -64,7 +66,7 @@ pub(crate) fn put_apart_behind(
     kept
 }
 
-// The links, each vertex labelled by itself.
+// The links, with each vertex labelled by itself.
 pub(crate) fn open_vertices<A: Allocator + Copy>(
     alloc: A,
     links: &[Link],
@@ -85,7 +87,7 @@ pub(crate) fn open_vertices<A: Allocator + Copy>(
     Ok(candidates)
 }
 
-// The links, with the labels of their ends.
+// The links, with the labels of their endpoints.
 pub(crate) fn open_components<A: Allocator + Copy>(
     alloc: A,
     links: &[Link],
@@ -107,8 +109,8 @@ pub(crate) fn open_components<A: Allocator + Copy>(
     Ok(candidates)
 }
 
-// Gives the labels a and b one number where one of them has none yet, and says whether it did; `last` is the last
-// number that was given.
+// If one of the labels a and b has no number yet, gives both the same number and returns true. `last` is the last
+// number that was assigned.
 #[inline]
 fn touch(numbers: &mut [u32], last: &mut u32, a: u32, b: u32) -> bool
     requires a_in_range { a < length numbers.old }
@@ -139,9 +141,9 @@ fn touch(numbers: &mut [u32], last: &mut u32, a: u32, b: u32) -> bool
     true
 }
 
-// Marks each link that is the first to touch the component at one of its ends, where no label has a number yet. Puts the
-// others whose ends have different numbers first, with these in place of their labels. Returns the last number that was
-// given, and how many are first.
+// Begins with no label numbered. Marks each link that is the first to touch the component at one of its endpoints.
+// Moves the other links whose endpoints have different numbers to the front, with these numbers as their labels.
+// Returns the last number that was assigned, and how many links were moved to the front.
 fn mark_first_touches(
     candidates: &mut [Open],
     numbers: &mut [u32],
@@ -173,7 +175,7 @@ fn mark_first_touches(
     (last, kept)
 }
 
-// Gives each label but 0 that has no number a new one, and returns the last number.
+// Gives a new number to each label but 0 that has none, and returns the last number.
 fn number_rest(numbers: &mut [u32], last: u32) -> u32
     requires few { length numbers.old ≤ MAX_VERTICES + 1 }
     requires some { 0 < length numbers.old }
@@ -191,7 +193,6 @@ fn number_rest(numbers: &mut [u32], last: u32) -> u32
     count
 }
 
-// Puts its number in the place of each label.
 pub(crate) fn rename(labels: &mut [u32], numbers: &[u32])
     ensures { labels.new ≡ renamed numbers.now labels.old }
 {
@@ -200,8 +201,8 @@ pub(crate) fn rename(labels: &mut [u32], numbers: &[u32])
     }
 }
 
-// One round between the components 1 to `count`: each that one of these links leaves becomes one with another. What is
-// left leaves a component still.
+// One round between the components 1 to `count`: each component that one of these links leaves is merged with another.
+// The remaining links still leave some component.
 fn round<A: Allocator + Copy>(
     alloc: A,
     count: u32,
@@ -226,9 +227,9 @@ fn round<A: Allocator + Copy>(
     Ok(Renaming { numbers, count })
 }
 
-// Marks the forest's links among these, between the components 1 to `count`, round after round, and returns the new
-// numbers of the components. A round's numbers are looked up at once and let go: there are two tables at the most, of 4
-// bytes a component.
+// Marks the forest's links among these, between the components 1 to `count`, round after round. Returns the new numbers
+// of the components. A round's numbers are applied at once and freed, so at most two tables exist at a time, each with
+// 4 bytes per component.
 pub(crate) fn join_components<A: Allocator + Copy>(
     alloc: A,
     count: u32,

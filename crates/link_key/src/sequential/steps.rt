@@ -1,5 +1,6 @@
-//! The steps of the solver that threads can share: to sort, to choose the lightest links, and to drop links within one
-//! component. Each is one by one thread or by several; the rounds between them are one thread's.
+//! The steps of the solver that threads can share: sorting links, choosing the lightest links, and dropping links
+//! within one component. Each step can be done by one thread or by several. The rounds between the steps are done by
+//! one thread.
 ghost use Rattle.std.specs.Prelude.{◌≡◌, ◌+◌, ◌≤◌, ◌++◌, ⊤, take, drop, length, IfOk, OnOk};
 ghost use Rattle.std.specs.List.{filter};
 ghost use Rattle.std.specs.List.Sorted.{IsSorted, IsPermutation};
@@ -15,18 +16,17 @@ use links::{Link, sorting};
 use std::alloc::{AllocError, Allocator};
 use std::thread::Threads;
 
-/// Who does the steps.
 pub(crate) trait Steps {
-    // What threads need of whoever makes them.
+    // What threads need of the runtime that starts them.
     ghost ready: { Self → Type 0 } = { λ _. ⊤ };
 
-    /// Puts the links in the order of their keys.
     fn sort(&self, links: &mut [Link])
         requires ready { ready self.now }
         ensures same { IsPermutation links.old links.new }
         ensures sorted { IsSorted key_cmp links.new };
 
-    /// Puts about so many of the lightest links first, and returns how many they are; any number may come out.
+    /// Moves about `count` of the lightest links to the front. Returns their number, which isn't necessarily close to
+    /// `count`.
     fn put_lightest_first<A: Allocator + Copy>(
         &self,
         alloc: A,
@@ -38,8 +38,8 @@ pub(crate) trait Steps {
         ensures in_range { IfOk result (λ light. light ≤ length links.new) }
         ensures split { IfOk result (λ light. IsSplitByKey light links.new) };
 
-    /// Puts the links from a place on whose ends have different labels behind the first so many, in their order. Returns
-    /// how many they are with these.
+    /// Moves the links from index `from` on whose endpoints have different labels to directly after the first `first`
+    /// links, in their order. Returns the number of these links and the first ones together.
     fn put_apart_behind(
         &self,
         links: &mut [Link],
@@ -54,7 +54,7 @@ pub(crate) trait Steps {
         ensures apart { take result links.new ≡ take first links.old ++ filter (is_apart labels.now) (drop from links.old) };
 }
 
-/// The caller's thread alone.
+/// Only the calling thread.
 #[derive(Drop)]
 pub(crate) struct StepsAlone;
 
@@ -83,7 +83,7 @@ impl Steps for StepsAlone {
     }
 }
 
-/// The caller's thread, with others made for a step, so many at the most at once.
+/// The calling thread and others that are started for a step, at most `threads` at a time.
 #[derive(Drop)]
 pub(crate) struct StepsByThreads<'a, R> {
     pub rt: &'a R,

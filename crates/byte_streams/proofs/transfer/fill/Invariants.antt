@@ -1,4 +1,4 @@
--- What the source gave stands at the beginning of the buffer, and it had no failure and found no end.
+-- What the source gave is at the beginning of the buffer, and the source had no failure and found no end.
 use Rattle.std.proofs.Common.{length, ◌-◌, ◌≤◌, take}
 use Rattle.byte_streams.specs.Streams.{Gave}
 use Rattle.byte_streams.proofs.transfer.fill.Given as goal

@@ -1,4 +1,4 @@
--- Neighbours in order are enough, since the order is transitive.
+-- Comparing neighbours is enough, since the order is transitive.
 use Rattle.std.proofs.Common.{rules}
 use Rattle.std.proofs.lemmas.List.Sorted.{answers_always}
 use Rattle.links.proofs.Keys.{is_below, ascending_by_neighbours}

@@ -1,4 +1,4 @@
--- Neighbours in order are enough, since the order is transitive.
+-- Comparing neighbours is enough, since the order is transitive.
 use Rattle.std.proofs.Common.{rules, ◌<◌, lt_trans, nat_lt, Bool}
 use Rattle.std.proofs.lemmas.List.Sorted.{answers_always}
 use Rattle.links.specs.Offers.{Offer}

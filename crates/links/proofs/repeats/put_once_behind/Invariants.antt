@@ -1,4 +1,4 @@
--- Those kept are the links up to this one, each once or more; the others stand where they did.
+-- The kept links are the links up to this one, each at least once. The others are where they were.
 use Rattle.std.proofs.Common.{◌≡◌, ℕ, ◌<◌, ◌≤◌, Contains, take, length, get_or}
 use Rattle.links.specs.LinkSet.{SameLinks}
 use Rattle.links.specs.declared.links.Link.{Link}

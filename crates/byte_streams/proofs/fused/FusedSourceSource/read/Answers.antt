@@ -15,13 +15,13 @@ copied_there all part tail at n within copied =
     let len : length part ≡ n = ap length copy ∙ length-take-le n (drop at all) fits in
     take-append-le n part tail (omega arith) ∙ take_all n part (omega arith) ∙ copy
 
--- and what is left behind it
+-- what is left after it
 left_behind : (all : List ℕ) (at n : ℕ) → at + n ≤ length all → drop at all ≡ take n (drop at all) ++ drop (at + n) all
 left_behind all at n within =
     let amount : at + n - at ≡ n = omega arith in
     drop_split all at (at + n) (omega arith) ∙ ap (λ m. take m (drop at all) ++ drop (at + n) all) amount
 
--- the source that gave n bytes of what is left
+-- the source after it gave n of the bytes that are left
 after_some : (s : FusedSourceState) (room n : ℕ) (given rest : List ℕ) → s.budget ≢ 0 → n ≡ given_to s room → n ≢ 0
     → given ≡ s.given ++ take n s.rest → rest ≡ drop n s.rest
     → record s { given = given; rest = rest; budget = s.budget - n } ≡ after_read s room

@@ -14,7 +14,7 @@ use Rattle.link_key.proofs.Firsts.{labels_are, least_vertices, same_components}
 use Rattle.link_key.proofs.Once.{ascending_distinct, distinct_permuted}
 use Rattle.link_key.proofs.sequential.components.components_of.Goals as goal
 
--- the links that were put in order
+-- the sorted links
 module _ (links now : List Link) (moved : IsPermutation links now) where
   to_now : HasNoCycle (Contains links) → HasNoCycle (Contains now)
   to_now = no_cycle_part (Contains now) (Contains links) (λ l l_in. Contains-permutation now links l (IsPermutation-sym links now moved) l_in)

@@ -9,7 +9,7 @@ use Rattle.link_key.proofs.Opened.{none_left, renamed_numbers}
 use Rattle.links.proofs.InPlace.{written}
 use Rattle.link_key.proofs.sequential.rounds.join_components.Goals as goal
 
--- nothing is left, or fewer are
+-- no links are left, or fewer than before
 shorter : (now before : ℕ) → 0 < before → (0 < now → now < before) → now < before
 shorter now before some fewer = search (arith, cases_lt)
 

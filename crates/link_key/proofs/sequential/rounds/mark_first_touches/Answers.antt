@@ -16,7 +16,7 @@ use Rattle.link_key.proofs.sequential.rounds.mark_first_touches.Goals.{then-touc
 abbrev no_link : Open
 no_link = record { low = 0; high = 0; rank = 0 }
 
--- the open link that is looked at has its labels and its rank in range
+-- the labels and the rank of the open link that is looked at are in range
 between : {bound len : ℕ} (start now : List Open) (i : ℕ) → AreBetween bound len start → i < length start
     → ((k : ℕ) (o : Open) → i ≤ k → get_or now k o ≡ get_or start k o) → IsBetween bound len (get_or now i no_link)
 between {bound} {len} start now i ends i_in ahead = subst (IsBetween bound len) (sym (ahead i no_link (omega arith))) (ends i no_link i_in)

@@ -1,4 +1,5 @@
--- What `allocate` says is what its trait's says, and that an allocation which passes isn't one that is refused.
+-- The contract of `allocate` says what its trait's contract says, and that an allocation that is passed on isn't
+-- refused.
 use base.Logic.{SProp, id⊢, fst∗}
 use contract.Lifetimes.{Lfts}
 use contract.Monad.{fact}

@@ -1,4 +1,5 @@
--- It asks the gate, and where that lets the allocation pass answers what the inner allocator answers, and counts the block. Assumes `Logic`.
+-- Asks the gate. If it passes the allocation on, returns what the inner allocator returns, and counts the block.
+-- Assumes `Logic`.
 use Rattle.std.proofs.Common.{◌≡◌, ℕ, ◌+◌, ◌^◌, ◌<◌, true, false, List, [], ◌∷◌, Ok, Err, refl, w64, Bor}
 use seplogic.Ra.Ura.{Ura}
 use mir.Syntax.{Ty, Args, Fn, Body, a_type, dnil, dcons}

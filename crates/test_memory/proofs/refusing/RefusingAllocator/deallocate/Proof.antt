@@ -1,4 +1,4 @@
--- It counts the block that comes back, and gives it to the inner allocator. Assumes `Logic`.
+-- Counts the block and returns it to the inner allocator. Assumes `Logic`.
 use Rattle.std.proofs.Common.{◌≡◌, ℕ, ◌+◌, ◌^◌, ◌<◌, List, [], ◌∷◌, refl, w64, Bor}
 use seplogic.Ra.Ura.{Ura}
 use mir.Syntax.{Ty, Args, Fn, a_type, dnil, dcons}
