@@ -7,8 +7,8 @@ use std::alloc::Global;
 /// Finds the indices, counted from 0, of the forest's edges among the arcs and writes them over the first of `places`.
 /// Returns their number, or the code of a [`caller_forests::CallRefusal`], which is negative.
 ///
-/// The arc at an index leads from `u` to `v` and has the weight `w` at that index. The vertices are `base` to `base + n
-/// - 1`. [`put_places`] documents which arcs are allowed, the order of the indices, and the costs.
+/// The arc at an index leads from `u` to `v` and has the weight `w` at that index. The vertices are `base` to
+/// `base + n - 1`. [`put_places`] documents which arcs are allowed, the order of the indices, and the costs.
 #[unsafe(no_mangle)]
 pub extern "C" fn boruvka_places_in(
     alloc: Global,

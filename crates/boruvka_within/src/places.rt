@@ -7,9 +7,9 @@ use region_heap::{Region, heap_within};
 /// Finds the indices, counted from 0, of the forest's edges among the arcs and writes them over the first of `places`.
 /// Returns their number, or the code of a [`caller_forests::CallRefusal`], which is negative.
 ///
-/// The arc at an index leads from `u` to `v` and has the weight `w` at that index. The vertices are `base` to `base + n
-/// - 1`. [`put_places`] documents which arcs are allowed, the order of the indices, and the costs. Its memory comes
-/// from `memory`.
+/// The arc at an index leads from `u` to `v` and has the weight `w` at that index. The vertices are `base` to
+/// `base + n - 1`. [`put_places`] documents which arcs are allowed, the order of the indices, and the costs. Its memory
+/// comes from `memory`.
 #[unsafe(no_mangle)]
 pub extern "C" fn boruvka_places_within(
     memory: Region,

@@ -54,8 +54,8 @@ fn text_of_number(code: i64) -> &'static [u8]
 /// Writes the text of an error code into the caller's buffer, as `snprintf` does. A 0 ends it, and what doesn't fit
 /// before the 0 is left out. An empty buffer stays as it is.
 ///
-/// Returns the number of bytes of the whole text, without the 0. A number that isn't an error code has the text `not an
-/// error code`. It allocates nothing.
+/// Returns the number of bytes of the whole text, without the 0. A number that isn't an error code has the text
+/// `not an error code`. It allocates nothing.
 pub fn put_fault_text(kind: i64, into: &mut [u8]) -> usize
     ensures { GivesTextOf kind into.old into.new result }
 {
