@@ -9,8 +9,8 @@ use limits::MAX_VERTICES;
 use links::Link;
 use std::alloc::{AllocError, Allocator};
 
-/// An edge of the caller's, `struct boruvka_link`. In the input its endpoints may be in either order, it may be a loop,
-/// or an endpoint may not be a vertex. In the output the lower endpoint is first.
+/// The caller's edge, `struct boruvka_link`. In the input its endpoints may be in either order, it may be a loop, or an
+/// endpoint may not be a vertex. In the output the lower endpoint is first.
 #[repr(C)]
 #[derive(Clone, Copy)]
 pub struct GivenLink {

@@ -12,7 +12,8 @@
 //!
 //! What it promises:
 //! - If a text is valid, reading it returns the graph that it describes, whether it comes as a text, a source or
-//!   pieces. Otherwise the error names the first invalid line and what is wrong with it ([`GrFault`]).
+//!   pieces. If it is invalid, the error names the first invalid line and what is wrong with it ([`GrFault`]). A failed
+//!   read, too long a text and out of memory have errors of their own ([`ReadFault`]).
 //! - While a source is read, a keeper may replace the edges by fewer that cover them ([`Keep`]). Nothing else changes.
 //! - The text of a forest is written byte for byte, or the error counts how many of its bytes were. This also holds if
 //!   several threads write it.

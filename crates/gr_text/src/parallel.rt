@@ -57,7 +57,7 @@ pub(crate) fn append_arc_lines<R: Threads + Sync, A: Allocator>(
     Some(count + found.lines)
 }
 
-// Does the same with the caller's thread alone.
+// Does the same with only the caller's thread.
 fn append_by_one<A: Allocator>(
     size: ProblemSize,
     bytes: &[u8],

@@ -38,7 +38,7 @@ pub fn read_graph<S: Source, A: Allocator>(alloc: A, source: &mut S) -> Result<G
 /// Reads a graph from a source of at most `limit` bytes.
 ///
 /// The source is read to its end, up to the first error, or until it gave more than `limit` bytes. If a read fails, the
-/// error of a line that ended before comes first, then `Source`. The source is read 64 KiB at a time into an array on
+/// error is `Source`, unless a line that ended before is invalid. The source is read 64 KiB at a time into an array on
 /// the stack. The memory is that of the edges, and the time is linear in the number of bytes.
 pub fn read_graph_upto<S: Source, A: Allocator>(
     alloc: A,
@@ -54,9 +54,9 @@ pub fn read_graph_upto<S: Source, A: Allocator>(
 
 /// Reads a graph from a source of at most 2^40 bytes. The graph has only those edges that a keeper keeps.
 ///
-/// Does what [`read_graph`] does, and calls the keeper after each read, if the problem line has come. If the keeper
-/// fails, the error is `Memory`. The keeper must not know of any edges yet. The memory is that of the kept edges and of
-/// the edges of one read, in addition to the keeper's own.
+/// Does what [`read_graph`] does, and calls the keeper after each read as soon as the problem line has come. If the
+/// keeper fails, the error is `Memory`. The keeper must not know of any edges yet. The memory is that of the kept edges
+/// and of the edges of one read, in addition to the keeper's own.
 pub fn read_graph_kept<K: Keep<A>, S: Source, A: Allocator>(
     keeper: &mut K,
     alloc: A,

@@ -104,8 +104,8 @@ impl<A: Allocator + Copy> Parts<A> {
         ensures added { Adds self result (S.state source.old) (S.state source.new) }
         ensures files { IfOk result (λ parts. parts.files ≡ self.files + 1) }
 
-        // So if no read fails, it returns the first error of an invalid file. A valid file is rejected only for its
-        // number of vertices, or if there is no memory.
+        // So if no read fails, an invalid file gives its first error, and a valid one is rejected only for its number
+        // of vertices. Both may run out of memory.
         ensures malformed { RefusesFile result (S.state source.old) (S.state source.new) }
         ensures lawful { AcceptsFile result (S.state source.old) (S.state source.new) }
     {
