@@ -9,7 +9,7 @@ use Rattle.gr_text.specs.Reader.{ReaderValue, HasReadBut}
 use Rattle.gr_text.specs.Sourced.{IsReadOf}
 use Rattle.gr_text.specs.declared.faults.ReadFault.{ReadFault}
 
--- Of all edges that were read, these are kept: they cover all of them, and `dropped` edges were dropped. If `drops` is
+-- These are kept of all edges that were read: they cover all of them, and `dropped` edges were dropped. If `drops` is
 -- false, none was dropped.
 pub record AreKeptOf (drops : Type 0) (dropped : ℕ) (all kept : List Link) : Type 0 where
   pub cover : IsCoveredBy all kept

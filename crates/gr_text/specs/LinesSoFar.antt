@@ -134,8 +134,8 @@ IsLack (fault.Source number') number lines = ⊥
 IsLack fault.TooLong number lines = ⊥
 IsLack fault.Memory number lines = ⊥
 
--- for any whole lines of which this is stored: this is their graph, or this is missing after them, at the line with this
--- number
+-- for any whole lines of which this is stored: this is their graph, or this is missing after them, at the line with
+-- this number
 abbrev pub GivesGraph : Result GraphValue ReadFault → ℕ → LinesSoFarValue → Type 0
 GivesGraph result number kept =
     (swap : Swap) (lines : List (List ℕ)) → KeepsLinesBut swap kept lines
