@@ -16,7 +16,7 @@ use Rattle.boruvka.specs.Streams.{Standard}
 use Rattle.boruvka.specs.declared.joined.JoinFault.{JoinFault}
 use Rattle.boruvka.specs.declared.joined.JoinFault.TheVariants.{Unopened, Part}
 
--- a file as a source: of the input, its visible state; of a FILE, nothing is known
+-- a file as a source: the input with its visible state, or a FILE, of which nothing is known
 abbrev pub source_of : SourceState → Option (List ℕ) → SourceState
 source_of input None = input
 source_of input (Some name) = uncounted

@@ -80,10 +80,10 @@ Ran found says why (Err (fault.Read fault)) = IsUnread fault
 Ran found says why (Err (fault.Write written)) = IsBrokenOff found says written
 Ran found says why (Err other) = IsUnsolved (λ graph. why graph other)
 
--- the links, in the order of their keys, are a spanning forest of the graph
+-- the edges, in the order of their keys, are a spanning forest of the graph
 abbrev pub IsSpanning : GraphValue → List Link → Type 0
 IsSpanning graph forest = IsAscending forest × IsSpanningForestOf graph.links forest
 
--- the links are the graph's minimum spanning forest
+-- the edges are the graph's minimum spanning forest
 abbrev pub IsLeast : GraphValue → List Link → Type 0
 IsLeast graph forest = IsForestOf graph.links forest
