@@ -1,14 +1,14 @@
-//! The program that measures the steps of a run by one thread: it reads a `.gr` text from standard input, solves it, and
-//! writes the forest's text to standard output, as `boruvka --plain` does. What each step took goes to standard error,
-//! in microseconds.
+//! Measures the steps of a run with one thread. The program reads a `.gr` text from standard input, finds the forest,
+//! and writes its text to standard output, as `boruvka --plain` does. It prints to standard error how many microseconds
+//! each step took.
 //!
 //! ```text
 //!   stdin ──► read_graph ──► forest_of ──► write_forest ──► stdout
 //! ```
 //!
-//! What it promises: nothing of times; the gate compares what it writes.
+//! It promises nothing about times. `make test` compares its output.
 //!
-//! Where to start a change: another step, here; `benches/run.py` and `benches/marks.py` read the three times.
+//! To measure another step, change this file, and `benches/run.py` and `benches/marks.py`, which read the three times.
 #![tactic(auto)]
 
 use byte_streams::Uncounted;

@@ -1,4 +1,4 @@
--- What the program does, by what its words ask for.
+-- What the program does, given what its arguments ask for.
 use Rattle.std.specs.Prelude.{Result, OnOk, Bool, true, false, ⊤}
 use Rattle.std.proofs.Common.{◌≡◌, ◌≤◌, ℕ, ◌⊎◌, List, [], ◌∷◌, length, slice_get, Option, None, Some, inl, inr, Ok, Err, refl, arith}
 use Rattle.byte_streams.specs.Streams.{SourceState, SinkState, IsFlushed, HadNoSetback}
@@ -17,9 +17,9 @@ use Rattle.program_words.specs.Statuses.{status_for}
 use Rattle.boruvka.specs.Asked.{Asked, EndsAs, EndsOnFiles, EndsOn}
 use Rattle.boruvka.specs.Status.{EndsOverWorkers, LeavesOutput, IsUntouched, report_of, status_of_run}
 
--- ---- want of memory before anything was read or written
+-- ---- out of memory before anything was read or written
 
--- the line that says so
+-- the line for this
 abbrev no_memory : List ℕ
 no_memory = fault_line (fault.Read read.Memory)
 
@@ -66,7 +66,7 @@ wants_memory_of (file ∷ next ∷ files) asked s a e f text = inl (record { sta
 
 -- ---- which files there are
 
--- one file at most: its name's alone
+-- if there is at most one file, it is the one with this name
 pub only_file : {F : Type 0} (items : List (Option F)) (name : F) → length items ≤ 1 → Some (Some name) ≡ slice_get items 0 → items ≡ Some name ∷ []
 only_file [] name few is = absurd cc
 only_file (item ∷ []) name few is =
@@ -74,22 +74,22 @@ only_file (item ∷ []) name few is =
     rw same refl
 only_file (item ∷ next ∷ items) name few is = absurd (omega arith)
 
--- ---- lines
+-- ---- runs over lines
 
--- a run whose report is written ends as its answer says
+-- a run whose report is written has the status of its result
 pub status_by_report : {X : Type 0} (status : ℕ) (ended : Result Report RunFault) (result : Result (Report × X) RunFault)
     → ended ≡ report_of result → status ≡ status_of_run ended → status ≡ status_of_run result
 status_by_report a1 a2 a3 a4 a5 = search arith
 
 -- ---- the status
 
--- a fault is the workers'
+-- the error is the workers'
 abbrev pub IsTheirs : RunFault → Type 0
 IsTheirs (fault.Rounds round) = ⊤
 IsTheirs (fault.Missed link) = ⊤
 IsTheirs other = ⊥
 
--- each fault has one of five statuses, and just the workers' the last
+-- each error has one of five statuses, and only the workers' errors have the last one
 pub record HasStatus (why : RunFault) (status : ℕ) : Type 0 where
   pub some : 1 ≤ status
   pub few : status ≤ 5
@@ -101,7 +101,7 @@ own_status why status some few = record { some = some; few = omega arith; own = 
 pub status_bound : (why : RunFault) → HasStatus why (status_for why)
 status_bound a1 = search (arith, own_status)
 
--- a run that no fault of the workers' ends has another status than theirs
+-- if a run doesn't end with an error of the workers, its status isn't theirs
 pub own_end : {X : Type 0} (found : ForestFact) (says : AnswerFact X) (why : GraphValue → RunFault → Type 0) (result : Result X RunFault) (status : ℕ) (before after : Streams)
     → status ≡ status_of_run result → Ran found says why result before after
     → ((graph : GraphValue) (round : ℕ) → ¬ why graph (fault.Rounds round)) → ((graph : GraphValue) (link : Link) → ¬ why graph (fault.Missed link)) → status ≤ 4
@@ -116,16 +116,16 @@ own_end found says why (Err (fault.Write written)) status before after is ran no
 pub run_bound : {X : Type 0} (result : Result X RunFault) (status : ℕ) → status ≡ status_of_run result → status ≤ 5
 run_bound a1 a2 a3 = search (arith, status_bound)
 
--- a run of status 0 ended well, and so left its sink flushed
+-- a run with status 0 succeeded, and so left its sink flushed
 pub flushed_at_end : {X : Type 0} (result : Result X RunFault) (status : ℕ) (unflushed : Option (List ℕ)) → status ≡ status_of_run result
     → OnOk result (IsFlushed unflushed) → status ≡ 0 → IsFlushed unflushed
 flushed_at_end a1 a2 a3 a4 a5 a6 = search (arith, status_bound)
 
--- neither 0 nor 3 is the status of a run that wrote nothing
+-- a run that wrote nothing has neither status 0 nor status 3
 pub loud : (status : ℕ) → (status ≡ 0) ⊎ (status ≡ 3) → LeavesOutput status → ⊥
 loud a1 a2 a3 = search arith
 
--- at a status of those nothing was written
+-- at one of those statuses nothing was written
 pub silent_run : {X : Type 0} (found : ForestFact) (says : AnswerFact X) (why : GraphValue → RunFault → Type 0)
     (result : Result X RunFault) (status : ℕ) (s t : SourceState) (a b : SinkState) → status ≡ status_of_run result
     → Ran found says why result (streams s a) (streams t b) → LeavesOutput status → IsUntouched a b
@@ -137,11 +137,11 @@ silent_run found says why (Err (fault.Missed link)) status s t a b is ran silent
 silent_run found says why (Err fault.Memory) status s t a b is ran silent = ran.nothing
 silent_run found says why (Err (fault.Write written)) status s t a b is ran silent = absurd (loud status (inr is) silent)
 
--- a lawful file whose links can be cut so has its forest, or memory was wanting, or the sink had a setback
+-- a valid file whose edges can be split like this has its forest, or there was no memory, or the sink failed
 pub done_status : {X : Type 0} (result : Result X RunFault) (status : ℕ) (a b : SinkState) → status ≡ status_of_run result → IsUnhindered result a b
     → (status ≡ 0) ⊎ ((status ≡ 4) ⊎ ((status ≡ 3) × ¬ HadNoSetback a b))
 done_status a1 a2 a3 a4 a5 a6 = search arith
 
--- a file that means nothing is refused, or memory was wanting
+-- an invalid file gives an error of the file, or there was no memory
 pub refused_status : {X : Type 0} (bytes : List ℕ) (result : Result X RunFault) (status : ℕ) → status ≡ status_of_run result → IsFirstFaultOf bytes result → (status ≡ 1) ⊎ (status ≡ 4)
 refused_status a1 a2 a3 a4 a5 = search arith

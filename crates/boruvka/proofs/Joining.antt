@@ -1,4 +1,4 @@
--- Several files, whose links are joined: one file after the other, and how the run ends.
+-- Several files whose edges are joined: one file after another, and how the run ends.
 use Rattle.std.proofs.Common.{◌≡◌, ◌≢◌, ◌≤◌, ◌<◌, ◌+◌, ℕ, ◌∙◌, List, [], ◌∷◌, ◌++◌, length, get_or, take, drop, map, All, Option, None, Some, Bool, true, false, inl, inr, Result, Ok, Err, refl, sym, ap, subst, arith}
 use Rattle.std.specs.Prelude.{IsSome, IsErrAnd, MatchResult, is_some, not, ◌||◌, option_map}
 use Rattle.std.proofs.lemmas.List.{drop_more, get_or-map, length-map, length-take, take-append-drop, take_more}
@@ -23,7 +23,7 @@ use Rattle.boruvka.proofs.Endings.{loud, status_bound}
 
 -- ---- one more file
 
--- what a source does to the parts, as a file does it
+-- what a source does to the parts is what a file does
 pub adds_from : (s t : SourceState) (old : PartsValue) (added : Result PartsValue PartFault) (result : Result PartsValue JoinFault)
     → MatchResult added (λ new. result ≡ Ok new) (λ why. IsErrAnd result (λ fault. fault ≡ Part why)) → Adds old added s t → AddsFrom s t old result
 adds_from s t old (Ok new) result is adds = rw is adds
@@ -41,7 +41,7 @@ inputs_more [] (Some name) = refl
 inputs_more (None ∷ files) file = omega (arith, inputs_more files file)
 inputs_more (Some name ∷ files) file = inputs_more files file
 
--- files that aren't the input gave their graphs however that is left
+-- files that aren't the input gave their graphs, however the input is left
 graphs_apart : (s t u : SourceState) (files : List (Option (List ℕ))) (graphs : List GraphValue) → inputs files ≡ 0 → GiveGraphs s t files graphs → GiveGraphs s u files graphs
 graphs_apart s t u [] [] none each = tt
 graphs_apart s t u (None ∷ files) (g ∷ graphs) none each = absurd (omega arith)
@@ -56,7 +56,7 @@ graphs_more s t (f ∷ files) (g ∷ graphs) file graph (first, each) more = (fi
 graphs_more s t [] (g ∷ graphs) file graph each more = absurd each
 graphs_more s t (f ∷ files) [] file graph each more = absurd each
 
--- how the input is left behind one more file: as before behind a FILE
+-- how the input is left after one more file: a FILE doesn't change it
 abbrev pub left_by : Option (List ℕ) → SourceState → SourceState → SourceState
 left_by None old new = new
 left_by (Some name) old new = old
@@ -66,26 +66,26 @@ abbrev pub times : Bool → ℕ
 times true = 1
 times false = 0
 
--- the parts stand for the files' graphs
+-- the parts represent the files' graphs
 abbrev pub AreJoined : SourceState → SourceState → List (Option (List ℕ)) → PartsValue → Type 0
 AreJoined before after files parts = (graphs : List GraphValue) × GiveGraphs before after files graphs × ArePartsOf graphs parts
 
--- what is kept of the files: what they gave, and that the input is as it was where it isn't among them
+-- what is stored of the files: what they gave, and that the input is as it was if it isn't among them
 abbrev pub Keeps : SourceState → List (Option (List ℕ)) → Bool → PartsValue → SourceState → Type 0
 Keeps s before was_read parts left = (was_read ≡ false → left ≡ s) × AreJoined s left before parts
 
--- the graphs before one more file, however the input is left behind it
+-- the graphs before one more file, however that leaves the input
 each_left : (s left new_left : SourceState) (before : List (Option (List ℕ))) (file : Option (List ℕ)) (was_read : Bool) (graphs : List GraphValue)
     → inputs before ≡ times was_read → (file ≡ None → was_read ≡ false) → GiveGraphs s left before graphs → GiveGraphs s (left_by file left new_left) before graphs
 each_left a1 a2 a3 a4 a5 a6 a7 a8 a9 a10 = search (arith, graphs_apart)
 
--- what a file's source did it did from the first state of the input
+-- what a file's source did, it did from the first state of the input
 from_first : (R : SourceState → SourceState → Type 0) (s now new_left left : SourceState) (file : Option (List ℕ)) (was_read : Bool)
     → (file ≡ None → was_read ≡ false) → (was_read ≡ false → now ≡ s)
     → R (source_of now file) (source_of new_left file) → R (source_of s file) (source_of (left_by file left new_left) file)
 from_first a1 a2 a3 a4 a5 a6 a7 a8 a9 a10 = search arith
 
--- a file that came to the parts
+-- a file that was added to the parts
 step_ok : (s now new_left left : SourceState) (before : List (Option (List ℕ))) (file : Option (List ℕ)) (was_read : Bool) (old new : PartsValue)
     → (was_read ≡ false → now ≡ s) → inputs before ≡ times was_read → Keeps s before was_read old left
     → AddsFile file was_read now new_left old (Ok new) → AreJoined s (left_by file left new_left) (before ++ file ∷ []) new
@@ -101,7 +101,7 @@ step_ok s now new_left left before file was_read old new fresh count (same, (gra
 some_before : {X : Type 0} (xs : List X) (n : ℕ) → n ≡ length xs → 0 < n → xs ≢ []
 some_before xs n long some = search arith
 
--- a file that isn't a part stops the run
+-- a file that can't be joined stops the run
 step_stops : (s now new_left left : SourceState) (before : List (Option (List ℕ))) (file : Option (List ℕ)) (was_read : Bool) (old : PartsValue) (why : PartFault)
     → (was_read ≡ false → now ≡ s) → old.files ≡ length before
     → AddsFile file was_read now new_left old (Err (Part why)) → StopsAfter before old.vertices file (Part why) s (left_by file left new_left)
@@ -125,7 +125,7 @@ pub inputs_step : (before : List (Option (List ℕ))) (file : Option (List ℕ))
     → inputs before ≡ times was_read → (file ≡ None → was_read ≡ false) → inputs (before ++ file ∷ []) ≡ times now_read
 inputs_step a1 a2 a3 a4 a5 a6 a7 = search (arith, inputs_more)
 
--- how the input is left behind a file, where it was read or wasn't
+-- how the input is left after a file, whether it was read before or not
 fresh_left : (was_read now_read : Bool) (file : Option (List ℕ)) (s left new_left : SourceState) → now_read ≡ (was_read || not (is_some file))
     → (was_read ≡ false → left ≡ s) → now_read ≡ false → left_by file left new_left ≡ s
 fresh_left a1 a2 a3 a4 a5 a6 a7 a8 a9 = search arith
@@ -162,7 +162,7 @@ stops_at s now new_left left files before behind file was_read old (Part why) sp
 
 -- ---- how the input is left
 
--- a FILE that was opened is a source of which nothing is known, and leaves the input alone
+-- a FILE that was opened is a source of which nothing is known, and it doesn't change the input
 pub adds_named : (file : Option (List ℕ)) (name : List ℕ) (was_read : Bool) (before after : SourceState) (old : PartsValue) (added : Result PartsValue JoinFault)
     → file ≡ Some name → AddsFrom uncounted uncounted old added → AddsFile file was_read before after old added
 adds_named a1 a2 a3 a4 a5 a6 a7 a8 a9 = search (arith, adds_file)
@@ -194,19 +194,19 @@ stops_left s now real files before behind file was_read old why split leaves fre
     subst (StopsAt files file why s) (stop_real file was_read old why now real leaves adds)
     (stops_at s now real now files before behind file was_read old why split fresh count long keeps adds)
 
--- once all files were read
+-- after all files were read
 pub added_left : (s real : SourceState) (files : List (Option (List ℕ))) (was_read : Bool) (parts : PartsValue) → inputs files ≡ times was_read
     → Keeps s files was_read parts real → AreAdded files parts s real
 added_left s real files was_read parts count keeps = search (arith, once, none_read)
 
--- a file that came to the parts was the input for the first time
+-- if an added file was the input, it was the input for the first time
 pub added_unread : (file : Option (List ℕ)) (was_read : Bool) (now real : SourceState) (old new : PartsValue)
     → AddsFile file was_read now real old (Ok new) → file ≡ None → was_read ≡ false
 added_unread a1 a2 a3 a4 a5 a6 a7 = search arith
 
--- ---- place by place
+-- ---- file by file
 
--- a file that has a name has it under a function
+-- a function on the contents of an option doesn't change whether there are any
 pub is_some-under : {F Y : Type 0} (f : F → Y) (o : Option F) → is_some o ≡ is_some (option_map f o)
 is_some-under a1 a2 = search arith
 
@@ -225,7 +225,7 @@ module _ {X Y : Type 0} (f : X → Y) where
   here_is : (xs : List X) (i : ℕ) (x : X) → i < length xs → x ≡ get_or xs i x → get_or (map f xs) i (f x) ≡ f x
   here_is xs i x within here = get_or-map f xs i x (f x) within ∙ ap f (sym here)
 
-  -- a list around a place of it, and up to it
+  -- a list around an index, and up to it
   pub split_at : (xs : List X) (i : ℕ) (x : X) → i < length xs → x ≡ get_or xs i x → map f xs ≡ take i (map f xs) ++ f x ∷ drop (i + 1) (map f xs)
   split_at xs i x within here =
       sym (take-append-drop i (map f xs))
@@ -238,7 +238,7 @@ module _ {X Y : Type 0} (f : X → Y) where
   pub length_before : (xs : List X) (i : ℕ) → i < length xs → length (take i (map f xs)) ≡ i
   length_before xs i within = omega (arith, length-take i (map f xs), long xs i within)
 
--- the input behind one more file: as it was, where none of them is the input
+-- the input after one more file: as it was, if none of them is the input
 pub fresh_more : {F I : Type 0} (was_read now_read : Bool) (file : Option F) (s t u : I) → now_read ≡ (was_read || not (is_some file))
     → (was_read ≡ false → t ≡ s) → (IsSome file → u ≡ t) → now_read ≡ false → u ≡ s
 fresh_more a1 a2 a3 a4 a5 a6 a7 a8 a9 a10 = search arith
@@ -256,7 +256,7 @@ some_here files i file all within here = subst IsSome (sym here) (all i file wit
 pub stop_bound : (why : JoinFault) → (1 ≤ status_for_stop why) × (status_for_stop why ≤ 4)
 stop_bound a1 = search (arith, status_bound)
 
--- so has the writing of a forest's text, or 0
+-- writing a forest's text has one of these, or 0
 pub forest_bound : (graph : GraphValue) (result : Result Report RunFault) (status : ℕ) (a b : SinkState) → status ≡ status_of_run result
     → WritesForestOf graph result a b → status ≤ 4
 forest_bound a1 a2 a3 a4 a5 a6 a7 = search arith
@@ -284,7 +284,7 @@ pub stop_ends : (files : List (Option (List ℕ))) (wants : Bool) (status : ℕ)
     → IsWritten (stop_line file why) before.errors after.errors → EndsOnSeveral files wants status before after
 stop_ends files wants status before after file why stops is same told = search (arith, took_nothing)
 
--- the text was written of some graph's forest
+-- the text of some graph's forest was written
 pub wrote : (input real : SourceState) (files : List (Option (List ℕ))) (a b : SinkState) (parts : PartsValue) (result : Result Report RunFault)
     → AreAdded files parts input real
     → ((graphs : List GraphValue) → ArePartsOf graphs parts → WritesForestOf (joined_graph parts.vertices graphs) result a b)

@@ -1,4 +1,4 @@
--- What is asked for, and that it was done.
+-- What is requested, and that it was done.
 use Rattle.std.specs.Prelude.{◌≡◌, ◌≢◌, ℕ, ◌⊎◌, List, [], ◌∷◌, map, Option, None, Some, Bool, true, false, codes, option_map, string_bytes}
 use Rattle.byte_streams.specs.Streams.{SinkState, Took}
 use Rattle.clap.specs.Words.{IsAmong}
@@ -11,7 +11,8 @@ use Rattle.boruvka.specs.Joined.{EndsOnSeveral}
 use Rattle.boruvka.specs.Status.{EndsOverWorkers, EndsWith, IsUntouched, uncounted}
 use Rattle.boruvka.specs.Streams.{Standard, with_source}
 
--- what lawful words ask for: so many workers and shards, or no workers; with the report or without; on these files, each a FILE or the input
+-- what valid arguments ask for: this many workers and shards, or no workers; a report or none; and these files, each a
+-- FILE or the input
 pub record Asked : Type 0 where
   pub workers : ℕ
   pub shards : ℕ
@@ -19,7 +20,6 @@ pub record Asked : Type 0 where
   pub report : Bool
   pub files : List (Option (List ℕ))
 
--- the files that are asked for
 abbrev pub files_of : Options → List (Option (List ℕ))
 files_of chosen = map (option_map string_bytes) chosen.files.items
 
@@ -32,41 +32,40 @@ asked_of chosen = record {
   files = files_of chosen;
 }
 
--- a run without workers, or over them
+-- a run without workers, or with them
 abbrev pub EndsAs : Bool → Asked → ℕ → Standard → Standard → Type 0
 EndsAs true asked = EndsWith asked.report
 EndsAs false asked = EndsOverWorkers asked.workers asked.shards asked.report
 
--- what is done with a FILE: it can't be opened, whose line is written and nothing else, or it is run on, and nothing is
--- known of what it has; without a FILE the input is run on
+-- What is done with a FILE. Either it can't be opened, and only the line about that is written; or it is run on, and
+-- nothing is known about its contents. Without a FILE, the run is on the input.
 abbrev pub EndsOn : Option (List ℕ) → Asked → ℕ → Standard → Standard → Type 0
 EndsOn None asked status before after = EndsAs asked.plain asked status before after
 EndsOn (Some name) asked status before after =
     ((status ≡ 3) × IsUntouched before.sink after.sink × IsWritten (unopened_line name) before.errors after.errors)
     ⊎ EndsAs asked.plain asked status (with_source uncounted before) (with_source uncounted after)
 
--- memory was refused before a run began: the line that says so is written and nothing else, and the input is left alone
+-- there was no memory before a run began: only the line that says so is written, and the input isn't read
 pub record EndsBefore (status : ℕ) (before after : Standard) : Type 0 where
   pub status_is : status ≡ 4
   pub unread : after.source ≡ before.source
   pub nothing : IsUntouched before.sink after.sink
   pub told : IsWritten (fault_line fault.Memory) before.errors after.errors
 
--- what is done with files: without one the input is run on, and with one that file; of several the links are joined, without
--- workers, if memory wasn't refused before
+-- What is done with files. Without one, the run is on the input; with one, on that file. The edges of several files are
+-- joined, without workers, unless there was no memory before.
 abbrev pub EndsOnFiles : List (Option (List ℕ)) → Asked → ℕ → Standard → Standard → Type 0
 EndsOnFiles [] asked = EndsOn None asked
 EndsOnFiles (file ∷ []) asked = EndsOn file asked
 EndsOnFiles (file ∷ next ∷ files) asked = λ status before after.
     EndsBefore status before after ⊎ EndsOnSeveral (file ∷ next ∷ files) asked.report status before after
 
--- what is asked for was done
 abbrev pub Obeys : Asked → ℕ → Standard → Standard → Type 0
 Obeys asked = EndsOnFiles asked.files asked
 
--- ---- by what the words ask for, the program's name first
+-- ---- what the arguments ask for; the first one is the program's name
 
--- what lawful words ask for: where they don't say them, 2 workers and 64 shards
+-- what valid arguments ask for; the defaults are 2 workers and 64 shards
 abbrev pub asked_by : List (List ℕ) → Asked
 asked_by words = record {
   workers = number_or (given words (codes "workers")) 2;
@@ -76,23 +75,24 @@ asked_by words = record {
   files = files_named words;
 }
 
--- words that ask for this alone, as the help or the version
+-- arguments that only ask for this, such as the help or the version
 abbrev pub AskFor : ErrorKind → List (List ℕ) → Type 0
 AskFor kind words = refusals words ≡ kind ∷ []
 
--- words that are refused, and ask neither for the help nor for the version
+-- invalid arguments that ask neither for the help nor for the version
 abbrev pub AreWrong : List (List ℕ) → Type 0
 AreWrong words = (refusals words ≢ []) × ((kind : ErrorKind) → IsAmong kind (refusals words) → IsMistake kind)
 
--- the status of words that are refused: 2, or 4 where memory was wanting
+-- the exit status for invalid arguments: 2, or 4 if there was no memory
 abbrev pub RefusesWords : ℕ → Type 0
 RefusesWords status = (status ≡ 2) ⊎ (status ≡ 4)
 
--- what the help and the version do to the output: it took the text, or a part of it and then had a setback, or memory was wanting
+-- what the help and the version do to the output: it took the text, or a part of it before it failed, or there was no
+-- memory
 abbrev pub HelpEnds : ℕ → SinkState → SinkState → Type 0
 HelpEnds status before after = (text : List ℕ) × (((status ≡ 0) × Took 0 text before after)
     ⊎ (((status ≡ 3) × Took 1 text before after) ⊎ ((status ≡ 4) × IsUntouched before after)))
 
--- and words that are refused, whatever they ask for: as the help does, or as words that leave the output as it was
+-- the effect of invalid arguments, whatever they ask for: that of the help, or the output stays as it was
 abbrev pub EndsRefused : {O : Type 0} → (O → SinkState) → ℕ → O → O → Type 0
 EndsRefused sink_of status before after = HelpEnds status (sink_of before) (sink_of after) ⊎ (RefusesWords status × (after ≡ before))

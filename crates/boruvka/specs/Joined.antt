@@ -1,4 +1,4 @@
--- How the program ends on several files, whose links are joined.
+-- How the program ends on several files, whose edges are joined.
 use Rattle.std.specs.Prelude.{◌≡◌, ◌≢◌, ◌≤◌, ◌<◌, ℕ, ◌+◌, ◌⊎◌, ⊤, List, [], ◌∷◌, ◌++◌, All, Option, None, Some, Bool, true, false, Result, Ok, Err, codes}
 use Rattle.limits.specs.declared.TheConstants.{MAX_BYTES}
 use Rattle.byte_streams.specs.Streams.{SourceState, Gave}
@@ -16,7 +16,7 @@ use Rattle.boruvka.specs.Streams.{Standard}
 use Rattle.boruvka.specs.declared.joined.JoinFault.{JoinFault}
 use Rattle.boruvka.specs.declared.joined.JoinFault.TheVariants.{Unopened, Part}
 
--- what is known of a file as a source: of the input, which is no FILE, what is known of that; of a FILE nothing
+-- a file as a source: the input with its visible state, or a FILE, of which nothing is known
 abbrev pub source_of : SourceState → Option (List ℕ) → SourceState
 source_of input None = input
 source_of input (Some name) = uncounted
@@ -27,44 +27,44 @@ inputs [] = 0
 inputs (None ∷ files) = 1 + inputs files
 inputs (Some name ∷ files) = inputs files
 
--- from `before` to `after` of the input, the file was read to its end, and means this graph
+-- the file was read to its end, as the input changed from `before` to `after`, and describes this graph
 pub record GivesGraph (before after : SourceState) (file : Option (List ℕ)) (graph : GraphValue) : Type 0 where
   pub bytes : List ℕ
   pub read : Gave 0 1 bytes (source_of before file) (source_of after file)
   pub means : IsFileOf bytes graph
 
--- each file gave the graph at its place
+-- each file gave the graph with its index
 abbrev pub GiveGraphs : SourceState → SourceState → List (Option (List ℕ)) → List GraphValue → Type 0
 GiveGraphs before after [] [] = ⊤
 GiveGraphs before after (file ∷ files) (graph ∷ graphs) = GivesGraph before after file graph × GiveGraphs before after files graphs
 GiveGraphs before after _ _ = ⊥
 
--- the files gave these graphs, each of so many vertices, and the input is among them once at most
+-- the files gave these graphs, each with this many vertices, and the input is at most once among them
 pub record AreParts (before after : SourceState) (files : List (Option (List ℕ))) (vertices : ℕ) (graphs : List GraphValue) : Type 0 where
   pub each : GiveGraphs before after files graphs
   pub one_number : All (λ graph. graph.vertices ≡ vertices) graphs
   pub once : inputs files ≤ 1
 
--- the input is left as it was if it is none of the files
+-- if the input isn't among the files, it stays as it was
 abbrev pub LeavesInput : List (Option (List ℕ)) → SourceState → SourceState → Type 0
 LeavesInput files before after = inputs files ≡ 0 → after ≡ before
 
--- ---- a file that is no part
+-- ---- a file that can't be joined
 
--- why a file stops the run that comes after those: it can't be opened, as the input can't a second time; or it wasn't read, or
--- memory was refused for its links; or it has another number of vertices than they have
+-- Why a file stops the run after `others`. It can't be opened, which includes the input for a second time. Or it wasn't
+-- read, or there was no memory for its edges, or its number of vertices differs from theirs.
 abbrev pub StopsAfter : List (Option (List ℕ)) → ℕ → Option (List ℕ) → JoinFault → SourceState → SourceState → Type 0
 StopsAfter others vertices file Unopened before after = file ≡ None → 0 < inputs others
 StopsAfter others vertices file (Part (part.Read why)) before after = IsReadOf MAX_BYTES (Err why) (source_of before file) (source_of after file)
 StopsAfter others vertices file (Part (part.OtherVertices other wanted)) before after =
     (graph : GraphValue) × GivesGraph before after file graph × (other ≡ graph.vertices) × (wanted ≡ vertices) × (other ≢ wanted) × (others ≢ [])
 
--- the status at such a file
+-- the exit status if a file stops the run
 abbrev pub status_for_stop : JoinFault → ℕ
 status_for_stop Unopened = 3
 status_for_stop (Part why) = status_for_part why
 
--- what a file is called
+-- the name of a file in messages
 abbrev pub name_of : Option (List ℕ) → List ℕ
 name_of None = codes "-"
 name_of (Some name) = name
@@ -87,19 +87,19 @@ pub record StopsAt (files : List (Option (List ℕ))) (file : Option (List ℕ))
 
 -- ---- one more file
 
--- one more part from a source, which came to the others or stops the run
+-- one more part from a source: it was added to the others, or it stops the run
 abbrev pub AddsFrom : SourceState → SourceState → PartsValue → Result PartsValue JoinFault → Type 0
 AddsFrom before after old (Ok new) = IsAdded old new before after
 AddsFrom before after old (Err Unopened) = ⊥
 AddsFrom before after old (Err (Part why)) = Adds old (Err why) before after
 
--- the same from a file: FILE is opened, and the input is read, unless it was before, when it is left alone
+-- the same from a file: a FILE is opened, and the input is read, unless it was read before; then it is left alone
 abbrev pub AddsFile : Option (List ℕ) → Bool → SourceState → SourceState → PartsValue → Result PartsValue JoinFault → Type 0
 AddsFile file was_read before after old (Err Unopened) = (file ≡ None → was_read ≡ true) × (after ≡ before)
 AddsFile file was_read before after old other =
     (file ≡ None → was_read ≡ false) × AddsFrom (source_of before file) (source_of after file) old other
 
--- the parts stand for the files' graphs, and the input is left as it was if it isn't among them
+-- the parts represent the files' graphs; if the input isn't among the files, it stays as it was
 pub record AreAdded (files : List (Option (List ℕ))) (added : PartsValue) (before after : SourceState) : Type 0 where
   pub graphs : List GraphValue
   pub parts : AreParts before after files added.vertices graphs
@@ -108,8 +108,8 @@ pub record AreAdded (files : List (Option (List ℕ))) (added : PartsValue) (bef
 
 -- ---- how the run ends
 
--- all files were read, and the text of the forest of their links together was written, or a part of it, or nothing for want
--- of memory
+-- All files were read, and the text of the forest of all their edges was written, or a part of it. If there was no
+-- memory, nothing was written.
 pub record EndsJoined (files : List (Option (List ℕ))) (wants : Bool) (status : ℕ) (before after : Standard) : Type 0 where
   pub vertices : ℕ
   pub graphs : List GraphValue
@@ -120,7 +120,7 @@ pub record EndsJoined (files : List (Option (List ℕ))) (wants : Bool) (status 
   pub written : WritesForestOf (joined_graph vertices graphs) result before.sink after.sink
   pub reported : IsReported wants result before.errors after.errors
 
--- a file stopped the run: its line is written, and nothing else
+-- a file stopped the run: only its line was written
 pub record EndsAtFile (files : List (Option (List ℕ))) (status : ℕ) (before after : Standard) : Type 0 where
   pub file : Option (List ℕ)
   pub why : JoinFault
@@ -129,6 +129,6 @@ pub record EndsAtFile (files : List (Option (List ℕ))) (status : ℕ) (before 
   pub nothing : IsUntouched before.sink after.sink
   pub told : IsWritten (stop_line file why) before.errors after.errors
 
--- a run on several files, whose report is wanted or not, had this status, and did to its streams what it says
+-- the status of a run on several files, with or without a report, and what it did to its streams
 abbrev pub EndsOnSeveral : List (Option (List ℕ)) → Bool → ℕ → Standard → Standard → Type 0
 EndsOnSeveral files wants status before after = EndsJoined files wants status before after ⊎ EndsAtFile files status before after

@@ -8,7 +8,7 @@ use Rattle.plain_run.specs.Outcomes.{Streams, streams}
 use Rattle.boruvka.specs.declared.progress.Watched.{Watched}
 use Rattle.boruvka.specs.declared.standard.StandardStreams.{StandardStreams}
 
--- the program's three streams, as each is known
+-- the states of the three streams, as far as they are visible
 pub record Standard : Type 0 where
   pub source : SourceState
   pub sink : SinkState
@@ -18,7 +18,7 @@ pub record Standard : Type 0 where
 abbrev pub of_run : Standard → Streams
 of_run all = streams all.source all.sink
 
--- what is known of an input, an output and errors
+-- the visible states of an input, an output and errors
 abbrev pub standard : {I O E : Type 0} → Source.Ghosts I → Sink.Ghosts O → Sink.Ghosts E → I → O → E → Standard
 standard reads writes tells input output errors = record { source = reads.state input; sink = writes.state output; errors = tells.state errors }
 
@@ -33,7 +33,6 @@ pub record AreReady {I O E : Type 0} (reads : Source.Ghosts I) (writes : Sink.Gh
 abbrev pub Left : Type 0 → Type 0 → Type 0 → Type 0
 Left I O E = MutBor I × (MutBor O × (MutBor E × ⊤))
 
--- each of the three
 abbrev pub left_input : {I O E : Type 0} → Left I O E → I
 left_input after = after.0.now
 
@@ -43,7 +42,7 @@ left_output after = after.1.0.now
 abbrev pub left_errors : {I O E : Type 0} → Left I O E → E
 left_errors after = after.1.1.0.now
 
--- R of what is known of the three before and after
+-- R holds for the states of the three before and after
 abbrev pub OnStreams : {I O E : Type 0} → Source.Ghosts I → Sink.Ghosts O → Sink.Ghosts E → (Standard → Standard → Type 0)
     → StandardStreams I O E → Left I O E → Type 0
 OnStreams reads writes tells R before after =
@@ -55,8 +54,8 @@ OnStreams reads writes tells R before after =
 abbrev pub with_source : SourceState → Standard → Standard
 with_source s all = record { source = s; sink = all.sink; errors = all.errors }
 
--- ---- sources of which it is told how much was read
+-- ---- sources whose progress is printed
 
--- nothing was told: the writer is the same, and as it was
+-- nothing was printed: the writer is the same, and as it was
 abbrev pub IsUntold : {I W : Type 0} → Watched I W → Watched I W → Type 0
 IsUntold before after = (after.progress.ghost_name ≡ before.progress.ghost_name) × (after.progress.now.writer ≡ before.progress.now.writer)

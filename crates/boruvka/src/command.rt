@@ -1,4 +1,4 @@
-//! What the program does.
+//! What the program does, in order.
 ghost use Rattle.std.specs.Prelude.{◌≡◌, ◌≢◌, ◌≤◌, [], map, length, All, IsSome, OnOk, true, false, codes};
 ghost use Rattle.std.specs.IoError.{error_kind};
 ghost use Rattle.limits.specs.declared.TheConstants.{MAX_WORKERS};
@@ -38,7 +38,7 @@ use std::thread::Threads;
 use tcp_lines::{TcpLine, Workers};
 use wires::Line;
 
-// What a run answered, without its lines: they are closed.
+// The result of a run, without its lines, which are closed.
 fn without_lines<L: Drop>(ended: Result<(Report, Vec<L>), RunFault>) -> Result<Report, RunFault>
     ensures { result ≡ report_of ended }
 {
@@ -48,12 +48,13 @@ fn without_lines<L: Drop>(ended: Result<(Report, Vec<L>), RunFault>) -> Result<R
     }
 }
 
-/// Runs over these lines, cuts the links into so many shards, and answers the status.
+/// Runs over these lines, with the edges split into `shards` shards, and returns the exit status. A line is a
+/// connection to a worker, and the worker's number is the index of the line.
 ///
-/// The line at each place is to the worker of that number. The forest goes to the output; to the errors goes the report,
-/// where it is wanted and the run ended well, or why it ended ill. The lines are dropped.
+/// The forest is written to the output. If the run succeeds and the report is wanted, that is written to the errors; if
+/// the run fails, the errors get the reason. The lines are dropped.
 ///
-/// It waits for the workers' answers. What it takes is said at [`run_lines`].
+/// It waits for the workers' answers. [`run_lines`] documents the costs.
 pub fn run_over<
     R: Alloc<A = Global> + Threads + Wait + Sync,
     L: Line + Send + Drop,
@@ -65,15 +66,16 @@ pub fn run_over<
     requires room { All (λ line. HasRoom (L.state line)) lines.items }
     requires streams { AreReady I.Source O.Sink E.Sink io }
 
-    // Whatever the workers answer, and more where each line is new and carries its worker's session.
+    // This holds whatever the workers answer. It says more if each line is new and carries its worker's session.
     ensures ends { OnStreams I.Source O.Sink E.Sink (EndsOver L.Line lines.items shards wants_report result)
         io.entry io.exit }
     ensures kept { KeepsStreams O.Sink false wants_report result io.entry.output.now io.entry.errors.now (left_output io.exit) (left_errors io.exit) }
 
-    // A file that means nothing is refused.
+    // An invalid file gives an error.
     ensures malformed { OnStreams I.Source O.Sink E.Sink (RefusesNoGraph result) io.entry io.exit }
 
-    // Over such lines the workers are never blamed, and a file whose links can be cut so has its forest.
+    // Over such lines the workers are never blamed. A file whose edges can be split like this gets its forest, unless
+    // memory or the sink fails.
     ensures blameless { AreServed L.Line lines.items → result ≢ 5 }
     ensures done { AreServed L.Line lines.items → OnStreams I.Source O.Sink E.Sink (IsDoneOrHindered shards result) io.entry io.exit }
 {
@@ -87,8 +89,8 @@ pub fn run_over<
     write_end(wants_report, &ended, errors)
 }
 
-// Runs over the lines to the workers that were started, a line for each of them, as the words ask for. Each of them has
-// ended when it answers.
+// Runs as the arguments ask, over one line to each of the workers that were started. Every worker has ended when this
+// returns.
 fn run_started<R: Alloc<A = Global> + Threads + Wait + Sync, I: Source, O: Sink, E: Sink>(
     rt: &R,
     chosen: &Options,
@@ -100,7 +102,7 @@ fn run_started<R: Alloc<A = Global> + Threads + Wait + Sync, I: Source, O: Sink,
     requires all { started.1 ≡ length started.0.items }
     requires streams { AreReady I.Source O.Sink E.Sink io }
 
-    // Over just these lines, whatever comes over them.
+    // It runs over exactly these lines, whatever comes over them.
     ensures ends { OnStreams I.Source O.Sink E.Sink
         (EndsOver tcp_line started.0.items chosen.now.shards chosen.now.report result) io.entry io.exit }
     ensures kept { KeepsStreams O.Sink false chosen.now.report result io.entry.output.now io.entry.errors.now (left_output io.exit) (left_errors io.exit) }
@@ -111,7 +113,7 @@ fn run_started<R: Alloc<A = Global> + Threads + Wait + Sync, I: Source, O: Sink,
     status
 }
 
-// Runs without workers, by up to so many threads.
+// Runs without workers, with up to this many threads.
 fn run_here<R: Alloc<A = Global> + Threads + Sync, I: Source, O: Sink>(
     rt: &R,
     threads: u32,
@@ -131,7 +133,7 @@ fn run_here<R: Alloc<A = Global> + Threads + Sync, I: Source, O: Sink>(
     run_threads(rt, threads as usize, rt.alloc(), input, output)
 }
 
-// Runs as the words ask for, on the input. Where it runs over workers, each of them has ended when it answers.
+// Runs as the arguments ask, on the input. If it runs with workers, every worker has ended when this returns.
 fn run_on<R, I, O, E>(rt: &R, chosen: &Options, io: StandardStreams<I, O, E>) -> u8
 where
     R: Files<File = File>
@@ -168,7 +170,7 @@ where
     run_started(rt, chosen, started, io)
 }
 
-// Runs as the words ask for, on the input, and tells how much of it was read, where they ask for that.
+// Runs as the arguments ask, on the input, and prints how much of it was read if they ask for that.
 fn run_told<R, I, W, O, E>(
     rt: &R,
     chosen: &Options,
@@ -217,12 +219,16 @@ where
     run_on(rt, chosen, untold)
 }
 
-/// Does what lawful words ask for, and answers the status.
+/// Does what valid arguments ask for, and returns the exit status.
 ///
-/// One FILE is opened before the run begins; without FILE it reads the input. Of several files it joins the links. The forest
-/// goes to the output, and what went wrong to the errors, as does the report where it is asked for. It tells how much was
-/// read, where that is asked for. With `--plain` it runs by up to as many threads as are asked for. Without it it starts
-/// the workers that are asked for, in threads of this process at the far ends of sockets, and ends them.
+/// Without FILE it reads the input. A single FILE is opened before the run begins. The edges of several files are
+/// joined.
+///
+/// The forest is written to the output. The errors get the reason for a failure, and the report if it is requested. The
+/// writer next to the input gets how much was read, if that is requested.
+///
+/// With `--plain` it runs with up to the requested number of threads. Without `--plain` it starts the requested workers
+/// as threads of this process, connected by sockets, and ends them.
 pub fn obey<R, I, W, O, E>(
     rt: &R,
     chosen: &Options,
@@ -250,16 +256,17 @@ where
     requires errors { E.can_write errors.old }
     requires few { length chosen.now.files.items ≤ MAX_FILES }
 
-    // What is asked for is done, on the input or on FILE, or on several; where each is a FILE the input isn't read.
+    // It does what is asked for, on the input, on one FILE or on several. If every file is a FILE, the input isn't
+    // read.
     ensures obeys { Obeys (asked_of chosen.now) result
         (standard I.Source O.Sink E.Sink input.old.source output.old errors.old)
         (standard I.Source O.Sink E.Sink input.new.source output.new errors.new) }
     ensures leaves_input { chosen.now.files.items ≢ [] → All IsSome chosen.now.files.items
         → input.new.source ≡ input.old.source }
 
-    // A file that is refused or can't be cut, want of memory and answers that make no forest write nothing to the
-    // output. Where the run ends well none of its bytes waits for a flush, where that is known, and the errors get the
-    // report alone.
+    // If the file is invalid or can't be split, memory runs out, or the answers make no forest, nothing is written to
+    // the output. If the run succeeds, no output byte waits for a flush, as far as the sink shows, and the errors get
+    // only the report.
     ensures kept { KeepsStreams O.Sink chosen.now.plain chosen.now.report result output.old errors.old output.new errors.new }
     ensures untold { chosen.now.progress ≡ false → IsUntold input.old input.new }
 {
@@ -288,7 +295,7 @@ where
     run_told(rt, chosen, &mut from_file, output, errors)
 }
 
-// Prints the help or the version to the output, or what is wrong with the words to errors.
+// Prints the help or the version to the output, or what is wrong with the arguments to the errors.
 fn print_usage<O: Sink, E: Sink>(
     alloc: Global,
     error: &clap::Error,
@@ -301,7 +308,7 @@ fn print_usage<O: Sink, E: Sink>(
     ensures silent { LeavesOutput result → IsUntouched (O.state output.old) (O.state output.new) }
     ensures quiet { result ≡ 0 → errors.new ≡ errors.old }
 
-    // Wrong words write nothing to the output, and only the help and the version do.
+    // Wrong arguments write nothing to the output; only the help and the version do.
     ensures wrong { IsMistake (kind_of error.now) → RefusesWords result × (output.new ≡ output.old) }
     ensures help { ¬ IsMistake (kind_of error.now) → HelpEnds result (O.state output.old) (O.state output.new) }
     ensures refused { EndsRefused O.state result output.old output.new }
@@ -328,17 +335,22 @@ fn print_usage<O: Sink, E: Sink>(
     }
 }
 
-/// Does all that the program does, and answers its status.
+/// Does everything that the program does, and returns its exit status.
 ///
-/// `words` has the program's name first. The words are judged first, by [`options`]; then they are
-/// obeyed, by [`obey`], or the user reads what is wrong with them. A text for the user goes to the errors, the
-/// help and the version alone to the output. A failed write to the errors is ignored. If the words ask for it, the writer
-/// beside the input is told how much was read; it may be another handle of the errors' stream.
+/// The first of `words` is the program's name. [`options`] checks the arguments, and then [`obey`] carries them out, or
+/// the user is told what is wrong with them. Messages are written to the errors, and only the help and the version to
+/// the output. A failed write to the errors is ignored. If the arguments ask for it, the writer next to the input gets
+/// how much was read; it may be another handle of the errors' stream.
 ///
-/// Status 0: done. 1: the file was refused, or can't be cut so. 2: the words were. 3: FILE can't be opened, a
-/// read failed, or a write did. 4: memory was refused. 5: what the workers answered makes no forest.
+/// The exit statuses:
+/// - 0: success.
+/// - 1: the file is invalid, or can't be split into so few shards.
+/// - 2: the arguments are invalid.
+/// - 3: FILE can't be opened, or a read or a write failed.
+/// - 4: out of memory.
+/// - 5: the workers' answers make no forest.
 ///
-/// It waits for the workers, and each of them has ended when it answers.
+/// It waits for the workers, and every worker has ended when it returns.
 pub fn command<R, S, I, W, O, E>(
     rt: &R,
     words: &[S],
@@ -365,25 +377,25 @@ where
     requires output { O.can_write output.old }
     requires errors { E.can_write errors.old }
 
-    // What lawful words ask for is done: the input is run on, or FILE is, or several; where each is a FILE the input isn't
-    // touched.
+    // It does what valid arguments ask for, on the input, on one FILE or on several. If every file is a FILE, the input
+    // isn't touched.
     ensures obeys { refusals (map S.text words.now) ≡ [] → Obeys (asked_by (map S.text words.now)) result
         (standard I.Source O.Sink E.Sink input.old.source output.old errors.old)
         (standard I.Source O.Sink E.Sink input.new.source output.new errors.new) }
     ensures leaves_input { files_named (map S.text words.now) ≢ []
         → All IsSome (files_named (map S.text words.now)) → input.new.source ≡ input.old.source }
 
-    // A file that is refused or can't be cut, wrong words, want of memory and answers that make no forest write
-    // nothing to the output. Where all went well none of the forest's bytes waits for a flush, where that is known, and
-    // the errors get the report alone. (The help is written, and not flushed.)
+    // If the file is invalid or can't be split, the arguments are wrong, memory runs out, or the answers make no
+    // forest, nothing is written to the output. If everything succeeds, no byte of the forest waits for a flush, as far
+    // as the sink shows, and the errors get only the report. (The help is written, but not flushed.)
     ensures status { result ≤ 5 }
     ensures silent { LeavesOutput result → IsUntouched (O.state output.old) (O.state output.new) }
     ensures flushed { refusals (map S.text words.now) ≡ [] → result ≡ 0 → IsFlushed (O.unflushed output.new) }
     ensures quiet { is_set (map S.text words.now) (codes "report") ≡ false → result ≡ 0 → errors.new ≡ errors.old }
     ensures untold { is_set (map S.text words.now) (codes "progress") ≡ false → IsUntold input.old input.new }
 
-    // The help and the version go to the output, and wrong words touch nothing. Words that are refused and ask for the help
-    // too end as one or the other.
+    // The help and the version are written to the output, and wrong arguments touch nothing. Invalid arguments that
+    // also ask for the help end in one of these two ways.
     ensures help { AskFor DisplayHelp (map S.text words.now)
         → (input.new ≡ input.old) × HelpEnds result (O.state output.old) (O.state output.new) }
     ensures version { AskFor DisplayVersion (map S.text words.now)
@@ -403,8 +415,8 @@ where
     }
 }
 
-/// Writes why the words of the command line weren't got, and answers the status: 4 for want of memory, and
-/// else 2, for a word that isn't UTF-8.
+/// Writes why the arguments of the command line couldn't be read, and returns the exit status: 4 for out of memory, and
+/// otherwise 2, for an argument that isn't UTF-8.
 pub fn without_words<E: Sink>(error: &io::Error, errors: &mut E) -> u8
     requires { E.can_write errors.old }
     ensures memory { error_kind error.now ≡ ErrorKind.OutOfMemory

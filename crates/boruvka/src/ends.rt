@@ -1,4 +1,4 @@
-//! What is told of a run's end.
+//! Writes how a run ended.
 ghost use Rattle.std.specs.Prelude.{◌≡◌, false};
 ghost use Rattle.boruvka.specs.Status.{status_of_run, IsReported};
 
@@ -6,7 +6,7 @@ use byte_streams::Sink;
 use plain_run::{Report, RunFault};
 use program_words::{status_of, write_fault, write_report};
 
-/// Writes the report of a run that ended well, where it is wanted, or why it ended ill.
+/// If a run failed, writes why. If it succeeded and the report is wanted, writes the report. Returns the exit status.
 pub fn write_end<E: Sink>(
     wants_report: bool,
     ended: &Result<Report, RunFault>,

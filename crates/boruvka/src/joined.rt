@@ -1,4 +1,4 @@
-//! Runs on several files, whose links are joined.
+//! Runs on several files, whose edges are joined.
 ghost use Rattle.std.specs.Prelude.{◌≡◌, ◌+◌, ◌<◌, ◌≤◌, ◌||◌, not, is_some, All, IsSome, IfOk, IfErr, false, length, option_map, string_bytes};
 ghost use Rattle.plain_run.specs.declared.parts.TheConstants.{MAX_FILES};
 ghost use Rattle.program_words.specs.Messages.{IsWritten};
@@ -18,16 +18,16 @@ use std::fs::{File, Files};
 use std::io::Write;
 use std::thread::Threads;
 
-/// Why a file of several stops the run.
+/// Why one of several files stops the run.
 #[derive(Clone, Copy, Debug, PartialEq, Eq)]
 pub enum JoinFault {
-    /// It can't be opened; or it is standard input, which was read as another of them.
+    /// The file can't be opened, or it is standard input and was already read as one of the others.
     Unopened,
-    /// It isn't a part beside the files before it.
+    /// The file can't be joined with those before it.
     Part(PartFault),
 }
 
-// One more part from a source.
+// Adds one more part from a source.
 fn add_source<C: Crew, I: Source>(
     crew: &C,
     parts: Parts,
@@ -42,7 +42,7 @@ fn add_source<C: Crew, I: Source>(
     parts.add(crew, source).map_err(JoinFault::Part)
 }
 
-// One more part from a file, and how much of it was read is told, if that is wanted. FILE is opened, and the input is read
+// Adds one more part from a file, and prints how much was read if that is wanted. A FILE is opened; the input is read
 // only once.
 fn add_file<R: Files<File = File>, C: Crew, I: Source, W: Write>(
     rt: &R,
@@ -86,14 +86,14 @@ fn add_file<R: Files<File = File>, C: Crew, I: Source, W: Write>(
     }
 }
 
-// Whether the input was read, once this file was, which comes behind others.
+// Whether the input has been read, after this file and those before it.
 fn is_read_by(was_read: bool, file: &Option<String>) -> bool
     ensures { result ≡ (was_read || not (is_some file.now)) }
 {
     was_read || file.is_none()
 }
 
-// The files as parts, in their order, or the first that isn't one.
+// Adds the files as parts, in their order, or returns the first file that can't be added.
 fn add_files<'a, R: Files<File = File> + Alloc<A = Global> + Threads + Sync, I: Source, W: Write>(
     rt: &R,
     chosen: &'a Options,
@@ -126,7 +126,7 @@ fn add_files<'a, R: Files<File = File> + Alloc<A = Global> + Threads + Sync, I: 
     Ok(parts)
 }
 
-// What a file is called.
+// The name of a file in messages.
 fn name_of(file: &Option<String>) -> &str
     ensures { result.now ≡ the_name_of (option_map string_bytes file.now) }
 {
@@ -136,7 +136,7 @@ fn name_of(file: &Option<String>) -> &str
     }
 }
 
-// Writes why a file stopped the run, and answers the status.
+// Writes why a file stopped the run, and returns the exit status.
 fn write_stop<E: Sink>(file: &Option<String>, fault: &JoinFault, errors: &mut E) -> u8
     requires { E.can_write errors.old }
     ensures status { result ≡ status_for_stop fault.now }
@@ -156,10 +156,10 @@ fn write_stop<E: Sink>(file: &Option<String>, fault: &JoinFault, errors: &mut E)
     }
 }
 
-/// Writes the text of the forest of all links of the files that the words name, and answers the status.
+/// Writes the text of the forest of all edges of the requested files, and returns the exit status.
 ///
-/// They are read in their order, `None` is the input, and at the first that isn't a part only why is told. No worker is
-/// asked. The writer beside the input is told how much was read of all, where the words ask for that.
+/// The files are read in their order; `None` is the input. If a file can't be joined, only the reason is written. No
+/// worker is started. The writer next to the input gets how much was read in total, if the arguments ask for that.
 pub fn run_joined<
     R: Files<File = File> + Alloc<A = Global> + Threads + Sync,
     I: Source,

@@ -1,24 +1,25 @@
-//! The program: it reads a graph in the `.gr` format and writes the text of its minimum spanning forest. It runs over
-//! worker threads at the far ends of loopback connections, or without them, by one thread or several.
+//! The program. It reads a graph in the `.gr` format and writes the text of its minimum spanning forest. It runs with
+//! workers, which are threads at the far ends of loopback connections, or without them, with one thread or several.
 //!
 //! ```text
-//! words --program_words::options--> Options --command::obey--> a run over FILE or standard input --> status
-//!                                               \--program_words::write_..--> standard error
+//! arguments --program_words::options--> Options --command::obey--> a run over FILE or standard input --> status
+//!                                                   \--program_words::write_..--> standard error
 //!   a run: tcp_lines::Workers::start, command::run_over, Workers::join;
 //!          with --plain forest_run::run_plain, run_threads, of several files joined::run_joined
 //! ```
 //!
 //! What it promises:
-//! - The output gets a prefix of the forest's text, the whole where the status is 0, or the help; the status is one of
-//!   six, and writes what failed ([`command::obey`]).
-//! - Standard error gets the report that was asked for, or the line that says why; the usage there is only tested, and how
-//!   much was read, which `--progress` asks for.
-//! - The forest is the minimum one without workers, and where workers answer as the engine does, which no contract sees
-//!   of sockets; whatever they answer it spans ([`command::run_over`]).
+//! - The output gets a prefix of the forest's text, and the whole text if the status is 0; or it gets the help. The
+//!   exit status is one of six ([`command::obey`]).
+//! - Standard error gets the requested report, or the line that says why the run failed. The usage message and the
+//!   progress that `--progress` asks for are only tested.
+//! - Without workers the forest is the minimum one. With workers it is, if they answer as the engine does, which no
+//!   contract can see for sockets. Whatever they answer, the forest spans the graph ([`command::run_over`]).
 //!
-//! Where to start a change: what the program does, in order, `command` with `specs/Asked`; how a run ends, `specs/Status`,
-//! and one on several files `joined` with `specs/Joined`; how the standard streams are
-//! kept apart from sockets, `standard`; what is told while it reads, `progress`. The words, the messages and the statuses stand in `program_words`.
+//! To change what the program does, and in which order, start with `command` and `specs/Asked`. To change how a run
+//! ends, start with `specs/Status`, and for several files with `joined` and `specs/Joined`. `standard` keeps the
+//! standard streams apart from sockets, and `progress` prints how much was read. The arguments, the messages and the
+//! exit statuses are in `program_words`.
 #![tactic(auto)]
 
 mod command;

@@ -1,4 +1,4 @@
-//! Sources of which it is told how much was read, and a standard error that lines of progress don't run into.
+//! Sources whose progress is printed, and a standard error that keeps other messages apart from the progress lines.
 ghost use Rattle.std.specs.Prelude.{◌≡◌, ◌≤◌, length, false};
 
 use byte_streams::{Failed, Sink, Source, Uncounted, put};
@@ -6,20 +6,19 @@ use program_words::write_progress;
 use std::cell::Cell;
 use std::io::Write;
 
-// So many bytes are read from one line to the next.
+// This many bytes are read from one progress line to the next.
 const STEP: u64 = 16_000_000;
 
-/// How much was read of one source or of several, and the writer that is told of it, if that is wanted.
+/// How much was read from one source or several, and the writer that gets it if that is wanted.
 ///
-/// Each line is written over the one before. The last one comes at the end of the last source and stays, if another came
-/// before it. After a failed write the writer is told nothing more.
+/// Each line is written over the one before. The final line comes at the end of the last source and stays, if another
+/// came before it. After a failed write nothing more is written.
 #[derive(Drop)]
 pub struct Progress<'l, W> {
-    /// Gets the lines.
     pub writer: Uncounted<W>,
-    /// Whether more is told.
+    /// Whether more is written.
     pub is_wanted: bool,
-    /// Whether the source that is read is the last.
+    /// Whether the current source is the last one.
     pub is_last: bool,
     is_line_open: &'l Cell<bool>,
     read: u64,
@@ -27,7 +26,7 @@ pub struct Progress<'l, W> {
 }
 
 impl<'l, W: Write> Progress<'l, W> {
-    /// Nothing was read yet, and nothing is told. `is_line_open` is true while a line stands that has no end yet.
+    /// Nothing has been read yet, and nothing is written. `is_line_open` is true while a line has no end yet.
     pub fn new(writer: W, is_line_open: &'l Cell<bool>) -> Self
         ensures off { result.is_wanted ≡ false }
     {
@@ -41,7 +40,7 @@ impl<'l, W: Write> Progress<'l, W> {
         }
     }
 
-    /// Whether more is told from now on.
+    /// Turns writing on or off.
     pub fn want(&mut self, is_wanted: bool)
         ensures wanted { self.new.is_wanted ≡ is_wanted }
         ensures untold { self.new.writer ≡ self.old.writer }
@@ -49,7 +48,7 @@ impl<'l, W: Write> Progress<'l, W> {
         self.is_wanted = is_wanted;
     }
 
-    // Tells how much was read, in a line with this end.
+    // Writes how much was read, in a line with this end.
     fn tell(&mut self, end: &str)
         requires { length end.now ≤ 2 }
     {
@@ -58,7 +57,7 @@ impl<'l, W: Write> Progress<'l, W> {
         self.told = self.read;
     }
 
-    // Counts a read of so many bytes, of which 0 is the end of a source.
+    // Counts a read of this many bytes; 0 is the end of a source.
     fn count(&mut self, bytes: usize) {
         self.read = self.read.saturating_add(bytes as u64);
         if !self.is_wanted {
@@ -72,14 +71,13 @@ impl<'l, W: Write> Progress<'l, W> {
     }
 }
 
-/// A source, and what is told each 16 million bytes of how much was read, of this one and those before it.
+/// A source that prints, after every 16 million bytes, how much was read from this source and those before it.
 ///
-/// It owns the source, so that contracts know how it was left. What such a source gives is what the source gives.
+/// It owns the source, so that contracts know the state in which the source was left. It gives exactly what the source
+/// gives.
 #[derive(Drop)]
 pub struct Watched<'p, 'l, I, W> {
-    /// What is read.
     pub source: I,
-    /// What is told of it.
     pub progress: &'p mut Progress<'l, W>,
 }
 
@@ -97,10 +95,10 @@ impl<I: Source, W: Write> Source for Watched<'_, '_, I, W> {
     }
 }
 
-/// Standard error for what goes wrong, on which progress is told too.
+/// Standard error for messages, if progress is printed there too.
 ///
-/// If a line of progress has no end yet, it gets it before anything is written, by another handle of the same stream. So what
-/// is written begins a line of its own.
+/// If a progress line has no end yet, it is ended before anything else is written, through another handle of the same
+/// stream. So a message begins on its own line.
 #[derive(Drop)]
 pub struct OwnLine<'l, E, W> {
     errors: E,
@@ -109,7 +107,7 @@ pub struct OwnLine<'l, E, W> {
 }
 
 impl<'l, E: Sink, W: Write> OwnLine<'l, E, W> {
-    /// The sink, and another handle of its stream. `is_line_open` is that of the [`Progress`] told there.
+    /// Wraps the sink; `handle` is another handle of its stream. `is_line_open` is that of the stream's [`Progress`].
     pub fn new(errors: E, handle: W, is_line_open: &'l Cell<bool>) -> Self
         ensures errors { result.errors ≡ errors }
     {
@@ -120,7 +118,7 @@ impl<'l, E: Sink, W: Write> OwnLine<'l, E, W> {
         }
     }
 
-    // Ends a line of progress that has no end yet.
+    // Ends a progress line that has no end yet.
     fn end_line(&mut self)
         ensures { self.new.errors ≡ self.old.errors }
     {

@@ -1,27 +1,27 @@
-//! The standard streams, and those that the program finds closed.
+//! The standard streams, also if some of them are closed when the program starts.
 ghost use Rattle.std.specs.Prelude.{◌≤◌};
 
 use std::fs::{File, Files};
 use std::os::fd::AsRawFd;
 
-/// What the program reads, what it writes, and where it writes what went wrong.
+/// What the program reads, what it writes, and where it writes errors.
 #[derive(Drop)]
 pub struct StandardStreams<'i, 'o, 'e, I, O, E> {
-    /// The text of the graph, where no FILE is named.
+    /// The text of the graph, if no FILE is named.
     pub input: &'i mut I,
-    /// The text of the forest goes there, or the help.
+    /// Gets the text of the forest, or the help.
     pub output: &'o mut O,
-    /// The report goes there, or what went wrong.
+    /// Gets the report, or what went wrong.
     pub errors: &'e mut E,
 }
 
-/// What holds the standard descriptors that weren't open.
+/// Holds the standard descriptors that weren't open.
 #[derive(Drop)]
 pub struct ReservedDescriptors {
     _files: [Option<File>; 3],
 }
 
-// Holds each of the three standard descriptors that isn't open. `None` where one may still be free.
+// Holds each of the three standard descriptors that isn't open. Returns `None` if one of them may still be free.
 fn hold_closed<R: Files<File = File>>(rt: &R) -> Option<ReservedDescriptors> {
     let mut files = [None, None, None];
     for place in &mut files {
@@ -34,11 +34,11 @@ fn hold_closed<R: Files<File = File>>(rt: &R) -> Option<ReservedDescriptors> {
     Some(ReservedDescriptors { _files: files })
 }
 
-/// How many of so many workers may be started, while what comes with the number is kept.
+/// How many of this many workers may be started, as long as the first part of the result is kept.
 ///
-/// Each of the three standard descriptors that isn't open is reserved, so that no file or socket opened later gets its
-/// number. A folder holds it, which can neither be read nor written: the stream fails as a closed one does. Where one
-/// of them may still be free no worker may be started, and else all.
+/// It reserves each of the three standard descriptors that isn't open, so that no file or socket opened later gets its
+/// number. The descriptor gets a directory, which can be neither read nor written, so the stream fails like a closed
+/// one. If one of the descriptors may still be free, no worker may be started; otherwise all may.
 pub fn workers_beside<R: Files<File = File>>(
     rt: &R,
     workers: u32,

@@ -65,14 +65,14 @@ Examples:
   gzip -dc net.gr.gz | boruvka --plain > forest.gr
 ";
 
-// Both are the same. A call of it costs a caller's proof less than an assertion does. For the same reason the tests expect
-// the memory that they ask for: where a `?` hands its want on, a proof drops there all that lives. Where many are compared in
-// turn, the place stands in both.
+// Both values are the same. A call of this function costs less in the caller's proof than an assertion does. For the
+// same reason the tests expect every allocation to succeed: where a `?` returns an error, the proof has to drop
+// everything that is alive. If many values are compared in turn, both sides include the index.
 fn expect_same<T: PartialEq + Debug + Drop>(rt: &impl Abort, found: T, expected: T) {
     assert_eq!(rt; found, expected);
 }
 
-// The program answers this status for these words and this input, and writes just these texts.
+// The program returns this status for these arguments and this input, and writes exactly these texts.
 fn expect(
     rt: &(impl Abort
         + Files<File = File>
@@ -126,7 +126,7 @@ fn reads_a_named_file(rt: HostRuntime) {
     fs::remove_file(&rt, name).expect(&rt, "a file");
 }
 
-// The arcs of the small net in two files, and again each of them: FILE and standard input, in either order.
+// The arcs of the small graph in two files, and each of them again: FILE and standard input, in either order.
 #[test]
 fn joins_several_files(rt: HostRuntime) {
     let name = "half_a_net_for_a_test.gr";
@@ -152,7 +152,7 @@ fn joins_several_files(rt: HostRuntime) {
     fs::remove_file(&rt, name).expect(&rt, "a file");
 }
 
-// Nothing behind the first file that is no part is opened or read.
+// No file after the first one that can't be joined is opened or read.
 #[test]
 fn stops_at_the_first_file_that_is_no_part(rt: HostRuntime) {
     let unopened = b"boruvka: cannot open no/such/file\n";
@@ -191,7 +191,7 @@ fn prints_a_file_that_cannot_be_read(rt: HostRuntime) {
     expect(&rt, &["boruvka", "--plain", "/"], SMALL_NET, 3, b"", folder);
 }
 
-// Over workers the forest is the same, whatever their number.
+// With workers the forest is the same, whatever their number.
 #[test]
 fn runs_over_workers(rt: HostRuntime) {
     let report =
@@ -205,7 +205,7 @@ fn runs_over_workers(rt: HostRuntime) {
     expect(&rt, &["boruvka"], SMALL_NET, 0, SMALL_FOREST, b"");
 }
 
-// The workers end where the run ends ill.
+// The workers also end if the run fails.
 #[test]
 fn refuses_a_file_over_workers(rt: HostRuntime) {
     let late = b"boruvka: line 1: NoProblemYet\n";
@@ -215,7 +215,7 @@ fn refuses_a_file_over_workers(rt: HostRuntime) {
     expect(&rt, &words, SMALL_NET, 3, b"", unopened);
 }
 
-// The output takes these ten bytes for these words, and then a write fails.
+// With these arguments the output takes these ten bytes, and then a write fails.
 fn expect_broken_off(
     rt: &(impl Abort
         + Files<File = File>
@@ -250,7 +250,7 @@ fn prints_how_much_was_written(rt: HostRuntime) {
     expect_same(&rt, status_of(&RunFault::Memory), 4);
 }
 
-// A fault has this line, and this status.
+// An error has this line and this exit status.
 fn expect_line(rt: &(impl Abort + Alloc<A = Global>), fault: RunFault, status: u8, line: &[u8]) {
     let mut errors = Vec::new(rt.alloc());
     write_fault(&mut errors, &fault);
@@ -269,7 +269,7 @@ fn prints_what_the_cut_and_the_workers_made_impossible(rt: HostRuntime) {
     expect_line(&rt, RunFault::Cut(CutFault::ShardTooLarge), 1, large);
 }
 
-// Each fault is printed as the library shows it.
+// Each error is printed with the library's text.
 #[test]
 fn prints_each_fault_in_its_own_text(rt: HostRuntime) {
     let kinds = [
@@ -344,7 +344,6 @@ fn names_each_option_in_the_help(rt: HostRuntime) {
     }
 }
 
-// A failed write to errors changes nothing else.
 #[test]
 fn ignores_errors_that_fail(rt: HostRuntime) {
     let words = ["boruvka", "--plain", "--report"];
@@ -368,7 +367,6 @@ fn ignores_errors_that_fail(rt: HostRuntime) {
     }
 }
 
-// A run that fails has no report.
 #[test]
 fn reports_only_what_ended_well(rt: HostRuntime) {
     let words = ["boruvka", "--plain", "--report"];
@@ -377,7 +375,8 @@ fn reports_only_what_ended_well(rt: HostRuntime) {
     expect_broken_off(&rt, &words, b"p sp 6 5\na");
 }
 
-// The source gives the first line and four bytes of the second, and then fails; with the progress word it's the same.
+// The source gives the first line and three bytes of the second, and then fails. With `--progress` the result is the
+// same.
 #[test]
 fn prints_the_line_of_a_failed_read(rt: HostRuntime) {
     let words = ["boruvka", "--plain", "--progress"];
@@ -401,7 +400,7 @@ fn prints_the_line_of_a_failed_read(rt: HostRuntime) {
     }
 }
 
-// A line of progress is ended once, before what goes wrong is written, and by the other handle.
+// A progress line is ended once, before the error is written, and through the other handle.
 #[test]
 fn ends_an_open_line_before_it_writes(rt: HostRuntime) {
     let is_line_open = Cell::new(true);
@@ -414,7 +413,7 @@ fn ends_an_open_line_before_it_writes(rt: HostRuntime) {
     expect_same(&rt, handle.as_slice(), b"\n".as_slice());
 }
 
-// A writer that counts how often it is written to.
+// A writer that counts its writes.
 #[derive(Drop)]
 struct CountingWriter {
     writes: usize,
@@ -432,7 +431,7 @@ impl Write for CountingWriter {
     }
 }
 
-// The line of a file of this name that can't be opened goes out in one write.
+// The line for a file with this name that can't be opened is written in one write.
 fn expect_one_write(
     rt: &(impl Abort
         + Files<File = File>
@@ -474,7 +473,7 @@ fn prints_a_long_name_in_one_write(rt: HostRuntime) {
     }
 }
 
-// A name whose line is longer goes out in several writes, and whole.
+// A name whose line is longer is written in several writes, and completely.
 #[test]
 fn prints_each_byte_of_a_longer_name(rt: HostRuntime) {
     for (part, escaped) in [("n", "n"), ("\u{1b}", "\\x1b"), ("\u{20ac}", "\u{20ac}")] {
@@ -504,7 +503,7 @@ fn escapes_the_control_characters_of_a_name(rt: HostRuntime) {
     );
 }
 
-// So do a backslash, and the neighbours of control characters.
+// A backslash and the neighbours of control characters stay as they are.
 #[test]
 fn prints_all_other_characters_of_a_name_as_they_are(rt: HostRuntime) {
     expect_one_write(
@@ -514,7 +513,7 @@ fn prints_all_other_characters_of_a_name_as_they_are(rt: HostRuntime) {
     );
 }
 
-// An empty word is the name of a file like others. A minus alone stands for the input.
+// An empty argument is a file name like any other. A single minus is the input.
 #[test]
 fn opens_the_name_that_it_is_given(rt: HostRuntime) {
     let empty = b"boruvka: cannot open \n";
@@ -539,14 +538,14 @@ fn prints_a_help_that_cannot_be_written(rt: HostRuntime) {
     expect_broken_off(&rt, &["boruvka", "--help"], b"Computes t");
 }
 
-// What longer files get is tried over the built program.
+// The tests of the built program cover longer files.
 #[test]
 fn tells_nothing_of_a_short_file(rt: HostRuntime) {
     let words = ["boruvka", "--plain", "--progress"];
     expect(&rt, &words, SMALL_NET, 0, SMALL_FOREST, b"");
 }
 
-// The words are lawful, and ask for so many workers and shards, and for this file.
+// The arguments are valid, and ask for this many workers and shards, and for this file.
 fn expect_options(
     rt: &(impl Abort + Alloc<A = Global>),
     words: &[&str],
@@ -587,7 +586,7 @@ fn takes_the_words_for_what_they_ask(rt: HostRuntime) {
     expect_same(&rt, (report.report, report.plain), (true, false));
 }
 
-// The words are lawful, and ask for so many threads.
+// The arguments are valid, and ask for this many threads.
 fn expect_threads(rt: &(impl Abort + Alloc<A = Global>), words: &[&str], threads: u32) {
     let chosen = options(rt.alloc(), words).expect(rt, "lawful words");
     expect_same(rt, chosen.threads, threads);
@@ -607,7 +606,7 @@ fn takes_threads_beside_the_plain_word(rt: HostRuntime) {
     expect(&rt, &words, SMALL_NET, 2, b"", without);
 }
 
-// These words are refused as the usage says, and nothing goes to the output.
+// These arguments give a usage error, and nothing is written to the output.
 fn expect_refused(
     rt: &(impl Abort
         + Files<File = File>
@@ -672,7 +671,7 @@ fn prints_why_there_are_no_words(rt: HostRuntime) {
     expect_same(&rt, words.is_empty(), false);
 }
 
-// The help is for words before which nothing is wrong.
+// The help is printed only if nothing before it is wrong.
 #[test]
 fn refuses_words_that_are_wrong_before_they_ask_for_the_help(rt: HostRuntime) {
     let help = ["boruvka", "--report", "--help", "--wrong"];
@@ -680,8 +679,8 @@ fn refuses_words_that_are_wrong_before_they_ask_for_the_help(rt: HostRuntime) {
     expect_refused(&rt, &["boruvka", "--wrong", "--help"]);
 }
 
-// A run over these lines, of the net in one shard and with its report, answers this status, and writes just these texts, to
-// the output and the errors.
+// A run over these lines, with the graph in one shard and with the report, returns this status and writes exactly these
+// texts to the output and the errors.
 fn expect_over<L: Line + Send + Drop>(
     rt: &(impl Abort + Alloc<A = Global> + Threads + Wait + Sync),
     net: &[u8],
@@ -711,7 +710,7 @@ fn expect_over<L: Line + Send + Drop>(
     expect_same(rt, err.as_slice(), texts.1);
 }
 
-// A line over which these bytes come.
+// A line that delivers these bytes.
 fn scripted(alloc: Global, script: &[u8]) -> Result<Vec<ScriptLine>, AllocError>
     ensures one { IfOk result (λ lines. length lines.items ≡ 1) }
     ensures room { IfOk result (λ lines. All (λ line. HasRoom (line_of_script line)) lines.items) }
@@ -723,18 +722,18 @@ fn scripted(alloc: Global, script: &[u8]) -> Result<Vec<ScriptLine>, AllocError>
 
 const HELLO: [u8; 11] = [1, 0, 0, 0, 6, 0, 1, 0, 0, 0, 0];
 
-// The least links of a triangle of three equal weights, for its vertices 1, 2 and 3.
+// The least edges of a triangle of three equal weights, for its vertices 1, 2 and 3.
 const LEAST_OF_THREE: [u8; 41] = [
     4, 0, 0, 0, 36, 0, 0, 0, 1, 0, 0, 0, 0, 0, 0, 0, 3, 0, 0, 0, 1, 0, 0, 0, 0, 0, 0, 0, 2, 0, 0,
     0, 0, 0, 0, 0, 3, 0, 0, 0, 2,
 ];
 
-// Answers of the first and the second round that offer no link.
+// Answers in the first and the second round that offer no edge.
 const NONE_AT_FIRST: [u8; 17] = [4, 0, 0, 0, 12, 0, 0, 0, 1, 0, 0, 0, 0, 0, 0, 0, 0];
 
 const NONE_LATER: [u8; 17] = [4, 0, 0, 0, 12, 0, 0, 0, 2, 0, 0, 0, 0, 0, 0, 0, 0];
 
-// A worker that answers as it should is believed, and a lie of a worker is answered as such.
+// The answers of a correct worker are accepted, and a wrong answer gives its own error.
 #[test]
 fn runs_over_lines_in_memory(rt: HostRuntime) {
     let triangle = b"p sp 3 3\na 1 2 5\na 2 3 5\na 1 3 5\n".as_slice();
@@ -755,7 +754,7 @@ fn runs_over_lines_in_memory(rt: HostRuntime) {
     expect_over(&rt, SMALL_NET, lines, 5, (b"", missed));
 }
 
-// A line of the longest report, and one that is broken off.
+// The line of the longest report, and one that is cut off.
 #[test]
 fn writes_a_report_of_the_largest_numbers(rt: HostRuntime) {
     let most = 18_446_744_073_709_551_615;

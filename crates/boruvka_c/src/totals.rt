@@ -1,10 +1,10 @@
-//! What links weigh.
+//! The total weight of edges.
 ghost use Rattle.std.specs.Prelude.{◌≡◌};
 ghost use Rattle.boruvka_c.specs.Totals.{sum_of_given, number_in};
 
 use caller_forests::GivenLink;
 
-/// A sum of weights in two words, `struct boruvka_sum`: it is `high` times 2^64 and `low`.
+/// A sum of weights in two words, `struct boruvka_sum`. The sum is `high` times 2^64 plus `low`.
 #[repr(C)]
 #[derive(Clone, Copy)]
 pub struct Sum {
@@ -13,7 +13,6 @@ pub struct Sum {
 }
 
 impl Sum {
-    // The two words of a number.
     fn of_number(number: i128) -> Sum
         ensures { number_in result ≡ number }
     {
@@ -24,7 +23,6 @@ impl Sum {
     }
 }
 
-// The sum of the weights.
 fn sum_of(links: &[GivenLink]) -> i128
     ensures { result ≡ sum_of_given links.now }
 {
@@ -35,8 +33,8 @@ fn sum_of(links: &[GivenLink]) -> i128
     sum
 }
 
-/// Writes the sum of the weights of links, each as often as it stands there, whichever their ends are. It is exact for as
-/// many links as memory can hold, takes one pass and no memory.
+/// Writes the sum of the weights of the edges, counting repeats, whatever their endpoints are. The sum is exact for as
+/// many edges as memory can hold. It takes one pass and allocates nothing.
 #[unsafe(no_mangle)]
 pub extern "C" fn boruvka_total(links: &[GivenLink], total: &mut Sum)
     ensures { number_in total.new ≡ sum_of_given links.now }

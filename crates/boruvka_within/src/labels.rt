@@ -1,15 +1,14 @@
-//! Labels of vertices by the components that links in the caller's memory join, within memory that he gives up.
+//! Labels the vertices with the components that edges in the caller's memory form, within memory that the caller
+//! provides.
 ghost use Rattle.caller_forests.specs.Labels.{AnswersLabels};
 
 use caller_forests::{GivenLink, put_labels};
 use region_heap::{Region, heap_within};
 
-/// Writes the least vertex of each vertex's component under these links over `label`, that of vertex v at v - 1, and
-/// returns how many vertices these are, the length of `label`; or returns the code of a [`caller_forests::CallRefusal`],
-/// which is negative. The links may come in any order, with their ends in either order, but close no cycle, as a loop or a
-/// link that stands twice would.
+/// Writes the least vertex of each vertex's component over `label`, that of vertex v at index v - 1. Returns the length
+/// of `label`, or the code of a [`caller_forests::CallRefusal`], which is negative.
 ///
-/// It takes the time of [`put_labels`], and as much of the memory as that asks for.
+/// [`put_labels`] documents which edges are allowed, and the costs. Its memory comes from `memory`.
 #[unsafe(no_mangle)]
 pub extern "C" fn boruvka_labels_within(
     memory: Region,

@@ -1,19 +1,19 @@
-//! Forests, indices, labels and merges for callers that give up the memory for them: a static library of calls over
-//! [`caller_forests`], each with a heap within that memory alone. It calls nothing but `memcpy`, `memmove` and `memset`.
-//! `include/boruvka.h` is its header, too.
+//! A static library of calls that find forests, indices, labels and merges within memory that the caller provides.
+//! [`caller_forests`] implements them, and each call makes a heap only in that memory. The library calls nothing but
+//! `memcpy`, `memmove` and `memset`. Its header is also `include/boruvka.h`.
 //!
 //! ```text
 //!   memory   --region_heap::heap_within-->  a heap  --caller_forests::put_forest-->  the first of the links
-//!   memory   --------------- the same ----------->  --caller_forests::put_places-->  the caller's places
+//!   memory   --------------- the same ----------->  --caller_forests::put_places-->  the caller's indices
 //!   memory   --------------- the same ----------->  --caller_forests::put_labels-->  the caller's labels
 //!   memory   --------------- the same ----------->  --caller_forests::put_merges-->  the caller's merges
-//!   memory   --------------- the same ----------->  --caller_forests::put_forest_text-->  the caller's room
+//!   memory   --------------- the same ----------->  --caller_forests::put_forest_text-->  the caller's buffer
 //! ```
 //!
-//! What it promises:
-//! - Each call promises what the call of `boruvka_c` without memory does.
+//! What it promises: each call has the contract of the call of `boruvka_c` that takes no memory.
 //!
-//! Where to start a change: a call's meaning, `caller_forests`; how memory is used, `region_heap`.
+//! To change what a call means, start with `caller_forests`. To change how the memory is used, start with
+//! `region_heap`.
 #![tactic(auto)]
 
 mod ends;

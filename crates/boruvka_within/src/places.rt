@@ -1,16 +1,15 @@
-//! The indices of the forest's links among arcs in the caller's memory, within memory that he gives up.
+//! The indices of the forest's edges among arcs in the caller's memory, found within memory that the caller provides.
 ghost use Rattle.caller_forests.specs.Places.{AnswersPlaces};
 
 use caller_forests::{Columns, put_places};
 use region_heap::{Region, heap_within};
 
-/// Writes the indices, from 0 on, of the forest's links among the arcs over the first of `places`, in the order of the
-/// links' keys, and returns how many there are; or returns the code of a [`caller_forests::CallRefusal`], which is
-/// negative. If several arcs are one link, it is the index of the first of them.
+/// Finds the indices, counted from 0, of the forest's edges among the arcs and writes them over the first of `places`.
+/// Returns their number, or the code of a [`caller_forests::CallRefusal`], which is negative.
 ///
-/// The arc at an index leads from `u` to `v` there, and has the weight `w` there; the vertices are `base` up to
-/// `base + n - 1`. Arcs may come in any order, either way, as loops and more than once. It takes the time of
-/// [`put_places`], and as much of the memory as that asks for.
+/// The arc at an index leads from `u` to `v` and has the weight `w` at that index. The vertices are `base` to
+/// `base + n - 1`. [`put_places`] documents which arcs are allowed, the order of the indices, and the costs. Its memory
+/// comes from `memory`.
 #[unsafe(no_mangle)]
 pub extern "C" fn boruvka_places_within(
     memory: Region,

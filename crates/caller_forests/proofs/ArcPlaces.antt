@@ -1,11 +1,11 @@
--- Arcs in columns, place by place.
+-- Arcs in columns, index by index.
 use Rattle.std.proofs.Common.{◌≡◌, zero, suc, ℕ, ◌+◌, ◌<◌, ◌≤◌, ℤ, pos, List, [], ◌∷◌, length, get_or, All, refl, sym, ap, ◌∙◌, subst, arith}
 use Rattle.std.proofs.lemmas.List.{get_or_default}
 use Rattle.links.specs.Arc.{Arc}
 use Rattle.gr_text.specs.Graph.{HasEnds}
 use Rattle.caller_forests.specs.Arcs.{AreColumns, arcs_in, vertex_from}
 
--- the arc that stands at a place of the columns
+-- the arc at an index of the columns
 abbrev pub arc_at : ℕ → List ℕ → List ℕ → List ℤ → ℕ → Arc
 arc_at base tails heads weights k =
     record { tail = vertex_from base (get_or tails k 0); head = vertex_from base (get_or heads k 0); weight = get_or weights k (pos 0) }
@@ -25,7 +25,7 @@ arcs_at base (u ∷ tails) (v ∷ heads) (w ∷ weights) long zero d lt = refl
 arcs_at base (u ∷ tails) (v ∷ heads) (w ∷ weights) (heads_long, weights_long) (suc k) d lt =
     arcs_at base tails heads weights (omega (arith, heads_long), omega (arith, weights_long)) k d (omega (arith, lt))
 
--- an end in the columns is a vertex
+-- an endpoint in the columns is a vertex
 abbrev pub IsVertex : ℕ → ℕ → ℕ → Type 0
 IsVertex n base v = (base ≤ v) × (v < base + n)
 
@@ -46,7 +46,7 @@ module _ (n base : ℕ) (tails heads : List ℕ) (weights : List ℤ) (long : Ar
     pub shown_ends : All (HasEnds n) arcs → (k : ℕ) → k < length arcs → HasEnds n (arc_at base tails heads weights k)
     shown_ends ends k lt = let d = arc_at base tails heads weights k in subst (HasEnds n) (shown_at k d lt) (ends k d lt)
 
-    -- the ends of all arcs are vertices exactly if they are so in the columns
+    -- the endpoints of all arcs are vertices exactly if those in the columns are
     pub ends_from : All (IsVertex n base) tails → All (IsVertex n base) heads → All (HasEnds n) arcs
     ends_from of_tails of_heads k d lt =
         let k_in : k < length tails = subst (λ m. k < m) (sym shown_len) lt in

@@ -1,4 +1,4 @@
--- The fault that C gets of a run over bytes in memory.
+-- The error that a C caller gets from a run over bytes in memory.
 use Rattle.std.proofs.Common.{ℕ, List, inl, inr, refl, Err}
 use Rattle.gr_text.specs.declared.faults.ReadFault.TheVariants as read
 use Rattle.plain_run.specs.Files.{IsFirstFaultOf}
@@ -6,7 +6,7 @@ use Rattle.plain_run.specs.declared.fault.RunFault.{RunFault}
 use Rattle.plain_run.specs.declared.fault.RunFault.TheVariants as run
 use Rattle.caller_forests.specs.Texts.{fault_of, GivesFirstFault}
 
--- the first fault of a text, or want of memory
+-- the first error of a text, or out of memory
 pub gives_first : (bytes : List ℕ) (why : RunFault) → IsFirstFaultOf {X = ℕ} bytes (Err why) → GivesFirstFault bytes (fault_of why)
 gives_first bytes (run.Read (read.Gr f)) first = inl (f.kind, first, refl)
 gives_first bytes (run.Read read.Memory) first = inr refl

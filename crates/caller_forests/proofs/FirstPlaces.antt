@@ -1,4 +1,4 @@
--- The first places of links among arcs.
+-- The first indices of edges among arcs.
 use Rattle.std.proofs.Common.{◌≡◌, ℕ, ◌-◌, ◌^◌, ◌<◌, ◌≤◌, ◌⊎◌, Bool, true, false, List, Contains, length, get_or, min, max, refl, sym, ap, ◌∙◌, subst, inl, inr, arith}
 use Rattle.std.specs.List.{filter}
 use Rattle.std.specs.List.Sorted.{IsPermutation}
@@ -18,7 +18,7 @@ use Rattle.caller_forests.specs.declared.candidates.Candidate.{Candidate}
 use Rattle.caller_forests.specs.Candidates.{AreOfArcs, HasCandidate, IsLeastOf}
 use Rattle.caller_forests.specs.Places.{IsLinkAt, IsAmong, IsFirstFrom}
 
--- a loop is no link
+-- a loop isn't an edge
 pub loop_no_link : (arcs : List Arc) (k : ℕ) (d : Arc) (l : Link) → is_no_loop (get_or arcs k d) ≡ false → IsLinkAt arcs l k → ⊥
 loop_no_link arcs k d l loop is =
     let a = get_or arcs k d in
@@ -34,7 +34,7 @@ loop_no_link arcs k d l loop is =
       | inr other ↦ grind (arith, nat_tests, loop, other)
     ]
 
--- the arcs' links are among the arcs
+-- the arcs' edges are among the arcs
 pub links_among : (arcs : List Arc) (links : List Link) → AreLinksOf arcs links → (l : Link) → Contains links l → IsAmong arcs l
 links_among arcs links are l (k, k_in, at) =
     let kept = filter is_no_loop arcs in
@@ -49,12 +49,12 @@ links_among arcs links are l (k, k_in, at) =
     let is : get_or arcs place a ≡ a = found.2 in
     (place, found.1, λ e. ap arc_key (get_or_default arcs place e a found.1 ∙ is) ∙ key)
 
--- of the arcs before `to` the least place of the link; the greatest word if there is none
+-- the least index of the edge among the arcs before `to`, or the greatest value if there is none
 pub record IsLeastUpTo (to : ℕ) (arcs : List Arc) (l : Link) (place : ℕ) : Type 0 where
   pub one : (place ≡ 2 ^ 32 - 1) ⊎ ((place < length arcs) × IsLinkAt arcs l place)
   pub least : (k : ℕ) → k < to → k < length arcs → IsLinkAt arcs l k → place ≤ k
 
--- the arcs from `from` up to `to` gone over by their candidates, which are then put in order
+-- the candidates of the arcs from `from` to `to`, which are then sorted, take these arcs into account
 pub least_next : (arcs : List Arc) (found sorted : List Candidate) (from to : ℕ) (l : Link) (before after : ℕ) → AreOfArcs arcs found → IsPermutation found sorted
     → ((place : ℕ) → from ≤ place → place < to → place < length arcs → IsLinkAt arcs l place → HasCandidate found l place)
     → IsLeastOf sorted l before after → IsLeastUpTo from arcs l before → IsLeastUpTo to arcs l after
@@ -73,7 +73,7 @@ least_next arcs found sorted from to l before after of_arcs same none_missed is 
   ];
 }
 
--- once all arcs are gone over it is the first place, if the link is among the arcs
+-- after all arcs, the least index is the first one, if the edge is among the arcs
 pub first_of : (arcs : List Arc) (l : Link) (to place : ℕ) → length arcs ≤ MAX_ARCS → length arcs ≤ to → IsAmong arcs l → IsLeastUpTo to arcs l place → IsFirstFrom 0 arcs l place
 first_of arcs l to place few all (k, k_in, is) had =
     let le = had.least k (omega (arith, k_in, all)) k_in is in
@@ -89,7 +89,7 @@ first_of arcs l to place few all (k, k_in, is) had =
       }
     ]
 
--- two places of an ascending list have two links
+-- two indices of an ascending list have different edges
 pub one_place : (links : List Link) (i j : ℕ) (d : Link) → IsAscending links → i < length links → j < length links → get_or links i d ≡ get_or links j d → i ≡ j
 one_place links i j d up i_in j_in same = elim (cases_lt i j) [
   | inl lt ↦ absurd (below_irrefl (get_or links j d) (subst (λ l. IsBelow l (get_or links j d)) same (up i j d lt j_in)))
@@ -99,7 +99,7 @@ one_place links i j d up i_in j_in same = elim (cases_lt i j) [
   ]
 ]
 
--- a test that isn't true
+-- a test that isn't true is false
 pub not_true : (b : Bool) → (b ≡ true → false ≡ true) → b ≡ false
 not_true true never = absurd (false≢true (never refl))
 not_true false never = refl

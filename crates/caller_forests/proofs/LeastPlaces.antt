@@ -1,4 +1,5 @@
--- Links beside candidates in the order of their keys, and the least place of each link among those gone over.
+-- Edges merged with candidates in the order of their keys, and the least index of each edge among the candidates so
+-- far.
 use Rattle.std.proofs.Common.{◌≡◌, zero, suc, ℕ, ◌+◌, ◌*◌, ◌%◌, ◌^◌, ◌<◌, ◌≤◌, ◌⊎◌, ℤ, Bool, true, false, cond, Less, Equal, Greater, is_lt, int_cmp, List, [], ◌∷◌, ◌++◌, Contains, length, get_or, set, take, min, refl, sym, ap, ◌∙◌, subst, inl, inr, get_or-set_same, get_or-set_other, arith}
 use Rattle.std.specs.Int.{bit_at}
 use Rattle.std.specs.Int.Bits.{bit_or}
@@ -29,25 +30,25 @@ not_less x y = by_tests (lt_z x y) (lt_z y x)
     by_tests true b never = absurd (true≢false never)
     by_tests false b never = refl
 
--- no candidate has a smaller number than one before it
+-- no candidate has a smaller key than one before it
 ordered : (found : List Candidate) → AreInKeyOrder found → (j k : ℕ) (e : Candidate) → j ≤ k → k < length found
     → lt_z (wide_key (get_or found k e).link) (wide_key (get_or found j e).link) ≡ false
 ordered found up j k e le k_in =
     not_less (wide_key (get_or found k e).link) (wide_key (get_or found j e).link)
     (sorted_far _ (ranks_by int_cmp_total (λ (c : Candidate). wide_key c.link)) found up j k e le k_in)
 
--- the links before i are below the candidates from j on
+-- the edges before i are below the candidates from j on
 abbrev pub IsBehind : List Link → List Candidate → ℕ → ℕ → Type 0
 IsBehind links found i j = (t k : ℕ) (d : Link) (e : Candidate) → t < i → t < length links → j ≤ k → k < length found
     → wide_key (get_or links t d) <ℤ wide_key (get_or found k e).link
 
--- the least of what stood there and of the places of the link's candidates before j
+-- the least of `before` and of the indices of the edge's candidates before j
 pub record LeastBefore (found : List Candidate) (j : ℕ) (l : Link) (before after : ℕ) : Type 0 where
   pub no_more : after ≤ before
   pub least : (k : ℕ) (e : Candidate) → k < j → (get_or found k e).link ≡ l → after ≤ (get_or found k e).place
   pub one : (after ≡ before) ⊎ ((k : ℕ) × (k < j) × ((e : Candidate) → ((get_or found k e).link ≡ l) × ((get_or found k e).place ≡ after)))
 
--- one candidate more, of another link
+-- one more candidate, of another edge
 pub other_more : (found : List Candidate) (j : ℕ) (l : Link) (before after : ℕ) → ((e : Candidate) → (get_or found j e).link ≡ l → ⊥)
     → LeastBefore found j l before after → LeastBefore found (j + 1) l before after
 other_more found j l before after other had = record {
@@ -62,7 +63,7 @@ other_more found j l before after other had = record {
   ];
 }
 
--- one candidate more, of this link
+-- one more candidate, of this edge
 this_more : (found : List Candidate) (j : ℕ) (l : Link) (before after place : ℕ) → ((e : Candidate) → ((get_or found j e).link ≡ l) × ((get_or found j e).place ≡ place))
     → LeastBefore found j l before after → LeastBefore found (j + 1) l before (min after place)
 this_more found j l before after place this had = record {
@@ -82,7 +83,7 @@ this_more found j l before after place this had = record {
   ];
 }
 
--- no candidate is left that is the link
+-- no candidate of the edge is left
 pub none_left : (found : List Candidate) (j : ℕ) (l : Link) (before after : ℕ) → ((k : ℕ) (e : Candidate) → j ≤ k → k < length found → (get_or found k e).link ≡ l → ⊥)
     → j ≤ length found → LeastBefore found j l before after → IsLeastOf found l before after
 none_left found j l before after none j_in had = record {
@@ -100,7 +101,7 @@ none_left found j l before after none j_in had = record {
   ];
 }
 
--- the link at i, and the candidate at j
+-- the edge at i, and the candidate at j
 module _ (links : List Link) (found : List Candidate) (i j : ℕ) (link : Link) (c : Candidate) (i_in : i < length links) (j_in : j < length found)
     (at_i : (d : Link) → get_or links i d ≡ link) (at_j : (e : Candidate) → get_or found j e ≡ c) (behind : IsBehind links found i j) where
   number_i : (t : ℕ) (d : Link) → t ≡ i → wide_key (get_or links t d) ≡ wide_key link
@@ -109,7 +110,7 @@ module _ (links : List Link) (found : List Candidate) (i j : ℕ) (link : Link) 
   number_j : (e : Candidate) → wide_key (get_or found j e).link ≡ wide_key c.link
   number_j e = ap (λ (c' : Candidate). wide_key c'.link) (at_j e)
 
-  -- the link is below the candidate
+  -- the edge is below the candidate
   pub link_past : AreInKeyOrder found → wide_key link <ℤ wide_key c.link → IsBehind links found (i + 1) j
   link_past in_order less t k d e lt t_in le k_in = elim (cases_eq t i) [
     | inl here ↦
@@ -120,11 +121,11 @@ module _ (links : List Link) (found : List Candidate) (i j : ℕ) (link : Link) 
     | inr earlier ↦ behind t k d e (omega (arith, lt, earlier)) t_in le k_in
   ]
 
-  -- the candidate is gone over
+  -- the loop passes the candidate
   pub candidate_past : IsBehind links found i (j + 1)
   candidate_past t k d e lt t_in le k_in = behind t k d e lt t_in (omega (arith, le)) k_in
 
-  -- the candidate is below the link, so it is no link
+  -- the candidate is below the edge, so it is none of the edges
   pub no_link : IsAscending links → lt_z (wide_key link) (wide_key c.link) ≡ false → ¬ (wide_key link ≡ wide_key c.link)
       → (t : ℕ) (d : Link) → t < length links → (e : Candidate) → (get_or found j e).link ≡ get_or links t d → ⊥
   no_link up no_less differ t d t_in e same =
@@ -141,13 +142,13 @@ module _ (links : List Link) (found : List Candidate) (i j : ℕ) (link : Link) 
         ]
       ]
 
-  -- the candidate is the link, and no other one
+  -- the candidate is this edge, and no other one
   pub no_other : IsAscending links → wide_key link ≡ wide_key c.link → (t : ℕ) (d : Link) → t < length links → ¬ (t ≡ i)
       → (e : Candidate) → (get_or found j e).link ≡ get_or links t d → ⊥
   no_other up same t d t_in other e is =
       other (one_place links t i d up t_in i_in (sym is ∙ wide_one (get_or found j e).link link (number_j e ∙ sym same) ∙ sym (at_i d)))
 
-  -- the candidate is the link
+  -- the candidate is the edge
   module _ (up : IsAscending links) (same : wide_key link ≡ wide_key c.link) (before places : List ℕ) (number : length places ≡ length links) (v : ℕ) (v_is : v ≡ min (get_or places i 0) c.place)
       (had : (t : ℕ) (d : Link) → t < length links → LeastBefore found j (get_or links t d) (get_or before t 0) (get_or places t 0)) where
     here : (d : Link) → LeastBefore found (j + 1) (get_or links i d) (get_or before i 0) (get_or (set places i v) i 0)
@@ -162,7 +163,7 @@ module _ (links : List Link) (found : List Candidate) (i j : ℕ) (link : Link) 
           (other_more found j (get_or links t d) (get_or before t 0) (get_or places t 0) (no_other up same t d t_in other) (had t d t_in))
     ]
 
--- a mark that is put stays, and so do those before it
+-- a mark that is set stays set, and so do those before it
 mark_stays : (a b s : ℕ) → bit_at a s ≡ 1 → bit_at (bit_or a b) s ≡ 1
 mark_stays a b s is = let or = bit_at_or a b s in let few = bit_at-lt b s in omega (arith, or, few, is)
 
@@ -186,7 +187,7 @@ mark_more marks x m b in_range bit had =
       ]
     ]
 
--- the bit that stands for a remainder by 8
+-- the bit for a remainder modulo 8
 pub bit_of : (k : ℕ) → k < 8 → bit_at (1 * 2 ^ k % 256) k ≡ 1
 bit_of zero lt = refl
 bit_of (suc zero) lt = refl
@@ -198,19 +199,19 @@ bit_of (suc (suc (suc (suc (suc (suc zero)))))) lt = refl
 bit_of (suc (suc (suc (suc (suc (suc (suc zero))))))) lt = refl
 bit_of (suc (suc (suc (suc (suc (suc (suc (suc k)))))))) lt = absurd (omega (arith, lt))
 
--- of the arcs from `from` up to `to` none that is a link of the list is missed
+-- among the arcs from `from` to `to`, no edge of the list is missed
 abbrev pub NoneMissed : List Arc → List Link → ℕ → ℕ → List Candidate → Type 0
 NoneMissed arcs links from to found = (place : ℕ) (m : Link) → from ≤ place → place < to → IsLinkAt arcs m place → Contains links m → HasCandidate found m place
 
 module _ (arcs : List Arc) (links : List Link) (from place : ℕ) (found : List Candidate) where
-  -- one arc more, which is no link of the list
+  -- one more arc, which isn't an edge of the list
   pub dropped_more : ((m : Link) → Contains links m → IsLinkAt arcs m place → ⊥) → NoneMissed arcs links from place found → NoneMissed arcs links from (place + 1) found
   dropped_more none had p m ge lt is m_in = elim (cases_eq p place) [
     | inl here ↦ absurd (none m m_in (subst (IsLinkAt arcs m) here is))
     | inr earlier ↦ had p m ge (omega (arith, lt, earlier)) is m_in
   ]
 
-  -- one arc more, which is kept
+  -- one more arc, which is kept
   module _ (c : Candidate) (c_place : c.place ≡ place) (key : (d : Arc) → key_of c.link ≡ arc_key (get_or arcs place d)) where
     pub kept_more : NoneMissed arcs links from place found → NoneMissed arcs links from (place + 1) (found ++ c ∷ [])
     kept_more had p m ge lt is m_in = elim (cases_eq p place) [
@@ -229,7 +230,7 @@ module _ (arcs : List Arc) (links : List Link) (from place : ℕ) (found : List 
           (subst (λ p. (p < length arcs) × IsLinkAt arcs c.link p) (sym c_place) (lt, λ d. sym (key d)))
     ]
 
-  -- one arc more, which is kept or not; one that is a link of the list is
+  -- one more arc, which is kept or not; it is kept if it is an edge of the list
   pub sifted_more : (c : Candidate) → c.place ≡ place → ((d : Arc) → key_of c.link ≡ arc_key (get_or arcs place d)) → (kept : Bool) → (Contains links c.link → kept ≡ true)
       → place < length arcs → AreOfArcs arcs found → NoneMissed arcs links from place found
       → AreOfArcs arcs (cond kept (found ++ c ∷ []) found) × NoneMissed arcs links from (place + 1) (cond kept (found ++ c ∷ []) found)
@@ -238,7 +239,7 @@ module _ (arcs : List Arc) (links : List Link) (from place : ℕ) (found : List 
       let arc : Arc = record { tail = 0; head = 0; weight = c.link.weight } in
       (of_arcs, dropped_more (λ m m_in is. true≢false (sym (told (subst (Contains links) (one_key m c.link (sym (is arc) ∙ sym (key arc))) m_in)))) had)
 
--- what stands first once a candidate is written and counted, if it is kept
+-- the front of `found` after a candidate is written, and counted if it is kept
 pub sifted : (kept : Bool) (found : List Candidate) (count : ℕ) (c : Candidate) → count < length found
     → take (count + bool_byte kept) (set found count c) ≡ cond kept (take count found ++ c ∷ []) (take count found)
 sifted true found count c lt = take_more_set found count c lt

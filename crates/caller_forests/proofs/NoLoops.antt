@@ -1,4 +1,4 @@
--- Links without a loop stand for as many.
+-- Without loops, there are as many edges as arcs.
 use Rattle.std.proofs.Common.{◌≡◌, ◌≢◌, suc, not, cond, List, [], ◌∷◌, length, filter, refl, sym, ap, ◌∙◌}
 use Rattle.std.proofs.lemmas.Bool.{ne_eqb}
 use Rattle.std.proofs.lemmas.List.{length-map}

@@ -1,4 +1,4 @@
--- The places of a forest's links among arcs.
+-- The indices of a forest's edges among arcs.
 use Rattle.std.specs.Prelude.{◌≡◌, ℕ, ℤ, pos, ◌<◌, ◌≤◌, ◌≤ℤ◌, ◌⊎◌, List, ◌++◌, drop, length, slice_index, slice_index_or, All}
 use Rattle.std.specs.Int.Signed.{◌<ℤ◌}
 use Rattle.limits.specs.declared.TheConstants.{MAX_ARCS, MAX_VERTICES}
@@ -13,28 +13,28 @@ use Rattle.caller_forests.specs.declared.refusals.CallRefusal.{CallRefusal}
 use Rattle.caller_forests.specs.declared.refusals.CallRefusal.TheVariants.{NoMemory, BadEnd, TooManyVertices, TooManyLinks, LengthsDiffer, TooFewPlaces}
 use Rattle.caller_forests.specs.Refusals.{code_of}
 
--- the arc at this place is the link: it has its key
+-- the arc at this index is the edge: it has its key
 abbrev pub IsLinkAt : List Arc → Link → ℕ → Type 0
 IsLinkAt arcs l place = (d : Arc) → arc_key (slice_index_or arcs place d) ≡ key_of l
 
--- some arc is the link
+-- some arc is the edge
 abbrev pub IsAmong : List Arc → Link → Type 0
 IsAmong arcs l = (place : ℕ) × (place < length arcs) × IsLinkAt arcs l place
 
--- from a place on, the first arc that is the link stands there
+-- from `start` on, the first arc that is the edge has this index
 pub record IsFirstFrom (start : ℕ) (arcs : List Arc) (l : Link) (place : ℕ) : Type 0 where
   pub behind : start ≤ place
   pub in_range : place < length arcs
   pub link : IsLinkAt arcs l place
   pub first : (earlier : ℕ) → start ≤ earlier → earlier < place → ¬ (IsLinkAt arcs l earlier)
 
--- each place is that of the first arc that is the link, link by link
+-- each index is that of the first arc that is the edge, edge by edge
 pub record AreFirstPlaces (arcs : List Arc) (links : List Link) (places : List ℕ) : Type 0 where
   pub number : length places ≡ length links
   pub each : (i : ℕ) (d : Link) → i < length links → IsFirstFrom 0 arcs (slice_index_or links i d) (slice_index places i)
 
--- the places of the forest's links, in the order of their keys, stand first, and behind them what stood there; no
--- spanning forest weighs less
+-- The indices of the forest's edges are at the front, in the order of their keys, and what follows them is unchanged.
+-- No spanning forest weighs less.
 pub record HoldsPlaces (arcs : List Arc) (before after : List ℕ) (count : ℕ) : Type 0 where
   pub links : List Link
   pub forest : List Link
@@ -46,12 +46,12 @@ pub record HoldsPlaces (arcs : List Arc) (before after : List ℕ) (count : ℕ)
   pub first : after ≡ places ++ drop count before
   pub counted : count ≡ length forest
 
--- the links of these arcs have a forest, which has more links than this
+-- the edges of these arcs have a forest with more edges than this
 abbrev pub HaveLongerForest : List Arc → ℕ → Type 0
 HaveLongerForest arcs room = (links forest : List Link) × AreLinksOf arcs links × IsForestOf links forest × (room < length forest)
 
--- why arcs have no places: the first of these causes, or want of memory, or a room that is too small, if there is none of
--- them
+-- why there are no indices: the first of these causes that applies; if none does, out of memory or an output array that
+-- is too small
 abbrev pub IsArcsRefusal : ℕ → List Arc → ℕ → CallRefusal → Type 0
 IsArcsRefusal n arcs room TooManyVertices = MAX_VERTICES < n
 IsArcsRefusal n arcs room TooManyLinks = (n ≤ MAX_VERTICES) × (MAX_ARCS < length arcs)
@@ -60,21 +60,22 @@ IsArcsRefusal n arcs room NoMemory = AreRightArcs n arcs
 IsArcsRefusal n arcs room TooFewPlaces = AreRightArcs n arcs × HaveLongerForest arcs room
 IsArcsRefusal n arcs room other = ⊥
 
--- the answer is how many links the forest has, whose places stand first
+-- the result is the number of the forest's edges, whose indices are at the front
 abbrev pub FindsPlaces : ℕ → List Arc → List ℕ → List ℕ → ℤ → Type 0
 FindsPlaces n arcs before after answer = AreRightArcs n arcs × ((count : ℕ) × (answer ≡ pos count) × HoldsPlaces arcs before after count)
 
--- the answer is the code of why there are none: columns of different lengths, or what is wrong with their arcs
+-- the result is the code of why there are none: columns of different lengths, or what is wrong with their arcs
 abbrev pub RefusesPlaces : ℕ → ℕ → List ℕ → List ℕ → List ℤ → ℕ → ℤ → Type 0
 RefusesPlaces n base tails heads weights room answer =
     (¬ (AreColumns tails heads weights) × (answer ≡ code_of LengthsDiffer))
     ⊎ (AreColumns tails heads weights
     × ((why : CallRefusal) × (answer ≡ code_of why) × IsArcsRefusal n (arcs_in base tails heads weights) room why))
 
--- the indices stand first, or the answer is the code of why there are none, and what stood there is as it was
+-- either the indices are at the front, or the result is the code of why there are none and the memory is unchanged
 pub record AnswersPlaces (n base : ℕ) (tails heads : List ℕ) (weights : List ℤ) (before after : List ℕ) (answer : ℤ) : Type 0 where
   pub columns : pos 0 ≤ℤ answer → AreColumns tails heads weights
   pub found : pos 0 ≤ℤ answer → FindsPlaces n (arcs_in base tails heads weights) before after answer
-  -- columns of different lengths, or else what a forest of the arcs is refused for, in its order, or else too few places
+  -- in this order: columns of different lengths, the causes for which the arcs have no forest, an output array that is
+  -- too small
   pub refused : answer <ℤ pos 0 → RefusesPlaces n base tails heads weights (length before) answer
   pub untouched : answer <ℤ pos 0 → after ≡ before

@@ -1,12 +1,12 @@
--- The codes of refusals, and their texts.
+-- The codes and the texts of errors.
 use Rattle.std.specs.Prelude.{ℕ, ℤ, negsuc, List, codes}
 use Rattle.gr_text.specs.FaultText.{kind_text}
 use Rattle.gr_text.specs.declared.faults.GrKind.TheVariants.{UnknownLine, NoProblemYet, SecondProblem, BadProblem, TooLarge, BadArc, EndOutOfRange, WeightOutOfRange, TooManyArcs, MissingProblem, MissingArcs}
 use Rattle.caller_forests.specs.declared.refusals.CallRefusal.{CallRefusal}
 use Rattle.caller_forests.specs.declared.refusals.CallRefusal.TheVariants.{NoMemory, BadEnd, TooManyVertices, TooManyLinks, TooLong, Line, LengthsDiffer, TooFewPlaces, Cycle, Descending, Overlap}
 
--- the table of them, as the header has it: the codes -1 to -21 (`negsuc k` is -(k + 1)) and the texts; of a faulty line the
--- name that the program gives it
+-- The codes and texts as in the header. The codes are -1 to -21 (`negsuc k` is -(k + 1)). The text for an invalid line
+-- is the name that the program prints.
 abbrev pub row_of : CallRefusal → ℤ × List ℕ
 row_of NoMemory = (negsuc 0, codes "no memory")
 row_of BadEnd = (negsuc 1, codes "an endpoint isn't a vertex")

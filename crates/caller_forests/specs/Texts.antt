@@ -13,35 +13,35 @@ use Rattle.caller_forests.specs.declared.refusals.CallRefusal.{CallRefusal}
 use Rattle.caller_forests.specs.declared.refusals.CallRefusal.TheVariants.{NoMemory, TooLong, Line}
 use Rattle.caller_forests.specs.Refusals.{code_of, refusal_text}
 
--- a room once these bytes were put into it, as many as it has room for
+-- a buffer after these bytes were written into it, as many as fit
 abbrev pub filled : List ℕ → List ℕ → List ℕ
 filled bytes room = take (length room) bytes ++ drop (length bytes) room
 
--- a room once this text was put into it with a 0 behind it, cut so that the 0 fits; an empty room stays empty
+-- a buffer after this text and a 0 were written into it, truncated so that the 0 fits; an empty buffer stays empty
 abbrev pub filled_with_text : List ℕ → List ℕ → List ℕ
 filled_with_text text room = filled (take (length room - 1) text ++ 0 ∷ []) room
 
--- ---- what C gets of a refusal
+-- ---- errors as the C caller sees them
 
--- a refusal with its line, or with 0
+-- an error with its line, or with 0
 abbrev pub fault_at : CallRefusal → ℕ → Fault
 fault_at why line = record { kind = code_of why; line = line }
 
 abbrev pub no_fault : Fault
 no_fault = record { kind = pos 0; line = 0 }
 
--- the fault that C gets of a run over bytes in memory: of a line, too long a text, or want of memory
+-- the error that a C caller gets from a run over bytes in memory: an invalid line, too long a text, or out of memory
 abbrev pub fault_of : RunFault → Fault
 fault_of (run.Read (read.Gr f)) = fault_at (Line f.kind) f.line
 fault_of (run.Read read.TooLong) = fault_at TooLong 0
 fault_of other = fault_at NoMemory 0
 
--- this is the text of a refusal's code, or of a number that is none
+-- this is the text of an error code, or of a number that isn't one
 abbrev pub IsTextOfCode : ℤ → List ℕ → Type 0
 IsTextOfCode code text = ((why : CallRefusal) × (code ≡ code_of why) × (text ≡ refusal_text why))
     ⊎ (((why : CallRefusal) → code ≢ code_of why) × (text ≡ codes "not an error code"))
 
--- the code's text was put into the room with a 0 behind it, and the answer is how long the whole text is
+-- the code's text and a 0 were written into the buffer, and the result is the length of the whole text
 pub record GivesTextOf (code : ℤ) (before after : List ℕ) (answer : ℕ) : Type 0 where
   pub text : List ℕ
   pub text_is : IsTextOfCode code text
@@ -50,33 +50,34 @@ pub record GivesTextOf (code : ℤ) (before after : List ℕ) (answer : ℕ) : T
 
 -- ---- the forest of a text
 
--- the text of the forest that these bytes give was put into the room, and the answer is how long it is
+-- the text of the forest that these bytes describe was written into the buffer, and the result is its length
 pub record WritesForestText (bytes before after : List ℕ) (answer : ℤ) : Type 0 where
   pub text : List ℕ
   pub text_is : IsForestTextOf bytes text
   pub put : after ≡ filled text before
   pub counted : answer ≡ pos (length text)
 
--- the fault is one that these bytes have in memory, and the answer is its code
+-- the error is one that these bytes have in memory, and the result is its code
 abbrev pub RefusesText : List ℕ → ℤ → Fault → Type 0
 RefusesText bytes answer fault = (why : RunFault) × IsFaultInMemory bytes why × (fault ≡ fault_of why) × (answer ≡ fault.kind)
 
--- the fault is the first of these bytes, or want of memory
+-- the error is the first one of these bytes, or out of memory
 abbrev pub GivesFirstFault : List ℕ → Fault → Type 0
 GivesFirstFault bytes fault = ((kind : GrKind) × IsFirstFault bytes fault.line kind × (fault.kind ≡ code_of (Line kind)))
     ⊎ (fault ≡ fault_at NoMemory 0)
 
--- the answer is no refusal but want of memory
+-- the result is an error only if that is out of memory
 abbrev pub WantsMemoryAtMost : ℤ → Type 0
 WantsMemoryAtMost answer = (pos 0 ≤ℤ answer) ⊎ (answer ≡ code_of NoMemory)
 
--- the text of the forest of a text was put into the room, or the fault is why there is none, and the room is as it was
+-- either the text of the forest of a text was written into the buffer, or `fault` is why there is none and the buffer
+-- is unchanged
 pub record AnswersText (text before after : List ℕ) (fault : Fault) (answer : ℤ) : Type 0 where
   pub written : pos 0 ≤ℤ answer → WritesForestText text before after answer
   pub faultless : pos 0 ≤ℤ answer → fault ≡ no_fault
-  -- a refusal is a fault that reading the text meets, or want of memory
+  -- an error is one of reading the text, or out of memory
   pub refused : answer <ℤ pos 0 → RefusesText text answer fault
   pub untouched : answer <ℤ pos 0 → after ≡ before
-  -- a text that means no graph is refused by its first fault, one that does isn't, but for want of memory
+  -- an invalid text gives its first error, and a valid one gives no error but out of memory
   pub malformed : length text ≤ MAX_BYTES → MeansNothing text → GivesFirstFault text fault
   pub lawful : MeansGraph text → WantsMemoryAtMost answer

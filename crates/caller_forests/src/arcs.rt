@@ -1,4 +1,4 @@
-//! Arcs as a caller gives them: three columns.
+//! The caller's arcs, in three columns.
 ghost use Rattle.std.specs.Prelude.{◌≡◌, ◌↔◌, ◌<◌, ◌≤◌, ◌+◌, length, slice_index, slice_index_or, All, IsTrue, IsSome, IfSome, IfOk};
 ghost use Rattle.limits.specs.declared.TheConstants.{MAX_VERTICES};
 ghost use Rattle.links.specs.Arc.{Arc};
@@ -11,8 +11,8 @@ use links::Link;
 use std::alloc::{AllocError, Allocator};
 use std::marker::Model;
 
-/// Arcs in three columns: the arc at an index leads from the tail to the head there, and has the weight there. The vertices
-/// are `base` up to `base + n - 1`. Whether the columns are equally long is for the calls that take them.
+/// Arcs in three columns. The arc at an index leads from the tail to the head at that index, and has the weight there.
+/// The vertices are `base` to `base + n - 1`. The calls that take the columns check that their lengths are equal.
 #[derive(Clone, Copy)]
 pub struct Columns<'a> {
     pub base: u32,
@@ -43,7 +43,7 @@ impl<'a> Model for Arcs<'a> {
 }
 
 impl<'a> Arcs<'a> {
-    // The arcs of three columns, if these are equally long.
+    // Returns the arcs of three columns, if these have the same length.
     pub(crate) fn of_columns(columns: Columns<'a>) -> Option<Self>
         ensures columns { IsSome result ↔ AreColumns columns.entry.tails.now columns.entry.heads.now columns.entry.weights.now }
         ensures arcs { IfSome result (λ arcs. arcs ≡ arcs_in columns.entry.base columns.entry.tails.now columns.entry.heads.now
@@ -66,21 +66,20 @@ impl<'a> Arcs<'a> {
         })
     }
 
-    // How many they are.
     pub(crate) fn len(&self) -> usize
         ensures { result ≡ length self.now }
     {
         self.tails.len()
     }
 
-    // Whether both ends of each arc are vertices of a graph of n vertices.
+    // Whether both endpoints of each arc are vertices of a graph with n vertices.
     pub(crate) fn have_ends(&self, n: u32) -> bool
         ensures { IsTrue result ↔ All (HasEnds n) self.now }
     {
         are_vertices(n, self.base, self.tails) && are_vertices(n, self.base, self.heads)
     }
 
-    // The link of the arc at a place, between the vertices 1 to n; none for a loop.
+    // Returns the edge of the arc at an index, between vertices numbered from 1 to n, or none for a loop.
     #[inline]
     pub(crate) fn link(&self, n: u32, place: usize) -> Option<Link>
         requires few_vertices { n ≤ MAX_VERTICES }
@@ -95,7 +94,7 @@ impl<'a> Arcs<'a> {
         Link::of_arc(tail, head, self.weights[place])
     }
 
-    // The links of the arcs, in their order; a loop has none.
+    // Returns the edges of the arcs, in their order. A loop has none.
     pub(crate) fn links<A: Allocator + Copy>(
         &self,
         alloc: A,
@@ -117,7 +116,7 @@ impl<'a> Arcs<'a> {
     }
 }
 
-// Which of the vertices 1 to n the end at a place is, where they are numbered from base on.
+// Which of the vertices 1 to n the endpoint at an index is, if the column numbers them from `base` on.
 #[inline]
 fn vertex_at(n: u32, base: u32, ends: &[u32], place: usize) -> u32
     requires few_vertices { n ≤ MAX_VERTICES }
@@ -130,7 +129,7 @@ fn vertex_at(n: u32, base: u32, ends: &[u32], place: usize) -> u32
     ends[place] - base + 1
 }
 
-// Whether each of these is one of the n vertices that are numbered from base on.
+// Whether each of these is one of the n vertices that are numbered from `base` on.
 fn are_vertices(n: u32, base: u32, ends: &[u32]) -> bool
     ensures { IsTrue result ↔ All (λ v. (base ≤ v) × (v < base + n)) ends.now }
 {

@@ -1,7 +1,7 @@
-//! Arcs that may be links of the forest, and the least place of each link among them.
+//! Arcs that may be edges of the forest, and the least index of each edge among them.
 //!
-//! A byte for each vertex lets most other arcs be dismissed without a look at the links. The arcs that are left are put in
-//! the order of their keys, and gone over beside the links, which have it. So nobody can choose arcs that are slow.
+//! With one byte per vertex, most other arcs are dismissed without looking at the edges. The remaining arcs are sorted
+//! by their keys and merged with the edges, which are in the same order. So nobody can choose arcs that make this slow.
 ghost use Rattle.std.specs.Prelude.{◌≡◌, ◌↔◌, ℕ, ◌+◌, ◌<◌, ◌≤◌, length, take, slice_index, slice_index_or, All, Contains, IfOk, IsTrue};
 ghost use Rattle.std.specs.List.Sorted.{IsPermutation};
 ghost use Rattle.limits.specs.declared.TheConstants.{MAX_VERTICES, MAX_ARCS};
@@ -18,15 +18,15 @@ use links::sorting::wide;
 use std::alloc::{AllocError, Allocator};
 use std::marker::Model;
 
-/// An arc that is no loop, by its link and its place.
+/// An arc that isn't a loop, given by its edge and its index.
 #[derive(Clone, Copy)]
 pub(crate) struct Candidate {
     pub(crate) link: Link,
     pub(crate) place: u32,
 }
 
-/// What tells most arcs that are no links of a list. Each vertex has eight marks, for the links to higher ones: one for
-/// each remainder that the higher end leaves by 8.
+/// Recognizes most arcs that aren't edges of a list. Each vertex has eight marks for its edges to higher vertices, one
+/// for each remainder of the higher endpoint modulo 8.
 #[derive(Drop)]
 pub(crate) struct Sieve<'a, A: Allocator> {
     links: &'a [Link],
@@ -46,7 +46,7 @@ impl<'a, A: Allocator> Model for Sieve<'a, A> {
 }
 
 impl<'a, A: Allocator + Copy> Sieve<'a, A> {
-    // The sieve of links between the vertices 1 to n: a byte a vertex.
+    // Makes the sieve of edges between the vertices 1 to n, with one byte per vertex.
     pub(crate) fn of_links(alloc: A, n: u32, links: &'a [Link]) -> Result<Self, AllocError>
         requires few_vertices { n ≤ MAX_VERTICES }
         requires ends { EndsUpTo n links.now }
@@ -59,14 +59,13 @@ impl<'a, A: Allocator + Copy> Sieve<'a, A> {
 }
 
 impl<'a, A: Allocator> Sieve<'a, A> {
-    // Those links.
     pub(crate) fn links(&self) -> &'a [Link]
         ensures { result.now ≡ self.now }
     {
         self.links
     }
 
-    // Whether the link may be one of them.
+    // Whether the edge may be in the list.
     #[inline]
     pub(crate) fn may_have(&self, link: &Link) -> bool
         ensures { Contains self.now link.now → IsTrue result }
@@ -75,7 +74,7 @@ impl<'a, A: Allocator> Sieve<'a, A> {
     }
 }
 
-// Puts the links' marks.
+// Sets the marks of the edges.
 fn mark(links: &[Link], marks: &mut [u8])
     requires { All (λ l. l.low < length marks.old) links.now }
     ensures { All (IsMarked marks.new) links.now }
@@ -86,7 +85,7 @@ fn mark(links: &[Link], marks: &mut [u8])
     }
 }
 
-// Whether the link has its mark.
+// Whether the mark of the edge is set.
 #[inline]
 fn is_marked(marks: &[u8], link: &Link) -> bool
     ensures { IsTrue result ↔ IsMarked marks.now link.now }
@@ -97,8 +96,8 @@ fn is_marked(marks: &[u8], link: &Link) -> bool
     }
 }
 
-// Puts the arcs from a place on that the sieve lets through first, in their order, and returns how many they are. It goes
-// over as many arcs as there is room for. It takes no branch on what the sieve says.
+// Looks at the arcs from index `from` on, as many as `found` has elements. Writes those that the sieve lets through to
+// the front of `found`, in their order, and returns how many they are. It has no branch on the sieve's result.
 pub(crate) fn put_candidates<A: Allocator>(
     n: u32,
     arcs: &Arcs<'_>,
@@ -131,7 +130,7 @@ pub(crate) fn put_candidates<A: Allocator>(
     count
 }
 
-// Puts them in the order of their keys.
+// Sorts them by their keys.
 pub(crate) fn sort(found: &mut [Candidate])
     ensures same { IsPermutation found.old found.new }
     ensures ordered { AreInKeyOrder found.new }
@@ -139,7 +138,7 @@ pub(crate) fn sort(found: &mut [Candidate])
     found.sort_unstable_by_key(|candidate| wide(&candidate.link));
 }
 
-// Writes over what stands for each link the least place of its candidates, if that is less.
+// Lowers the index stored for each edge to the least index of its candidates, if that is less.
 pub(crate) fn put_least(links: &[Link], found: &[Candidate], places: &mut [u32])
     requires ascending { IsAscending links.now }
     requires ordered { AreInKeyOrder found.now }

@@ -1,4 +1,4 @@
-//! What a caller learns of a refusal.
+//! The errors as a caller sees them.
 ghost use Rattle.std.specs.Prelude.{◌≡◌};
 ghost use Rattle.caller_forests.specs.Texts.{fault_of, IsTextOfCode, GivesTextOf};
 
@@ -7,8 +7,8 @@ use crate::room::fill_with_text;
 use gr_text::ReadFault;
 use plain_run::RunFault;
 
-/// Why a text gives no forest, `struct boruvka_fault`: the code of the refusal, and the line of a text that is faulty,
-/// from 1; else 0. Both are 0 where there is a forest.
+/// Why a text gives no forest, `struct boruvka_fault`. `kind` is the error's code. `line` is the line of the text that
+/// is invalid, counted from 1, or 0 if the error isn't in a line. Both are 0 if there is a forest.
 #[repr(C)]
 #[derive(Clone, Copy)]
 pub struct Fault {
@@ -17,10 +17,10 @@ pub struct Fault {
 }
 
 impl Fault {
-    // That there is a forest.
+    // There is a forest.
     pub(crate) const NONE: Fault = Fault { kind: 0, line: 0 };
 
-    // The fault of a run over bytes in memory that has no forest.
+    // The error of a run over bytes in memory that has no forest.
     pub(crate) fn of_run(why: RunFault) -> Fault
         ensures { result ≡ fault_of why }
     {
@@ -41,7 +41,7 @@ impl Fault {
     }
 }
 
-// The text of a refusal's code, or of a number that is none.
+// The text of an error code, or of a number that isn't one.
 fn text_of_number(code: i64) -> &'static [u8]
     ensures { IsTextOfCode code result.now }
 {
@@ -51,9 +51,11 @@ fn text_of_number(code: i64) -> &'static [u8]
     }
 }
 
-/// Puts the text of a refusal's code into the caller's room, as `snprintf` does: a 0 ends it, and what doesn't fit before
-/// the 0 is left out. An empty room stays as it is. The answer is how many bytes the whole text has, without the 0. A
-/// number that is no such code has the text `not an error code`. It takes no memory.
+/// Writes the text of an error code into the caller's buffer, as `snprintf` does. A 0 ends it, and what doesn't fit
+/// before the 0 is left out. An empty buffer stays as it is.
+///
+/// Returns the number of bytes of the whole text, without the 0. A number that isn't an error code has the text
+/// `not an error code`. It allocates nothing.
 pub fn put_fault_text(kind: i64, into: &mut [u8]) -> usize
     ensures { GivesTextOf kind into.old into.new result }
 {

@@ -1,4 +1,4 @@
-//! The forest of links in the caller's memory.
+//! The forest of edges in the caller's memory.
 ghost use Rattle.std.specs.Prelude.{◌≡◌, ◌≤◌, IfOk, IfErr, OnOk, OnErr};
 ghost use Rattle.caller_forests.specs.Links.{AreRight, HoldsForest, IsLinksRefusal, AnswersForest};
 
@@ -8,7 +8,7 @@ use limits::{MAX_ARCS, MAX_VERTICES};
 use link_key::forest_of;
 use std::alloc::Allocator;
 
-// Writes the forest over the first of the links, and says how many links it has.
+// Writes the forest over the first of the edges, and returns how many edges it has.
 fn find_forest<A: Allocator + Copy>(
     alloc: A,
     n: u32,
@@ -39,12 +39,13 @@ fn find_forest<A: Allocator + Copy>(
     Ok(forest.links().len())
 }
 
-/// Writes the minimum spanning forest of a graph with the vertices 1 to `n` over the first of its links, in the order of
-/// their keys, and answers how many links it has; or answers the code of a [`CallRefusal`], which is negative. The links that
-/// stood there are lost, those behind stay.
+/// Finds the minimum spanning forest of a graph with the vertices 1 to `n` and writes it over the first of the graph's
+/// edges, in the order of their keys. Returns the number of its edges, or the code of a [`CallRefusal`], which is
+/// negative. The edges at those indices are lost; those after them stay.
 ///
-/// The links may come in any order, with their ends in either order, as loops and more than once. It takes the time of
-/// [`forest_of`], two passes over the links beside, and its memory, with 16 bytes a link for the list that it works in.
+/// The edges may come in any order. Their endpoints may be in either order, and loops and repeats are allowed. It takes
+/// the time of [`forest_of`] and two passes over the edges. It takes the memory of [`forest_of`], and 16 bytes per edge
+/// for the list in which that works.
 pub fn put_forest<A: Allocator + Copy>(alloc: A, n: u32, links: &mut [GivenLink]) -> i64
     ensures { AnswersForest n links.old links.new result }
 {

@@ -1,4 +1,4 @@
-//! Links as a caller gives them.
+//! The caller's edges.
 ghost use Rattle.std.specs.Prelude.{◌≡◌, ◌↔◌, ◌≤◌, ◌++◌, map, drop, length, IfOk, IfSome, IsNone, IsTrue};
 ghost use Rattle.limits.specs.declared.TheConstants.{MAX_VERTICES};
 ghost use Rattle.links.specs.Link.{AreLinksOf, EndsUpTo, arc_key, key_of};
@@ -9,8 +9,8 @@ use limits::MAX_VERTICES;
 use links::Link;
 use std::alloc::{AllocError, Allocator};
 
-/// A link as a caller gives it and gets it back, `struct boruvka_link`. What is given may have its ends in either order, be a
-/// loop, or have an end that is no vertex; what comes back has the lower end first.
+/// The caller's edge, `struct boruvka_link`. In the input its endpoints may be in either order, it may be a loop, or an
+/// endpoint may not be a vertex. In the output the lower endpoint is first.
 #[repr(C)]
 #[derive(Clone, Copy)]
 pub struct GivenLink {
@@ -20,7 +20,7 @@ pub struct GivenLink {
 }
 
 impl GivenLink {
-    // The link that it stands for, between the vertices 1 to n; none for a loop.
+    // The edge between vertices numbered from 1 to n, or none for a loop.
     fn to_link(self, n: u32) -> Option<Link>
         requires few_vertices { n ≤ MAX_VERTICES }
         requires ends { HasEnds n (arc_of self) }
@@ -31,7 +31,7 @@ impl GivenLink {
         Link::of_arc(self.low, self.high, self.weight)
     }
 
-    // A link as it is given back.
+    // The edge as the caller gets it back.
     fn of_link(link: Link) -> GivenLink
         ensures { result ≡ given_of link }
     {
@@ -43,28 +43,28 @@ impl GivenLink {
     }
 }
 
-// Whether both ends are vertices of such a graph.
+// Whether both endpoints are vertices of a graph with the vertices 1 to n.
 pub(crate) fn has_ends(n: u32, link: &GivenLink) -> bool
     ensures { IsTrue result ↔ HasEnds n (arc_of link.now) }
 {
     1 <= link.low && link.low <= n && 1 <= link.high && link.high <= n
 }
 
-/// Whether both ends of each link are vertices of a graph with the vertices 1 to n.
+/// Whether both endpoints of each edge are vertices of a graph with the vertices 1 to n.
 pub fn have_ends(n: u32, links: &[GivenLink]) -> bool
     ensures { IsTrue result ↔ HaveEnds n links.now }
 {
     links.iter().all(|link| has_ends(n, link))
 }
 
-/// Whether the ends of each link differ.
+/// Whether the two endpoints of each edge differ.
 pub fn have_no_loop(links: &[GivenLink]) -> bool
     ensures { IsTrue result ↔ HaveNoLoop links.now }
 {
     links.iter().all(|link| link.low != link.high)
 }
 
-/// The links that these stand for, in their order; a loop stands for none. It takes 16 bytes a link.
+/// Returns the edges as a list of `Link`, in their order, without loops. It takes 16 bytes per edge.
 pub fn links_of<A: Allocator + Copy>(
     alloc: A,
     n: u32,
@@ -86,7 +86,7 @@ pub fn links_of<A: Allocator + Copy>(
     Ok(links)
 }
 
-// Puts these links first; behind them stays what stood there.
+// Writes these edges to the front, and leaves those after them.
 pub(crate) fn put_first(given: &mut [GivenLink], links: &[Link])
     requires { length links.now ≤ length given.old }
     ensures { given.new ≡ map given_of links.now ++ drop (length links.now) given.old }

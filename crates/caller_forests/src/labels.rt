@@ -1,4 +1,4 @@
-//! Labels of vertices by the components that links in the caller's memory join.
+//! Labels the vertices with the components that edges in the caller's memory form.
 ghost use Rattle.std.specs.Prelude.{◌≡◌, length, IfErr, OnOk, OnErr};
 ghost use Rattle.caller_forests.specs.Labels.{AreLabelsBy, IsLabelsRefusal, AnswersLabels};
 ghost use Rattle.caller_forests.specs.Links.{AreRight};
@@ -46,13 +46,14 @@ fn find_labels<A: Allocator + Copy>(
     Ok(())
 }
 
-/// Writes the least vertex of each vertex's component under these links over `label`, that of vertex v at v - 1, and
-/// returns how many vertices these are, the length of `label`; or returns the code of a [`CallRefusal`], which is negative.
-/// The links may come in any order, with their ends in either order, but close no cycle, as a loop or a link that stands
-/// twice would.
+/// Writes the least vertex of each vertex's component over `label`, that of vertex v at index v - 1. Returns the number
+/// of vertices, which is the length of `label`, or the code of a [`CallRefusal`], which is negative.
 ///
-/// It takes the time and the memory of [`components_of`], two passes over the links and one over the labels, and 16 bytes
-/// per link for the list that it works in.
+/// The edges may come in any order, with their endpoints in either order. They must not close a cycle, as a loop or a
+/// repeated edge does.
+///
+/// It takes the time and the memory of [`components_of`]. In addition it takes two passes over the edges and one over
+/// the labels, and 16 bytes per edge for the list in which it works.
 pub fn put_labels<A: Allocator + Copy>(alloc: A, links: &[GivenLink], label: &mut [u32]) -> i64
     ensures { AnswersLabels links.now label.old label.new result }
 {

@@ -1,22 +1,23 @@
-//! Forests, their links' indices among arcs, labels and merges, and the text of the forest of a text, in the caller's memory:
-//! the bodies of the calls for C, over any allocator.
+//! Implements the calls for C, with any allocator and on the caller's memory. They find forests, the indices of a
+//! forest's edges among arcs, component labels, cluster merges, and the text of the forest of a text. In the code an
+//! edge is a `Link`, and the caller's edge a `GivenLink`.
 //!
 //! ```text
 //!   links    --given-->  Vec<Link>  --forest_of-->  Forest  --given-->  the first of the links   put_forest
-//!   columns  --arcs-->  Vec<Link>  --forest_of-->  Forest  --candidates-->  the caller's places  put_places
+//!   columns  --arcs-->  Vec<Link>  --forest_of-->  Forest  --candidates-->  the caller's indices put_places
 //!   links    --given-->  Vec<Link>  --components_of-->  Labels  -->  the caller's labels         put_labels
 //!   links    --given-->  Vec<Link>  --merges_of-->  Vec<Merge>  -->  the caller's merges         put_merges
-//!   text     --plain_run::plain_text-->  the forest's text  --room-->  the caller's room         put_forest_text
-//!   a code   --refusals-->  its text  --room-->  the caller's room                               put_fault_text
+//!   text     --plain_run::plain_text-->  the forest's text  --room-->  the caller's buffer       put_forest_text
+//!   a code   --refusals-->  its text  --room-->  the caller's buffer                             put_fault_text
 //! ```
 //!
 //! What it promises:
-//! - A call answers exactly the forest, the indices, the labels or the merges, as their definitions in `link_key`, `plain_run`
-//!   and `link_merges` say, or a refusal with its cause; where it refuses, the caller's memory stays as it was.
-//! - Nothing is written past what a caller gave.
+//! - A call returns exactly the forest, the indices, the labels or the merges, as `link_key`, `plain_run` and
+//!   `link_merges` define them. Otherwise it returns an error with its cause, and the caller's memory stays as it was.
+//! - Nothing is written outside the memory that a caller passed.
 //!
-//! Where to start a change: a call's meaning, `specs/Links`, `Places`, `Labels`, `Merges` and `Texts`; a refusal, its code and
-//! its text, `specs/Refusals`, then `refusals`, and `include/boruvka.h`.
+//! To change what a call means, start with `specs/Links`, `Places`, `Labels`, `Merges` or `Texts`. To change an error,
+//! its code or its text, start with `specs/Refusals`, then `refusals` and `include/boruvka.h`.
 #![tactic(auto)]
 
 mod arcs;

@@ -1,4 +1,4 @@
-//! The merges of clusters that links in the caller's memory make.
+//! The merges of clusters by edges in the caller's memory.
 ghost use Rattle.std.specs.Prelude.{◌≡◌, ◌↔◌, length, IsTrue, IfErr, OnOk, OnErr};
 ghost use Rattle.caller_forests.specs.Merges.{NoneDescends, HaveMerges, AreMergesBy, IsMergesRefusal, AnswersMerges};
 
@@ -8,14 +8,13 @@ use limits::{MAX_ARCS, MAX_VERTICES};
 use link_merges::{Merge, merges_of};
 use std::alloc::Allocator;
 
-// Whether no link weighs less than one before it.
 fn none_descends(links: &[GivenLink]) -> bool
     ensures { IsTrue result ↔ NoneDescends links.now }
 {
     links.is_sorted_by(|earlier, later| earlier.weight <= later.weight)
 }
 
-// Writes the merges, link by link.
+// Writes the merges, one per edge.
 fn find_merges<A: Allocator + Copy>(
     alloc: A,
     n: u32,
@@ -58,13 +57,16 @@ fn find_merges<A: Allocator + Copy>(
     Ok(())
 }
 
-/// Writes the merges of the clusters of `n` points by these links over `merges`, a merge for each link, and answers how many
-/// these are; or answers the code of a [`CallRefusal`], which is negative. The points are the clusters 0 to n - 1, of which
-/// cluster v - 1 is the vertex v; the link at place i joins two clusters into the cluster n + i. So with weights for heights
-/// n - 1 merges are a linkage matrix, and those of a forest are single linkage.
+/// Writes the merges of the clusters of `n` points by these edges over `merges`, one merge per edge. Returns their
+/// number, or the code of a [`CallRefusal`], which is negative.
 ///
-/// The links close no cycle, and none weighs less than one before it; their ends may come in either order. It takes the time
-/// and the memory of [`merges_of`], three passes over the links beside, and 16 bytes a link for the list that it works in.
+/// The points are the clusters 0 to n - 1, and vertex v is cluster v - 1. The edge at index i joins two clusters into
+/// the cluster n + i. With weights as heights, n - 1 merges are therefore a linkage matrix, and those of a forest are
+/// single linkage.
+///
+/// The edges must not close a cycle, and none may weigh less than one before it; their endpoints may be in either
+/// order. It takes the time and the memory of [`merges_of`], three passes over the edges, and 16 bytes per edge for the
+/// list in which it works.
 pub fn put_merges<A: Allocator + Copy>(
     alloc: A,
     n: u32,

@@ -1,4 +1,4 @@
-//! The places of the forest's links among arcs in the caller's memory.
+//! The indices of the forest's edges among arcs in the caller's memory.
 ghost use Rattle.std.specs.Prelude.{◌≡◌, ℕ, ◌<◌, ◌≤◌, length, slice_index, slice_index_or, All, IfOk, IfErr, OnOk, OnErr};
 ghost use Rattle.limits.specs.declared.TheConstants.{MAX_VERTICES, MAX_ARCS};
 ghost use Rattle.links.specs.Link.{IsAscending};
@@ -14,8 +14,8 @@ use limits::{MAX_ARCS, MAX_VERTICES};
 use link_key::forest_of;
 use std::alloc::Allocator;
 
-// Writes the index of the first arc of each link of the sieve, in their order. It goes over as many arcs at a time as there
-// is room for candidates.
+// Writes the index of the first arc of each of the sieve's edges, in their order. It goes over as many arcs at a time
+// as `found` has elements.
 fn put_first_places<A: Allocator>(
     n: u32,
     arcs: &Arcs<'_>,
@@ -45,7 +45,7 @@ fn put_first_places<A: Allocator>(
     }
 }
 
-// Writes the places of the forest's links over the first of the caller's, and says how many they are.
+// Writes the indices of the forest's edges over the first of `places`, and returns how many they are.
 fn find_places<A: Allocator + Copy>(
     alloc: A,
     n: u32,
@@ -100,17 +100,19 @@ fn find_places<A: Allocator + Copy>(
     Ok(links.len())
 }
 
-/// Writes the indices, from 0 on, of the forest's links among the arcs over the first of `places`, in the order of the
-/// links' keys, and returns how many there are; or returns the code of a [`CallRefusal`], which is negative. If several
-/// arcs are one link, it is the index of the first of them.
+/// Finds the indices, counted from 0, of the forest's edges among the arcs. Writes them over the first of `places`, in
+/// the order of the edges' keys, and returns their number, or the code of a [`CallRefusal`], which is negative. If
+/// several arcs are the same edge, the index is that of the first one.
 ///
-/// Arcs may come in any order, either way, as loops and more than once. For m arcs no more than m or n - 1 places are
-/// needed, whichever is less.
+/// Arcs may come in any order and in either direction, and loops and repeats are allowed. For m arcs at most m indices
+/// are needed, and at most n - 1.
 ///
-/// It takes the time of [`forest_of`], two passes over the arcs before that, and one pass after it, which sorts the arcs
-/// that may be links of the forest: these, about one in eight of the others, and all arcs at worst. So m arcs take
-/// O(m log m) time, whatever they are. Memory: that of [`forest_of`], 16 bytes per arc for the list that it works in, and
-/// once it is done 24 bytes for each link of the forest and one byte per vertex.
+/// It takes the time of [`forest_of`], two passes over the arcs before it, and one pass after it. The last pass sorts
+/// the arcs that may be edges of the forest: those that are, about one in eight of the others, and at worst all. So m
+/// arcs take O(m log m) time, whatever they are.
+///
+/// It takes the memory of [`forest_of`], and 16 bytes per arc for the list in which that works. After that it takes 24
+/// bytes per edge of the forest and one byte per vertex.
 pub fn put_places<A: Allocator + Copy>(
     alloc: A,
     n: u32,

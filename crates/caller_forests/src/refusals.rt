@@ -1,40 +1,40 @@
-//! Why a call gives no forest, each reason with a code and a text.
+//! Why a call returns an error: each reason has a code and a text.
 ghost use Rattle.std.specs.Prelude.{◌≡◌, ◌≢◌, MatchOption};
 ghost use Rattle.caller_forests.specs.declared.refusals.CallRefusal.{CallRefusal};
 ghost use Rattle.caller_forests.specs.Refusals.{code_of, refusal_text};
 
 use gr_text::GrKind;
 
-/// Why a call gives no forest.
+/// Why a call returns an error.
 #[derive(Clone, Copy)]
 pub enum CallRefusal {
-    /// Memory was refused.
+    /// There was no memory.
     NoMemory,
-    /// An end of a link isn't a vertex: 1 up to their number.
+    /// An endpoint of an edge isn't a vertex, that is, a number from 1 to the number of vertices.
     BadEnd,
     /// There are more than 2^26 vertices.
     TooManyVertices,
-    /// There are more than 2^30 links.
+    /// There are more than 2^30 edges.
     TooManyLinks,
     /// A text has more than 2^40 bytes.
     TooLong,
-    /// A line of a text has a fault.
+    /// A line of a text is invalid.
     Line(GrKind),
-    /// Columns of arcs, or links and merges, are of different lengths.
+    /// Columns of arcs, or links and merges, have different lengths.
     LengthsDiffer,
-    /// The forest has more links than there is room for places.
+    /// The forest has more edges than `places` has elements.
     TooFewPlaces,
-    /// Links close a cycle: one of them is a loop, stands twice, or joins what others join.
+    /// The edges close a cycle: one of them is a loop, occurs twice, or connects vertices that others connect.
     Cycle,
-    /// A link weighs less than the one before it.
+    /// An edge weighs less than the one before it.
     Descending,
-    /// An output and an input lie in the same memory. No call here says so: a slice that is written overlaps no other. It
-    /// is what the inline calls of `include/boruvka.h` return.
+    /// An output and an input overlap in memory. No call in this crate returns this, because a slice that is written
+    /// overlaps no other. The inline calls of `include/boruvka.h` return it.
     Overlap,
 }
 
 impl CallRefusal {
-    // The table of them: its code and its text, which for a faulty line is the name that the program gives it.
+    // The code and the text of each error. The text for an invalid line is the name that the program prints.
     fn row(self) -> (i64, &'static [u8])
         ensures code { result.0 ≡ code_of self }
         ensures text { result.1.now ≡ refusal_text self }
@@ -64,21 +64,20 @@ impl CallRefusal {
         }
     }
 
-    /// Its code, a negative number.
+    /// The code, a negative number.
     pub fn code(self) -> i64
         ensures { result ≡ code_of self }
     {
         self.row().0
     }
 
-    // Its text.
     pub(crate) fn text(self) -> &'static [u8]
         ensures { result.now ≡ refusal_text self }
     {
         self.row().1
     }
 
-    // The refusal that has this code.
+    // The error that has this code.
     pub(crate) fn of_code(code: i64) -> Option<CallRefusal>
         ensures { MatchOption result ((why : CallRefusal) → code ≢ code_of why) (λ why. code ≡ code_of why) }
     {

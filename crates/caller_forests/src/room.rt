@@ -1,8 +1,8 @@
-//! Bytes into a caller's room.
+//! Writes bytes into a caller's buffer.
 ghost use Rattle.std.specs.Prelude.{◌≡◌};
 ghost use Rattle.caller_forests.specs.Texts.{filled, filled_with_text};
 
-// Puts as many of the bytes into the room as it has room for.
+// Writes as many of the bytes into the buffer as fit.
 pub(crate) fn fill_room(room: &mut [u8], bytes: &[u8])
     ensures { room.new ≡ filled bytes.now room.old }
 {
@@ -10,7 +10,8 @@ pub(crate) fn fill_room(room: &mut [u8], bytes: &[u8])
     room[..count].copy_from_slice(&bytes[..count]);
 }
 
-// Puts the text with a 0 behind it into the room, cut so that the 0 fits. An empty room has none.
+// Writes the text and a 0 after it into the buffer, and truncates the text so that the 0 fits. An empty buffer stays
+// empty.
 pub(crate) fn fill_with_text(room: &mut [u8], text: &[u8])
     ensures { room.new ≡ filled_with_text text.now room.old }
 {

@@ -6,10 +6,11 @@ use crate::room::fill_room;
 use plain_run::plain_text;
 use std::alloc::Allocator;
 
-/// Puts the text of the minimum spanning forest of a `.gr` text into the caller's room, as far as it has room, and
-/// answers how many bytes it has; or answers the code of a refusal, which is negative, and puts it into `fault`.
+/// Writes the text of the minimum spanning forest of a `.gr` text into the caller's buffer, as much as fits, and
+/// returns the number of bytes of the whole text. On an error it returns the error's code, which is negative, and
+/// writes the code and the line into `fault`.
 ///
-/// It costs what [`plain_text`] does, in whose memory the whole text stands first.
+/// It costs what [`plain_text`] does, which first builds the whole text in memory.
 pub fn put_forest_text<A: Allocator + Copy>(
     alloc: A,
     text: &[u8],

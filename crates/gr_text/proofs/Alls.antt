@@ -1,4 +1,4 @@
--- What each element of a list has, and what parts of the list have.
+-- What holds for each element of a list, and what for parts of the list.
 use Rattle.std.proofs.Common.{List, [], ◌∷◌, ◌++◌}
 use Rattle.std.specs.List.{AllByRecursion}
 

@@ -1,4 +1,4 @@
--- Bytes that are arc lines, put together, and what they add to what whole lines say.
+-- Arc lines of several parts of the bytes, put together, and what they add to the whole lines so far.
 use Rattle.std.proofs.Common.{◌≡◌, ℕ, ◌+◌, ◌-◌, ◌≤◌, inl, inr, List, [], ◌∷◌, ◌++◌, refl, ap, sym, ◌∙◌, subst, arith, map, length, take, Option, Some, length-append, append_assoc, not}
 use Rattle.std.specs.Prelude.{option_to_list, All}
 use Rattle.std.specs.List.{AllByRecursion, filter}
@@ -19,13 +19,13 @@ use Rattle.gr_text.proofs.Alls.{All-both}
 use Rattle.gr_text.proofs.Cuts.{EndsLines-none, EndsLines-more, EndsLines-line}
 use Rattle.gr_text.proofs.Steps.{AreLinksOf-append}
 
--- what lines say, one part after the other
+-- what lines state, one part after the other
 pub Say-append : (lines others : List (List ℕ)) (ss ts : List Statement) → Say lines ss → Say others ts → Say (lines ++ others) (ss ++ ts)
 Say-append [] others ss ts say also = subst (λ (xs : List Statement). Say others (xs ++ ts)) (sym say) also
 Say-append (line ∷ lines) others ss ts (inl (quiet, say)) also = inl (quiet, Say-append lines others ss ts say also)
 Say-append (line ∷ lines) others ss ts (inr (s, more, says, say, is)) also = search (arith, Say-append lines others more ts say also)
 
--- no bytes, one line, and one part behind another
+-- no bytes, one line, and one part after another
 pub arcs_none : (n : ℕ) → AreArcLines n 0 [] []
 arcs_none n = record { lines = []; arcs = []; cut = EndsLines-none; say = refl; each = tt; each_line = refl; each_arc = refl; of_arcs = refl }
 
@@ -58,7 +58,7 @@ pub arcs_more : (n k : ℕ) (done rest : List ℕ) (links : List Link) (link : O
     → AreArcLines n (k + 1) (done ++ ended first.line) (links ++ option_to_list link)
 arcs_more n k done rest links link after are first = arcs_append n k 1 done (ended first.line) links (option_to_list link) are (arcs_one n rest link after first)
 
--- the links of arcs are no more than these, and have their ends
+-- arcs have at most as many edges, and these have the arcs' endpoints
 pub links_few : (arcs : List Arc) (links : List Link) → AreLinksOf arcs links → length links ≤ length arcs
 links_few arcs links are =
     let kept = filter is_no_loop arcs in
@@ -74,7 +74,7 @@ links_within n arcs links each are k d lt =
     subst High (get_or-map key_of links k d (key_of d) lt)
     (subst (All High) (sym are) keys k (key_of d) (omega (arith, lt, length-map links key_of)))
 
--- behind lines of which this is kept, arc lines that the problem has room for
+-- after lines of which this is stored come arc lines, at most as many as the problem still allows
 pub kept_more : (size : ProblemSize) (count k : ℕ) (old links : List Link) (before : List (List ℕ)) (bytes : List ℕ) → AreKept (Some size) count old before
     → (are : AreArcLines size.vertices k bytes links) → k ≤ size.arcs - count → AreKept (Some size) (count + k) (old ++ links) (before ++ are.lines)
 kept_more size count k old links before bytes (arcs, lawful, counted, of_arcs) are room = (
@@ -99,7 +99,7 @@ within_more size count k old links bytes within are room = (
   omega (arith, length-append old links, within.2, links_few are.arcs links are.of_arcs, are.each_arc),
 )
 
--- links appended by one part of the bytes, and then by another
+-- edges appended by one part of the bytes, and then by another
 pub appends_both : (n count : ℕ) (bytes xs ys : List ℕ) (found : ArcLines) (room old middle new : List Link) → bytes ≡ xs ++ ys
     → AppendsOrNot n xs (Some count) old middle → FillsRoom n ys found room → new ≡ middle ++ take found.links room
     → AppendsOrNot n bytes (Some (count + found.lines)) old new

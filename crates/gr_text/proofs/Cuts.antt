@@ -1,4 +1,4 @@
--- The lines of a text when more of it comes.
+-- The lines of a text after more of it has come.
 use Rattle.std.proofs.Common.{◌≡◌, ◌≢◌, ℕ, List, [], ◌∷◌, ◌++◌, refl, ap, sym, ◌∙◌, subst, append_assoc, append-nil, ◌⊎◌, inl, inr}
 use Rattle.std.specs.List.{flat_map}
 use Rattle.std.proofs.lemmas.Grind.{flat_map-append}
@@ -9,7 +9,6 @@ use Rattle.gr_text.proofs.Alls.{All-both, All-push}
 pub EndsLines-none : EndsLines [] [] []
 EndsLines-none = record { whole = refl; each = tt; last = tt }
 
--- more bytes of a line
 pub EndsLines-bytes : (text : List ℕ) (lines : List (List ℕ)) (part more : List ℕ) → EndsLines text lines part → IsLine more → EndsLines (text ++ more) lines (part ++ more)
 EndsLines-bytes text lines part more cut is_line = record {
   whole = ap (λ (xs : List ℕ). xs ++ more) cut.whole ∙ append_assoc (flat_map ended lines) part more;
@@ -17,7 +16,6 @@ EndsLines-bytes text lines part more cut is_line = record {
   last = All-both (λ b. b ≢ line_feed) part more cut.last is_line;
 }
 
--- a line feed ends the line
 pub EndsLines-feed : (text : List ℕ) (lines : List (List ℕ)) (part : List ℕ) → EndsLines text lines part → EndsLines (text ++ line_feed ∷ []) (lines ++ part ∷ []) []
 EndsLines-feed text lines part cut = record {
   whole = ap (λ (xs : List ℕ). xs ++ line_feed ∷ []) cut.whole ∙ append_assoc (flat_map ended lines) part (line_feed ∷ [])
@@ -27,7 +25,7 @@ EndsLines-feed text lines part cut = record {
   last = tt;
 }
 
--- the rest of a line, and its line feed
+-- the rest of a line and its line feed
 pub EndsLines-line : (text : List ℕ) (lines : List (List ℕ)) (part line : List ℕ) → EndsLines text lines part → IsLine line → EndsLines (text ++ ended line) (lines ++ (part ++ line) ∷ []) []
 EndsLines-line text lines part line cut is_line =
     subst (λ (xs : List ℕ). EndsLines xs (lines ++ (part ++ line) ∷ []) []) (append_assoc text line (line_feed ∷ []))
@@ -42,7 +40,7 @@ cut_with b text (inr other) [] part cut =
 cut_with b text (inr other) (line ∷ lines) part cut =
     ((b ∷ line) ∷ lines, part, record { whole = ap (λ (xs : List ℕ). b ∷ xs) cut.whole; each = ((other, cut.each.0), cut.each.1); last = cut.last })
 
--- Every text is whole lines and then a part of one. By induction from the front.
+-- Every text consists of whole lines and then a part of one. By induction from the front.
 pub cut_of : (text : List ℕ) → (lines : List (List ℕ)) × (part : List ℕ) × EndsLines text lines part
 cut_of [] = ([], [], EndsLines-none)
 cut_of (b ∷ text) =
@@ -50,7 +48,7 @@ cut_of (b ∷ text) =
     let which : (b ≡ line_feed) ⊎ (b ≢ line_feed) = elim (eqb_tells b line_feed) [ inl (test, same) ↦ inl same | inr (test, other) ↦ inr other ] in
     cut_with b text which lines part cut
 
--- a text of which the rest goes on
+-- a text whose rest is continued
 pub EndsLines-more : (s t : List ℕ) (ls ms : List (List ℕ)) (part r : List ℕ) → EndsLines s ls part → EndsLines (part ++ t) ms r → EndsLines (s ++ t) (ls ++ ms) r
 EndsLines-more s t ls ms part r a b = record {
   whole = ap (λ (xs : List ℕ). xs ++ t) a.whole ∙ append_assoc (flat_map ended ls) part t ∙ ap (λ (xs : List ℕ). flat_map ended ls ++ xs) b.whole

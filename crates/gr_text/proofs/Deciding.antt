@@ -1,4 +1,4 @@
--- Each line is lawful after lawful ones or has a kind of fault, and so each text means a graph or has a first fault.
+-- After valid lines, each line is valid or has a kind of error. So each text describes a graph or has a first error.
 use Rattle.std.proofs.Common.{◌≡◌, ℕ, ℤ, ◌+◌, ◌⊎◌, inl, inr, List, [], ◌∷◌, ◌++◌, refl, sym, subst, arith, append_assoc, append-nil, length}
 use Rattle.std.proofs.lemmas.Bool.Decides.{leb_tells}
 use Rattle.std.proofs.lemmas.Int.{by_lt_z, ints}
@@ -26,7 +26,7 @@ ends_or_not n arc = search (arith, both_or_not, within_or_not)
 weight_or_not : (w : ℤ) → IsWeight w ⊎ ¬ (IsWeight w)
 weight_or_not w = search (arith, by_lt_z, ints)
 
--- what a line is after lawful ones
+-- what a line is after valid ones
 abbrev Goes : List (List ℕ) → List ℕ → Type 0
 Goes before line = AreLawfulSoFar (before ++ line ∷ []) ⊎ ((kind : GrKind) × IsFaultAfter before line kind)
 
@@ -68,7 +68,7 @@ line_goes : (before : List (List ℕ)) (line : List ℕ) → AreLawfulSoFar befo
 line_goes before line (inl none) = let (sort, of_sort) = sort_of line in goes before line sort Unsaid none of_sort
 line_goes before line (inr (n, m, arcs, known)) = let (sort, of_sort) = sort_of line in goes before line sort (Stated n m arcs) known of_sort
 
--- Lines behind lawful ones are lawful, or have a first faulty one. By induction on them.
+-- Lines after valid ones are valid, or have a first invalid one. By induction on these lines.
 lines_go : (lines before : List (List ℕ)) → AreLawfulSoFar before → AreLawfulSoFar (before ++ lines) ⊎ ((number : ℕ) × (kind : GrKind) × IsFirstFaulty (before ++ lines) number kind)
 lines_go [] before lawful = inl (subst AreLawfulSoFar (sym (append-nil before)) lawful)
 lines_go (line ∷ lines) before lawful = elim (line_goes before line lawful) [

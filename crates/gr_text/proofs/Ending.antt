@@ -1,4 +1,4 @@
--- The end of a text: its last line, and what lacks.
+-- The end of a text: its last line, and what is missing after it.
 use Rattle.std.proofs.Common.{◌≡◌, ℕ, ◌+◌, ◌≤◌, inl, inr, List, [], ◌∷◌, ◌++◌, refl, sym, ◌∙◌, subst, arith, append-nil, length, true, false, Result, Ok, Err, MatchResult, take_all}
 use Rattle.std.proofs.lemmas.List.{length_push}
 use Rattle.std.proofs.lemmas.Bool.Decides.{leb_tells}
@@ -15,7 +15,7 @@ use Rattle.gr_text.proofs.Faulty.{first_faulty_at}
 use Rattle.gr_text.proofs.Feeding.{IsFirstFaulty-more}
 use Rattle.gr_text.proofs.Standing.{lawful_of}
 
--- the lines with a last one that has begun, and with none
+-- the lines with a last one that has begun, and without one
 with_last-begun : (lines : List (List ℕ)) (part : List ℕ) → is_begun part ≡ true → with_last lines part ≡ lines ++ part ∷ []
 with_last-begun a1 a2 a3 = search arith
 
@@ -26,7 +26,7 @@ with_last-more : (lines : List (List ℕ)) (part : List ℕ) → (more : List (L
 with_last-more lines [] = ([], sym (append-nil lines))
 with_last-more lines (b ∷ part) = ((b ∷ part) ∷ [], refl)
 
--- the first faulty line among those that a line feed ends is that of the text
+-- the first invalid line among those that a line feed ends is that of the text
 pub first_of_ended : (text : List ℕ) (number : ℕ) (kind : GrKind) → IsEndedFault text number kind → IsFirstFault text number kind
 first_of_ended text number kind (lines, rest, cut, first) =
     let (more, is) = with_last-more lines rest in (
@@ -35,7 +35,7 @@ first_of_ended text number kind (lines, rest, cut, first) =
       inl (subst (λ (xs : List (List ℕ)). IsFirstFaulty xs number kind) (sym is) (IsFirstFaulty-more lines more number kind first)),
     )
 
--- the last line has a fault
+-- the last line is invalid
 pub last_fault : {swap : Swap} (e : ReadFault) (limit : ℕ) (r : ReaderValue) (text : List ℕ) → length text ≤ limit → (stands : Stands swap r text) → is_begun stands.part ≡ true
     → IsLineFault e r.number stands.lines stands.part → FailsBy e limit text
 last_fault (fault.Gr f) limit r text short stands begun (line_is, fits) =
@@ -63,7 +63,7 @@ pub ends_whole : {swap : Swap} (outcome : Result GraphValue ReadFault) (limit : 
     → IsReadBut swap limit text outcome
 ends_whole {swap} outcome limit r text short stands none gives = search (arith, graph_of, with_last-none)
 
--- the last line lacks its line feed, and is taken
+-- the last line lacks its line feed and is valid
 pub ends_within : {swap : Swap} (outcome : Result GraphValue ReadFault) (limit : ℕ) (r : ReaderValue) (text : List ℕ) → length text ≤ limit → (stands : Stands swap r text)
     → is_begun stands.part ≡ true
     → MatchResult outcome (λ graph. IsGraphOfLinesBut swap (stands.lines ++ stands.part ∷ []) graph) (λ e. IsLack e (r.number + 1) (stands.lines ++ stands.part ∷ []))
@@ -72,6 +72,6 @@ ends_within {swap} outcome limit r text short stands begun gives =
     graph_of swap outcome limit text (stands.lines ++ stands.part ∷ []) (r.number + 1) short
     (stands.lines, stands.part, stands.cut, sym (with_last-begun stands.lines stands.part begun)) (omega (arith, length_push stands.lines stands.part, stands.numbered)) gives
 
--- what stopped the reader is why the whole text isn't read
+-- what stopped the reader is why the whole text has no graph
 pub fails_of_stops : (e : ReadFault) (limit : ℕ) (text : List ℕ) → StopsBy e limit text → FailsBy e limit text
 fails_of_stops a1 a2 a3 a4 = search (arith, leb_tells, first_of_ended, take_all)

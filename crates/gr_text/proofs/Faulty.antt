@@ -1,4 +1,4 @@
--- What the last of lawful lines is, and that a line whose fault has a kind isn't such.
+-- What the last of valid lines is, and that a line with an error isn't one.
 use Rattle.std.proofs.Common.{◌≡◌, ℕ, ◌+◌, ◌<◌, ◌≤◌, ◌⊎◌, inl, inr, List, [], ◌∷◌, ◌++◌, refl, ap, sym, ◌∙◌, subst, arith, map, length}
 use Rattle.std.specs.List.{AllByRecursion}
 use Rattle.std.proofs.lemmas.List.{length_push}
@@ -14,7 +14,7 @@ use Rattle.gr_text.proofs.Steps.{AreLawfulLines-like}
 use Rattle.gr_text.proofs.Sorts.{IsOfSort-unique}
 use Rattle.gr_text.proofs.Texts.{said_unique}
 
--- what the last of some lines adds to what the others say
+-- what the last of some lines adds to what the others state
 Say-split : (lines : List (List ℕ)) (line : List ℕ) (ss : List Statement) → Say (lines ++ line ∷ []) ss
     → (before : List Statement) × Say lines before × ((IsSilent line × (ss ≡ before)) ⊎ ((s : Statement) × Says line s × (ss ≡ before ++ s ∷ [])))
 Say-split [] line ss (inl (quiet, none)) = ([], refl, inl (quiet, none))
@@ -42,7 +42,7 @@ arcs_split (a ∷ arcs) (t ∷ earlier) s e =
     (a ∷ front, last, cc, cc, same)
 arcs_split arcs earlier s e = absurd (cc)
 
--- what the last of lawful lines may be, by what the others say
+-- what the last of valid lines may be, given what the others state
 abbrev EndsLawfully : SaidSoFar → List ℕ → Type 0
 EndsLawfully Unsaid line = IsSilent line ⊎ ((n m : ℕ) × Says line (Problem n m) × (n ≤ MAX_VERTICES) × (m ≤ MAX_ARCS))
 EndsLawfully (Stated n m arcs) line = IsSilent line ⊎ ((arc : Arc) × Says line (ArcLine arc) × IsArcOf n arc × (length arcs < m))
@@ -81,7 +81,7 @@ lawful_ends lines line (inr (n, m, arcs, lawful)) =
       | inr (s, line_says, same) ↦ speaks_last lines (lines ++ line ∷ []) line n m arcs earlier s lawful says line_says same
     ]
 
--- The kind says something of the line that no lawful line after those is.
+-- The kind of an error excludes every statement that a valid line after those may make.
 fault_is_faulty : (before : List (List ℕ)) (line : List ℕ) (kind : GrKind) → IsFaultAfter before line kind → ¬ (AreLawfulSoFar (before ++ line ∷ []))
 fault_is_faulty before line kind fault lawful =
     let (so_far, said, ends) = lawful_ends before line lawful in
@@ -97,7 +97,7 @@ fault_is_faulty before line kind fault lawful =
     no_such (Stated n m arcs) wrong (inr (arc, says, is_arc, room)) =
         elim (as_sort (Stated n m arcs) (Makes (ArcLine arc)) says wrong) [ inl full ↦ omega (arith, full.0) | inr (inl bad) ↦ bad.1 is_arc.0 | inr (inr bad) ↦ bad.2 is_arc.1 ]
 
--- a line with a fault behind lawful ones is the first faulty one
+-- a line with an error after valid lines is the first invalid one
 pub first_faulty_at : (before : List (List ℕ)) (line : List ℕ) (after : List (List ℕ)) (number : ℕ) (kind : GrKind) → AreLawfulSoFar before → number ≡ length before + 1
     → IsFaultAfter before line kind → IsFirstFaulty (before ++ line ∷ after) number kind
 first_faulty_at before line after number kind lawful counted fits = record {

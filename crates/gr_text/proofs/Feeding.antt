@@ -1,4 +1,4 @@
--- What a reader has read when another piece is fed, and what stopped it stays.
+-- What a reader has read after another piece is fed. What stopped it stays the same.
 use Rattle.std.proofs.Common.{◌≡◌, ℕ, ◌+◌, ◌-◌, ◌<◌, ◌≤◌, min, inl, inr, List, [], ◌∷◌, ◌++◌, refl, ap, sym}
 use Rattle.std.proofs.Common.{◌∙◌, subst, arith, append_assoc, length, take, Option, Some, None, MatchOption, length-append, append-nil, ◌==◌, Bool, cond, take_all}
 use Rattle.std.specs.List.{AllByRecursion, flat_map, count_by}
@@ -17,7 +17,7 @@ use Rattle.gr_text.specs.declared.faults.ReadFault.TheVariants as fault
 use Rattle.gr_text.proofs.Cuts.{cut_of, EndsLines-more}
 use Rattle.gr_text.proofs.Standing.{lawful_of}
 
--- more lines behind the first faulty one
+-- more lines after the first invalid one
 pub IsFirstFaulty-more : (lines more : List (List ℕ)) (number : ℕ) (kind : GrKind) → IsFirstFaulty lines number kind → IsFirstFaulty (lines ++ more) number kind
 IsFirstFaulty-more lines more number kind first = search (arith, append_assoc)
 
@@ -35,7 +35,7 @@ take_of_more limit text more = elim (cases_lt limit (length text)) [
       ap (λ (k : ℕ). take k (text ++ more)) whole ∙ take-append-add text more (limit - length text) ∙ ap (λ (xs : List ℕ). xs ++ take (limit - length text) more) (sym (take_all limit text long)))
 ]
 
--- what stopped the reader is right of every longer text
+-- what stopped the reader is also right for every longer text
 pub StopsBy-more : (e : ReadFault) (limit : ℕ) (text more : List ℕ) → StopsBy e limit text → StopsBy e limit (text ++ more)
 StopsBy-more (fault.Gr f) limit text more stops =
     subst (λ (xs : List ℕ). IsEndedFault xs f.line f.kind) (sym (take_of_more limit text more)) (IsEndedFault-more (take limit text) (take (limit - length text) more) f.line f.kind stops)
@@ -44,7 +44,7 @@ StopsBy-more fault.TooLong limit text more (longer, lawful) =
     (omega (arith, length-append text more), subst HasLawfulLines (sym (take-append-le limit text more (omega arith))) lawful)
 StopsBy-more fault.Memory limit text more stops = tt
 
--- what the reader has read, by whether it has a fault
+-- what a reader without an error has read
 pub read_on : {swap : Swap} (reader : ReaderValue) (text : List ℕ) → reader.fault ≡ None → HasReadBut swap reader text
     → (length text ≤ reader.limit) × (length text ≡ reader.fed) × Stands swap reader text
 read_on {swap} reader text is read = search arith
@@ -59,7 +59,7 @@ has_stopped reader e text is stops = record { outcome = rw is stops }
 pub HasRead-fault : {swap : Swap} (reader : ReaderValue) (e : ReadFault) (text more : List ℕ) → reader.fault ≡ Some e → HasReadBut swap reader text → HasReadBut swap reader (text ++ more)
 HasRead-fault reader e text more is read = has_stopped reader e (text ++ more) is (StopsBy-more e reader.limit text more (stopped_by reader e text is read))
 
--- the part of a piece that fits the limit
+-- the part of a piece that is within the limit
 pub fitting : (limit fed len : ℕ) (text piece : List ℕ) → length text ≡ fed → fed ≤ limit → len ≡ min (limit - fed) (length piece) → take limit (text ++ piece) ≡ text ++ take len piece
 fitting limit fed len text piece counted within is = search (arith, take_of_more, take_all, cases_lt)
 
@@ -76,7 +76,7 @@ too_long limit fed len text piece counted within is short lawful = search (arith
 pub lawful_lines : {swap : Swap} (r : ReaderValue) (text : List ℕ) → Stands swap r text → HasLawfulLines text
 lawful_lines r text stands = (stands.lines, stands.part, stands.cut, lawful_of r.so_far stands.lines stands.give)
 
--- the line feeds of a text end its lines
+-- the line feeds of a text are those of its parts
 feeds-append : (xs ys : List ℕ) → count_by (λ b. b == line_feed) (xs ++ ys) ≡ count_by (λ b. b == line_feed) xs + count_by (λ b. b == line_feed) ys
 feeds-append xs ys = sum_by-append (λ (b : ℕ). cond (b == line_feed) 1 0) xs ys
 

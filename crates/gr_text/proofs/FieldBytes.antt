@@ -1,4 +1,4 @@
--- What a field can still become when one more byte comes.
+-- What a field can still become after one more byte.
 use Rattle.std.proofs.Common.{◌≡◌, ◌≢◌, ℕ, ◌+◌, ◌*◌, ◌-◌, ◌<◌, inl, inr, List, [], ◌∷◌, ◌++◌, refl, ap, sym, ◌∙◌, arith, append_assoc, append-nil, codes, fold, subst}
 use Rattle.std.specs.List.{AllByRecursion}
 use Rattle.gr_text.specs.Fields.{IsDigit, Writes}
@@ -8,7 +8,6 @@ use Rattle.gr_text.specs.Word.{IsToken, BeginsComment, WordMeans}
 use Rattle.gr_text.specs.declared.words.Word.{Word}
 use Rattle.gr_text.specs.declared.words.Word.TheVariants as word
 
--- a comment goes on
 pub BeginsComment-more : (bytes : List ℕ) (b : ℕ) → BeginsComment bytes → BeginsComment (bytes ++ b ∷ [])
 BeginsComment-more bytes b (others, e) = (others ++ b ∷ [], ap (λ (xs : List ℕ). xs ++ b ∷ []) e)
 
@@ -21,11 +20,11 @@ Writes-more [] b n w d = absurd (w.0 refl)
 Writes-more (x ∷ xs) b n w d =
     (λ (e : (x ∷ xs) ++ b ∷ [] ≡ []). cc, All-push IsDigit (x ∷ xs) b w.1 d, fold-more (x ∷ xs) 0 b ∙ ap (λ (k : ℕ). 10 * k + (b - 48)) w.2)
 
--- a first digit
+-- the first digit
 pub Writes-one : (b : ℕ) → IsDigit b → Writes (b ∷ []) (b - 48)
 Writes-one b d = (λ (e : b ∷ [] ≡ []). cc, (d, tt), omega arith)
 
--- what never is a token, whatever follows
+-- bytes that never become a token, whatever follows
 abbrev pub NeverToken : List ℕ → Type 0
 NeverToken bytes = (bytes ≢ []) × ((more : List ℕ) → ¬ (IsToken (bytes ++ more)))
 
@@ -45,7 +44,7 @@ number_broken (x ∷ xs) b n w other = (
   ],
 )
 
--- a minus, digits and then another byte
+-- a minus sign, digits and then another byte
 pub negative_broken : (bytes digits : List ℕ) (b n : ℕ) → bytes ≡ 45 ∷ digits → Writes digits n → ¬ (IsDigit b) → NeverToken (bytes ++ b ∷ [])
 negative_broken [] digits b n is w other = absurd (cc)
 negative_broken (x ∷ xs) digits b n is w other =
@@ -68,7 +67,7 @@ negative_broken (x ∷ xs) digits b n is w other =
 pub head_is : (a b : ℕ) (xs ys : List ℕ) → a ∷ xs ≡ b ∷ ys → a ≡ b
 head_is a b xs ys e = cc
 
--- the byte that a field which is kept so begins with
+-- the first byte of a field with this `Word`
 abbrev Head : Word → ℕ → Type 0
 Head word.Empty b = b < 0
 Head word.LetterP b = b ≡ 112
@@ -84,21 +83,21 @@ Head word.Other b = Unit {0}
 head_of : (w : Word) (b : ℕ) (rest : List ℕ) → WordMeans w (b ∷ rest) → Head w b
 head_of a1 a2 a3 a4 = search (arith, head_is)
 
--- a field that writes a number is kept as one
+-- a field that writes a number is stored as one
 pub kept_as_number : (w : Word) (field : List ℕ) (n : ℕ) → WordMeans w field → Writes field n → (kept : ℕ) × (w ≡ word.Number kept)
 kept_as_number (word.Number kept) field n means writes = (kept, refl)
 kept_as_number word.Other field n means writes = absurd (means.1 [] (subst IsToken (sym (append-nil field)) (inr (inr (inr (inr (_, inl (n, writes, refl))))))))
 kept_as_number w [] n means writes = absurd (writes.0 refl)
 kept_as_number w (b ∷ rest) n means writes = absurd (let head : Head w b = head_of w b rest means in grind (arith, writes.1.0))
 
--- a field with a minus that writes a number is kept as one
+-- a field that writes a number with a minus sign is stored as one
 pub kept_as_negative : (w : Word) (field digits : List ℕ) (n : ℕ) → WordMeans w field → field ≡ 45 ∷ digits → Writes digits n → (kept : ℕ) × (w ≡ word.Negative kept)
 kept_as_negative (word.Negative kept) field digits n means is writes = (kept, refl)
 kept_as_negative word.Minus field digits n means is writes = absurd (writes.0 (let e : codes "-" ≡ 45 ∷ digits = sym means ∙ is in cc))
 kept_as_negative word.Other field digits n means is writes = absurd (means.1 [] (subst IsToken (sym (append-nil field)) (inr (inr (inr (inr (_, inr (digits, n, is, writes, refl))))))))
 kept_as_negative w field digits n means is writes = absurd (let head : Head w 45 = head_of w 45 digits (subst (WordMeans w) is means) in grind arith)
 
--- the words of single fields
+-- the `Word` of single fields
 pub kept_as_sp : (w : Word) (field : List ℕ) → WordMeans w field → field ≡ codes "sp" → w ≡ word.Sp
 kept_as_sp word.Sp field means is = refl
 kept_as_sp word.LetterS field means is = absurd (let e : codes "s" ≡ codes "sp" = sym means ∙ is in cc)

@@ -1,4 +1,4 @@
--- The text of a forest as it is written, group of lines by group of lines.
+-- The text of a forest as it is written, one group of lines after another.
 use Rattle.std.proofs.Common.{◌≡◌, ℕ, ◌+◌, List, [], ◌∷◌, ◌++◌, length, take, drop, sym, ap, subst, ◌∙◌, arith, Option, Err, append-nil, append_assoc, take_all, le_refl}
 use Rattle.std.specs.List.{flat_map}
 use Rattle.std.proofs.lemmas.Grind.{flat_map-append}
@@ -11,13 +11,13 @@ use Rattle.gr_text.specs.Handing.{HandsOn, HandsPrefix, PutsLines}
 use Rattle.gr_text.specs.Written.{written_count, PrefixWentOut, WritesText}
 use Rattle.gr_text.proofs.Handing.{hands_then_hands, hands_then_prefix, prefix_of_more}
 
--- of a text all went out but the lines of these links
+-- all of a text was written except the lines of these edges
 pub record GoesOut (written : ℕ) (text : List ℕ) (left : List Link) (s t : SinkState) : Type 0 where
   pub out : List ℕ
   pub handed : HandsOn 0 written out s t
   pub whole : out ++ flat_map link_line left ≡ text
 
--- the lines of some more links
+-- the lines of some more edges
 pub lines_more : (written total count : ℕ) (text : List ℕ) (left : List Link) (s t u : SinkState) → GoesOut written text left s t
     → HandsOn written total (flat_map link_line (take count left)) t u → GoesOut total text (drop count left) s u
 lines_more written total count text left s t u so_far more =
@@ -33,7 +33,7 @@ lines_more written total count text left s t u so_far more =
 went_out : (written : ℕ) (text : List ℕ) (s t : SinkState) → HandsPrefix 0 written text s t → PrefixWentOut written text s t
 went_out written text s t part = record { count = part.sent; within = part.within; counted = part.counted ∙ ap written_count {x = 0 + part.sent} {y = part.sent} (omega arith); took = part.took }
 
--- a prefix of these lines, before a setback
+-- a prefix of these lines, before the sink fails
 pub lines_prefix : (written after : ℕ) (text : List ℕ) (left : List Link) (s t u : SinkState) → GoesOut written text left s t
     → HandsPrefix written after (flat_map link_line left) t u → PrefixWentOut after text s u
 lines_prefix written after text left s t u so_far part = search (arith, went_out, hands_then_prefix)
@@ -49,13 +49,13 @@ header_prefix after n links forest s t same part =
     subst (λ all. PrefixWentOut after (forest_text n all) s t) same
     (went_out after (forest_text n links) s t (prefix_of_more 0 after (header_of n (length links)) (flat_map link_line links) s t part))
 
--- all lines went out
+-- all lines were written
 pub lines_out : (written : ℕ) (text : List ℕ) (left : List Link) (s t : SinkState) → GoesOut written text left s t → length left ≡ 0
     → Took 0 text s t × (written ≡ written_count (length text))
 lines_out written text (link ∷ left) s t so_far none = absurd (omega (arith, none))
 lines_out written text [] s t so_far none = search (arith, append-nil)
 
--- and then a flush ended well, or failed
+-- a flush after all lines succeeded, or failed
 pub lines_flushed : (written : ℕ) (text : List ℕ) (left : List Link) (s t u : SinkState) → GoesOut written text left s t → length left ≡ 0 → Took 0 [] t u
     → Took 0 text s u
 lines_flushed written text left s t u so_far none passed = took_no_more 0 text s t u (lines_out written text left s t so_far none).0 passed
@@ -71,12 +71,12 @@ lines_unflushed written text left s t u so_far none failed =
       took = subst (λ bytes. Took 1 bytes s u) (sym (take_all (length text) text (le_refl _))) (took_no_more 1 text s t u took failed);
     }
 
--- a writer that stopped there
+-- a writer that stopped here
 pub stopped : (after : ℕ) (text : List ℕ) (s t : SinkState) (unflushed : Option (List ℕ)) (ready : Type 0) → PrefixWentOut after text s t
     → WritesText text (Err (record { written = after })) s t unflushed ready
 stopped after text s t unflushed ready part = search (arith, took_unhindered)
 
--- a call for lines that stopped within those of the first k links
+-- a call for lines that stopped within those of the first k edges
 pub put_stopped : (count after k : ℕ) (links : List Link) (bytes : List ℕ) (s t : SinkState) (ready : Type 0) → bytes ≡ flat_map link_line (take k links)
     → HandsPrefix count after bytes s t → PutsLines count links (Err (record { written = after })) s t ready
 put_stopped count after k links bytes s t ready are part =

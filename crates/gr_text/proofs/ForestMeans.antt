@@ -1,4 +1,4 @@
--- The text of a forest means just its links.
+-- The text of a forest describes exactly its edges.
 use Rattle.std.proofs.Common.{◌≡◌, ◌≢◌, ℕ, ℤ, pos, negsuc, neg_ℤ, suc, ◌+◌, ◌*◌, ◌-◌, ◌/◌, ◌%◌, ◌<◌, ◌≤◌, ◌^◌, ◌==◌, min, max, not, cond}
 use Rattle.std.proofs.Common.{false, Bool, List, [], ◌∷◌, ◌++◌, length, map, filter, codes, decimal, ◌≤ℤ◌, ◌<ℤ◌, refl, sym, ap, ◌∙◌, append_assoc, subst, inl, inr, arith}
 use Rattle.std.specs.List.{AllByRecursion, flat_map}
@@ -23,13 +23,13 @@ use Rattle.links.proofs.Least.{no_cycle_is_its_forest}
 use Rattle.gr_text.proofs.Texts.{means_one_graph}
 use Rattle.gr_text.proofs.Alls.{All-both, All-push}
 
--- ---- numbers as they are written
+-- ---- how numbers are written
 
 not_empty : {X : Type 0} (xs : List X) (x : X) → (xs ++ x ∷ [] ≡ []) → ⊥
 not_empty [] x e = absurd (cc)
 not_empty (y ∷ xs) x e = absurd (cc)
 
--- a decimal is digits that write its number
+-- the decimal form of a number consists of digits that write it
 pub writes_decimal : (n : ℕ) → n < 2 ^ 64 → Writes (decimal n) n
 writes_decimal = decimal_by_steps (λ n ds. Writes ds n) one more
   where
@@ -44,14 +44,14 @@ writes_decimal = decimal_by_steps (λ n ds. Writes ds n) one more
           whole ∙ (let here : 10 * number_written ds + (48 + n % 10 - 48) ≡ n = omega (arith, is) in here),
     )
 
--- and so is a signed one
+-- the same for a signed number
 pub writes_signed : (z : ℤ) → neg_ℤ (pos (2 ^ 63)) ≤ℤ z → z <ℤ pos (2 ^ 63) → WritesSigned (signed_decimal z) z
 writes_signed (pos n) low high = inl (n, writes_decimal n (omega (arith, ints, high)), refl)
 writes_signed (negsuc n) low high = inr (decimal (suc n), suc n, refl, writes_decimal (suc n) (omega (arith, ints, low)), refl)
 
 -- ---- bytes
 
--- the bytes of digits are no blanks and no line feeds
+-- digits aren't blanks or line feeds
 digit_is_field : (b : ℕ) → IsDigit b → IsFieldByte b
 digit_is_field b (low, high) blank = elim blank [ inl is ↦ omega (arith, is) | inr other ↦ elim other [ inl is ↦ omega (arith, is) | inr is ↦ omega (arith, is) ] ]
 
@@ -79,7 +79,7 @@ signed_some a1 a2 a3 = search (arith, writes_decimal, ints)
 
 -- ---- fields
 
--- a field behind a space
+-- a field after a space
 behind_space : (field after : List ℕ) (fields : List (List ℕ)) → field ≢ [] → AllByRecursion IsFieldByte field
     → BeginsBlank after → AreFields after fields → AreFields (32 ∷ (field ++ after)) (field ∷ fields)
 behind_space field after fields some bytes blank rest = (32 ∷ [], after, (inl refl, tt), some, bytes, refl, blank, rest)
@@ -99,7 +99,7 @@ header_line n k = codes "p sp " ++ decimal n ++ codes " " ++ decimal k
 abbrev body_line : Link → List ℕ
 body_line l = codes "a " ++ decimal l.low ++ codes " " ++ decimal l.high ++ codes " " ++ signed_decimal l.weight
 
--- the same, taken apart from the front
+-- the same, split from the front
 header_apart : (n k : ℕ) → header_line n k ≡ codes "p sp " ++ (decimal n ++ (codes " " ++ decimal k))
 header_apart n k = append_assoc (codes "p sp " ++ decimal n) (codes " ") (decimal k) ∙ append_assoc (codes "p sp ") (decimal n) (codes " " ++ decimal k)
 
@@ -134,7 +134,7 @@ header_says n k n_small k_small = subst (λ (line : List ℕ). Says line (Proble
       (decimal n, decimal k, refl, n_is, k_is),
     ))
 
--- the bounds of a link
+-- the bounds of an edge
 low_small : (l : Link) → l.low < 2 ^ 64
 low_small l = omega (arith, l.ascending, l.in_limit)
 
@@ -176,7 +176,7 @@ body_says l = subst (λ (line : List ℕ). Says line (ArcLine (arc_of l))) (sym 
       (decimal l.low, decimal l.high, signed_decimal l.weight, refl, low_is, high_is, writes_signed l.weight (weight_low l) (weight_high l)),
     ))
 
--- each link's line is a line, and says its arc
+-- the line of each edge is a line, and states its arc
 each_line : (forest : List Link) → AllByRecursion IsLine (map body_line forest)
 each_line [] = tt
 each_line (l ∷ forest) = (body_is_line l, each_line forest)
@@ -234,7 +234,7 @@ forest_text_means_its_links n forest few ends short = (
     header : Says (header_line n (length forest)) (Problem n (length (map arc_of forest)))
     header = subst (λ k. Says (header_line n (length forest)) (Problem n k)) (sym (length-map forest arc_of)) (header_says n (length forest) n_small k_small)
 
--- links with the same keys are the same
+-- lists of edges with the same keys are the same
 same_keys : (xs ys : List Link) → map key_of xs ≡ map key_of ys → xs ≡ ys
 same_keys [] [] e = refl
 same_keys (l ∷ xs) (m ∷ ys) e =

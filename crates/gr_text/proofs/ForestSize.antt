@@ -1,5 +1,5 @@
--- How long the text of a forest is at the most. std writes a number in at most 64 digits, whichever it is, so a line
--- has at most 256 bytes, and the count that is given of the text of 2^55 links is still the number itself.
+-- A bound of the length of a forest's text. std writes every number in at most 64 digits, so a line has at most 256
+-- bytes. Therefore the count reported for the text of up to 2^55 edges is exact.
 use Rattle.std.proofs.Common.{ℕ, zero, suc, ◌+◌, ◌*◌, ◌/◌, ◌%◌, ◌^◌, ◌≤◌, Bool, true, false, cond, List, [], ◌∷◌, length, decimal, get_or, arith, length-append}
 use Rattle.std.specs.Prelude.{ℤ, pos, negsuc, ◌==◌}
 use Rattle.std.specs.Fmt.{digits_onto, digits, digit_glyph, signed_decimal}
@@ -12,7 +12,7 @@ use Rattle.gr_text.specs.ForestText.{header_of, link_line, forest_text}
 use Rattle.gr_text.specs.Written.{PrefixWentOut}
 use Rattle.gr_text.proofs.Handing.{prefix_is_exact}
 
--- each turn of the spelling puts one digit in front
+-- each step of the spelling puts one digit in front
 digits_fit : (k base : ℕ) (upper : Bool) (n : ℕ) (behind : List ℕ) → length (digits_onto k base upper n behind) ≤ k + length behind
 digits_fit zero base upper n behind = omega arith
 digits_fit (suc k) base upper n behind =
@@ -38,7 +38,7 @@ line_fits l = simp length-append (omega (arith, decimal_fits l.low, decimal_fits
 text_fits : (n : ℕ) (links : List Link) → length (forest_text n links) ≤ 256 + length links * 256
 text_fits n links = search (arith, length-append, header_fits, length-flat_map, sum_by-le, line_fits)
 
--- the count that is given of the text of a forest that isn't huge is the number itself
+-- the count reported for the text of a forest with at most 2^55 edges is exact
 pub few_are_exact : (written n : ℕ) (forest : List Link) (s t : SinkState) → length forest ≤ 2 ^ 55
     → PrefixWentOut written (forest_text n forest) s t → WentOut written (forest_text n forest) s t
 few_are_exact written n forest s t few part = prefix_is_exact written (forest_text n forest) s t (omega (arith, text_fits n forest)) part

@@ -1,4 +1,4 @@
--- Bytes handed to a sink in several calls.
+-- Bytes written to a sink in several calls.
 use Rattle.std.proofs.Common.{◌≡◌, ℕ, ◌+◌, ◌^◌, ◌<◌, List, ◌++◌, length, take, Result, Ok, Err, sym, ap, subst, ◌∙◌, arith, rules, length-append}
 use Rattle.std.proofs.Math.Seq.{take-append-add}
 use Rattle.std.proofs.lemmas.List.{take-append-le}
@@ -8,7 +8,7 @@ use Rattle.gr_text.specs.Handing.{HandsOn, HandsPrefix, HandsOut}
 use Rattle.gr_text.specs.Written.{written_count, PrefixWentOut}
 use Rattle.gr_text.specs.declared.writer.WriteFault.{WriteFault}
 
--- a count that is given counts on as the number itself
+-- counting on from a capped count gives the same as counting everything
 count_again : (x y z : ℕ) → written_count (written_count (x + y) + z) ≡ written_count (x + y + z)
 count_again x y z = omega arith
 
@@ -21,7 +21,7 @@ hands_then_hands count middle total xs ys s t u first second = record {
       ∙ ap written_count {x = count + length xs + length ys} {y = count + length (xs ++ ys)} (omega (arith, length-append xs ys));
 }
 
--- a prefix of the bytes of the next call, before a setback
+-- a prefix of the bytes of the next call, before the sink fails
 pub hands_then_prefix : (count middle after : ℕ) (xs ys : List ℕ) (s t u : SinkState) → HandsOn count middle xs s t → HandsPrefix middle after ys t u
     → HandsPrefix count after (xs ++ ys) s u
 hands_then_prefix count middle after xs ys s t u hands part = record {
@@ -32,7 +32,7 @@ hands_then_prefix count middle after xs ys s t u hands part = record {
   took = subst (λ bytes. Took 1 bytes s u) (sym (take-append-add xs ys part.sent)) (took_more 1 xs (take part.sent ys) s t u hands.took part.took);
 }
 
--- it is a prefix of more bytes too
+-- it is also a prefix of more bytes
 pub prefix_of_more : (count after : ℕ) (xs more : List ℕ) (s t : SinkState) → HandsPrefix count after xs s t → HandsPrefix count after (xs ++ more) s t
 prefix_of_more count after xs more s t part = search (arith, length-append, take-append-le)
 
@@ -41,12 +41,12 @@ pub out_stopped : (count after : ℕ) (bytes more : List ℕ) (s t : SinkState) 
     → HandsOut count (bytes ++ more) (Err (record { written = after })) s t ready
 out_stopped count after bytes more s t ready part = search (arith, prefix_of_more, took_unhindered)
 
--- a call behind bytes that went out
+-- a call after bytes that were written
 pub out_then_out : (count middle : ℕ) (xs ys : List ℕ) (result : Result ℕ WriteFault) (s t u : SinkState) (ready : Type 0) → HandsOn count middle xs s t
     → HandsOut middle ys result t u ready → HandsOut count (xs ++ ys) result s u ready
 out_then_out a1 a2 a3 a4 a5 a6 a7 a8 a9 a10 a11 = search (arith, hands_then_hands, hands_then_prefix, took_unhindered)
 
--- the count that is given of a text of fewer than 2^64 bytes is the number itself
+-- the count reported for a text of fewer than 2^64 bytes is exact
 pub prefix_is_exact : (written : ℕ) (text : List ℕ) (s t : SinkState) → length text < 2 ^ 64 → PrefixWentOut written text s t
     → WentOut written text s t
 prefix_is_exact written text s t short part = search arith

@@ -1,4 +1,4 @@
--- From what a line says and the lines before it to its verdict.
+-- From what a line and the lines before it state to its verdict.
 use Rattle.std.proofs.Common.{◌≡◌, ℕ, ◌≤◌, ◌<◌, ◌⊎◌, List, [], ◌∷◌, subst, sym, arith, codes, ap, ◌∙◌, append-nil, length, Option, Some, None}
 use Rattle.limits.specs.declared.TheConstants.{MAX_VERTICES}
 use Rattle.links.specs.Arc.{Arc}
@@ -13,12 +13,12 @@ use Rattle.gr_text.specs.declared.sizes.ProblemSize.{ProblemSize}
 use Rattle.gr_text.specs.declared.words.LineFields.{LineFields}
 use Rattle.gr_text.specs.declared.words.LineFields.TheVariants as line
 
--- what lines say, by what is kept of them
+-- what lines state, given what is stored of them
 pub said_of : (size : Option ProblemSize) (count : ℕ) (lines : List (List ℕ)) → AreTallied size count lines → (so_far : SaidSoFar) × HaveSaid lines so_far
 said_of None count lines (say, zero_count) = (Unsaid, say)
 said_of (Some size) count lines (arcs, lawful, counted) = (Stated size.vertices size.arcs arcs, lawful)
 
--- a line of this sort has this fault behind lines without a problem, and behind lines with one
+-- a line of this sort has this error after lines without a problem, and after lines with one
 pub fault_alone : (sort : LineSort) (kind : GrKind) (size : Option ProblemSize) (count : ℕ) (lines : List (List ℕ)) (bytes : List ℕ) → size ≡ None
     → AreTallied size count lines → IsOfSort bytes sort → IsWrong sort Unsaid kind → IsFaultAfter lines bytes kind
 fault_alone sort kind size count lines bytes none counts of_sort wrong = search arith
@@ -29,7 +29,7 @@ pub fault_behind : (sort : LineSort) (kind : GrKind) (size : Option ProblemSize)
     → IsFaultAfter lines bytes kind
 fault_behind sort kind size old count lines bytes some counts of_sort wrong = search arith
 
--- a problem line or an arc line of too few fields, or of another field than it may have
+-- a problem line or an arc line with too few fields, or with a field that isn't allowed
 short_problem : (fields others : List (List ℕ)) → fields ≡ codes "p" ∷ others → length others < 3 → AreOfSort fields NoProblem
 short_problem fields others is few = search (arith, codes)
 
@@ -54,7 +54,7 @@ no_arc line.BadArc fields (begins, never) which =
     (begins, λ arc says. never [] (ArcLine arc) tt (subst (λ (xs : List (List ℕ)). FieldsSay xs (ArcLine arc)) (sym (append-nil fields)) says))
 no_arc l fields means which = absurd (grind arith)
 
--- whether a line is silent stands in its first field
+-- the first field decides whether a line is silent
 pub silent_alone : (first : List ℕ) (others : List (List ℕ)) → AreSilent (first ∷ others) → AreSilent (first ∷ [])
 silent_alone a1 a2 a3 = search arith
 

@@ -1,4 +1,4 @@
--- Links that are kept of all that were read, when more come and when they are replaced.
+-- Edges that are kept of all that were read, when more come and when they are replaced.
 use Rattle.std.proofs.Common.{◌≡◌, ℕ, ◌+◌, ◌≤◌, [], ◌++◌, List, refl, ap, sym, ◌∙◌, subst, arith, append-nil, append_assoc, length, length-append, Option, Some, None, Result, Ok, Err}
 use Rattle.std.specs.Prelude.{OnOk}
 use Rattle.byte_streams.specs.Streams.{SourceState}
@@ -27,14 +27,14 @@ kept_none drops dropped none = record { cover = covered_by_itself []; counted = 
 pub nothing_known : (knows : List Link → Type 0) → knows [] → BeginsSo knows []
 nothing_known knows known = record { first = []; more = []; are = refl; known = known }
 
--- what is known stays so when more come
+-- what is known stays true when more edges come
 begins_with : {knows : List Link → Type 0} (links more : List Link) → BeginsSo knows links → BeginsSo knows (links ++ more)
 begins_with links more begins = search (arith, append_assoc)
 
 known_by : {knows : List Link → Type 0} {swap : Swap} (all links : List Link) → BeginsSo knows swap.put → DifferBy swap all links → BeginsSo knows links
 known_by {knows} {swap} all links known by = subst (λ (xs : List Link). BeginsSo knows xs) (sym by.links_are) (begins_with swap.put by.more known)
 
--- the same links come to both
+-- the same edges are added to both
 kept_with : {drops : Type 0} {dropped : ℕ} (all kept more : List Link) → AreKeptOf drops dropped all kept → AreKeptOf drops dropped (all ++ more) (kept ++ more)
 kept_with all kept more are = record {
   cover = covers_together all more kept more are.cover (covered_by_itself more);
@@ -42,13 +42,13 @@ kept_with all kept more are = record {
   whole = λ none. ap (λ (xs : List Link). xs ++ more) (are.whole none);
 }
 
--- all that were read and what is kept differ by a swap of links for such that are kept of them
+-- a swap of edges for some that are kept of them is the whole difference between those read and those kept
 pub kept_by : {drops : Type 0} {dropped : ℕ} {swap : Swap} (all links : List Link) → AreKeptOf drops dropped swap.gone swap.put → DifferBy swap all links → AreKeptOf drops dropped all links
 kept_by {drops} {dropped} {swap} all links are by =
     subst (λ (xs : List Link). AreKeptOf drops dropped xs links) (sym by.all_are)
     (subst (λ (xs : List Link). AreKeptOf drops dropped (swap.gone ++ by.more) xs) (sym by.links_are) (kept_with swap.gone swap.put by.more are))
 
--- kept links are replaced
+-- kept edges are replaced
 pub kept_again : {drops : Type 0} {dropped now : ℕ} (all old new : List Link) → IsCoveredBy old new → dropped + length old ≡ now + length new → (¬ drops → new ≡ old)
     → AreKeptOf drops dropped all old → AreKeptOf drops now all new
 kept_again all old new cover counted whole are = record {
@@ -61,7 +61,7 @@ few_of : {drops : Type 0} {dropped : ℕ} (size : Option ProblemSize) (count : �
     → dropped + length links ≤ count
 few_of a1 a2 a3 a4 a5 a6 a7 = search (arith, links_few)
 
--- those that were dropped and those that are kept are no more than the arcs
+-- together, the dropped and the kept edges are at most as many as the arcs
 pub kept_few : {drops : Type 0} {knows : List Link → Type 0} {dropped : ℕ} (reader : ReaderValue) (text : List ℕ) → reader.fault ≡ None → HasKept drops knows dropped reader text
     → dropped + length reader.so_far.links ≤ reader.so_far.count
 kept_few reader text none kept =
@@ -69,7 +69,7 @@ kept_few reader text none kept =
     let (all, by, gives) = stands.give in
     few_of reader.so_far.size reader.so_far.count all reader.so_far.links stands.lines (kept_by all reader.so_far.links kept.are by) gives
 
--- and so much is known of those that are kept
+-- what is known about those that are kept
 pub kept_known : {drops : Type 0} {knows : List Link → Type 0} {dropped : ℕ} (reader : ReaderValue) (text : List ℕ) → reader.fault ≡ None → HasKept drops knows dropped reader text
     → BeginsSo knows reader.so_far.links
 kept_known reader text none kept =
@@ -77,7 +77,7 @@ kept_known reader text none kept =
     let (all, by, gives) = stands.give in
     known_by all reader.so_far.links kept.known by
 
--- what a reader was fed stays, while its links are replaced
+-- what a reader was fed stays the same when its edges are replaced
 pub kept_on : {drops : Type 0} {knew knows : List Link → Type 0} {dropped now : ℕ} (old : ReaderValue) (so_far : LinesSoFarValue) (text : List ℕ) → old.fault ≡ None
     → KeepsOn drops knows dropped now old.so_far so_far → HasKept drops knew dropped old text → HasKept drops knows now (record old { so_far = so_far }) text
 kept_on old so_far text none keeps kept =
@@ -102,12 +102,12 @@ kept_on old so_far text none keeps kept =
       });
     }
 
--- the same of a keeper that may have failed
+-- the same for a keeper that may have failed
 pub kept_ok : {X E : Type 0} (drops : Type 0) (knew knows : List Link → Type 0) (dropped now : ℕ) (r : Result X E) (was old : ReaderValue) (so_far : LinesSoFarValue) → was ≡ old → old.fault ≡ None
     → OnOk r (KeepsOn drops knows dropped now was.so_far so_far)
     → OnOk r ((text : List ℕ) → HasKept drops knew dropped old text → HasKept drops knows now (record was { so_far = so_far }) text)
 kept_ok a1 a2 a3 a4 a5 a6 a7 a8 a9 a10 a11 a12 = search (arith, kept_on)
 
--- who drops none keeps all
+-- a keeper that drops none keeps all
 pub keeps_all : (limit dropped : ℕ) (result : Result GraphValue ReadFault) (before after : SourceState) → IsKeptReadOf ⊥ limit dropped result before after → IsReadOf limit result before after
 keeps_all a1 a2 a3 a4 a5 a6 = search arith

@@ -1,11 +1,11 @@
--- What a line can still become when one more field comes.
+-- What a line can still become after one more field.
 use Rattle.std.proofs.Common.{◌≡◌, ◌≢◌, ℕ, ℤ, List, [], ◌∷◌, ◌++◌, refl, ap, sym, append_assoc, codes, subst, arith}
 use Rattle.links.specs.Arc.{Arc}
 use Rattle.gr_text.specs.Fields.{Writes, WritesSigned}
 use Rattle.gr_text.specs.Statement.{Statement, Problem, ArcLine, AreSilent, FieldsSay}
 use Rattle.gr_text.specs.Word.{NeverSay, IsProblem, IsArcLine, BeginsComment}
 
--- what never makes such a statement doesn't with one more field either
+-- fields that never make such a statement don't make it with one more field either
 pub NeverSay-more : (first : List ℕ) (fields : List (List ℕ)) (field : List ℕ) (P : Statement → Type 0) → NeverSay first fields P → NeverSay first (fields ++ field ∷ []) P
 NeverSay-more first fields field P ((others, is), never) = (
   (others ++ field ∷ [], ap (λ (xs : List (List ℕ)). xs ++ field ∷ []) is),
@@ -13,7 +13,7 @@ NeverSay-more first fields field P ((others, is), never) = (
       (subst (λ (xs : List (List ℕ)). FieldsSay xs statement) (append_assoc fields (field ∷ []) more) says),
 )
 
--- fields of which no such statement is made, whatever follows
+-- fields that make no such statement, whatever follows
 never_problem : (fields others : List (List ℕ)) (field : List ℕ) → fields ≡ codes "p" ∷ others
     → ((more : List (List ℕ)) (n m : ℕ) → ¬ (FieldsSay (codes "p" ∷ (others ++ field ∷ more)) (Problem n m))) → NeverSay (codes "p") (fields ++ field ∷ []) IsProblem
 never_problem fields others field is never =
@@ -36,7 +36,7 @@ never_arc fields others field is never =
       ] p says,
     )
 
--- a second field other than sp, a third or a fourth that is no number, and a fifth
+-- a second field other than sp, a third or a fourth that isn't a number, and a fifth
 pub problem_without_sp : (fields : List (List ℕ)) (field : List ℕ) → fields ≡ codes "p" ∷ [] → field ≢ codes "sp" → NeverSay (codes "p") (fields ++ field ∷ []) IsProblem
 problem_without_sp fields field is other = never_problem fields [] field is (λ more n m (f, g, e, wf, wg). other (let same : field ≡ codes "sp" = cc in same))
 
@@ -52,7 +52,7 @@ problem_without_arcs fields field first is other =
 pub problem_with_more : (fields : List (List ℕ)) (field first second : List ℕ) → fields ≡ codes "p" ∷ codes "sp" ∷ first ∷ second ∷ [] → NeverSay (codes "p") (fields ++ field ∷ []) IsProblem
 problem_with_more fields field first second is = never_problem fields (codes "sp" ∷ first ∷ second ∷ []) field is (λ more n m (f, g, e, wf, wg). cc)
 
--- the same of arc lines
+-- the same for arc lines
 pub arc_without_tail : (fields : List (List ℕ)) (field : List ℕ) → fields ≡ codes "a" ∷ [] → ((n : ℕ) → ¬ (Writes field n)) → NeverSay (codes "a") (fields ++ field ∷ []) IsArcLine
 arc_without_tail fields field is other =
     never_arc fields [] field is (λ more arc (f, g, h, e, wf, wg, wh). let same : f ≡ field = cc in other arc.tail (subst (λ (x : List ℕ). Writes x arc.tail) same wf))

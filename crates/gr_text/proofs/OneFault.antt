@@ -1,4 +1,4 @@
--- A text has one first fault at the most, and none where it means a graph.
+-- A text has at most one first error, and none if it describes a graph.
 use Rattle.std.proofs.Common.{◌≡◌, ℕ, ◌+◌, ◌⊎◌, inl, inr, List, [], ◌∷◌, ◌++◌, refl, ap, sym, ◌∙◌, subst, arith, append_assoc, append-nil, map, length}
 use Rattle.links.specs.Arc.{Arc}
 use Rattle.gr_text.specs.Statement.{Problem, ArcLine}
@@ -16,7 +16,7 @@ use Rattle.gr_text.proofs.Texts.{AreLawfulLines-unique, said_unique}
 lawful_said : (lines : List (List ℕ)) (so_far : SaidSoFar) → HaveSaid lines so_far → AreLawfulSoFar lines
 lawful_said a1 a2 a3 = search arith
 
--- a prefix of lawful lines is lawful
+-- a prefix of valid lines is valid
 AreLawfulSoFar-prefix : (lines more : List (List ℕ)) → AreLawfulSoFar (lines ++ more) → AreLawfulSoFar lines
 AreLawfulSoFar-prefix lines [] lawful = subst AreLawfulSoFar (append-nil lines) lawful
 AreLawfulSoFar-prefix lines (line ∷ more) lawful = search (arith, lawful_ends, append_assoc, lawful_said, AreLawfulSoFar-prefix (lines ++ line ∷ []) more)
@@ -26,7 +26,7 @@ lawful_no_fault lines number kind lawful first =
     first.faulty (AreLawfulSoFar-prefix (first.before ++ first.line ∷ []) first.after
     (subst AreLawfulSoFar (first.parted ∙ sym (append_assoc first.before (first.line ∷ []) first.after)) lawful))
 
--- where something lacks, the lines are lawful, and mean no graph
+-- if something is missing, the lines are valid and describe no graph
 abbrev lack : SaidSoFar → GrKind
 lack Unsaid = MissingProblem
 lack (Stated n m arcs) = MissingArcs
@@ -56,7 +56,7 @@ never_both text n arcs number kind (lines, are, lawful) (others, are', fault) =
       | inr (lacks, last) ↦ lack_no_graph others kind n arcs known lacks
     ]
 
--- A line of a sort has one kind of fault.
+-- A line of a sort has only one kind of error.
 wrong_unique : (sort : LineSort) (so_far : SaidSoFar) (k l : GrKind) → IsWrong sort so_far k → IsWrong sort so_far l → k ≡ l
 wrong_unique Nothing so_far k l a b = absurd a
 wrong_unique (Makes (Problem x y)) so_far k l a b = grind arith
@@ -76,7 +76,7 @@ one_kind before line kind another a b =
 one_lack : (lines : List (List ℕ)) (kind another : GrKind) → Lacks lines kind → Lacks lines another → kind ≡ another
 one_lack lines kind another a b = search (arith, lack_said, said_unique)
 
--- Two places of one list are the same, or one stands before the other.
+-- Two positions in one list are the same, or one comes before the other.
 abbrev Precedes : {X : Type 0} → List X → X → List X → Type 0
 Precedes {X} before x others = (between : List X) × (others ≡ (before ++ x ∷ []) ++ between)
 
@@ -94,7 +94,7 @@ places (b ∷ before) (o ∷ others) x y after more e =
       | inr (inr (between, is)) ↦ inr (inr (between, ap (λ zs. b ∷ zs) is ∙ ap (λ z. z ∷ ((others ++ y ∷ []) ++ between)) heads))
     ]
 
--- a faulty line isn't among lawful ones
+-- an invalid line isn't among valid ones
 faulty_not_before : (before : List (List ℕ)) (line : List ℕ) (others : List (List ℕ)) → ¬ (AreLawfulSoFar (before ++ line ∷ [])) → AreLawfulSoFar others → Precedes before line others → ⊥
 faulty_not_before before line others faulty lawful (between, is) = faulty (AreLawfulSoFar-prefix (before ++ line ∷ []) between (subst AreLawfulSoFar is lawful))
 

@@ -1,4 +1,4 @@
--- What holds or doesn't: two facts at once, one of two, and a number between two others.
+-- What holds or doesn't hold: two facts at once, one of two, and a number between two others.
 use Rattle.std.proofs.Common.{ℕ, ◌≤◌, ◌⊎◌, inl, inr, arith}
 use Rattle.std.proofs.lemmas.Bool.{cases_lt}
 

@@ -1,4 +1,4 @@
--- What follows a part of a line may go on with the field that it ends in, or begin with a blank.
+-- What follows a part of a line may continue its last field, or begin with a blank.
 use Rattle.std.proofs.Common.{◌≡◌, ℕ, List, [], ◌∷◌, ◌++◌, refl, ap, sym, ◌∙◌, subst, append_assoc, append-nil, true, false, arith}
 use Rattle.gr_text.specs.Fields.{IsBlank, IsFieldByte, AreFields}
 use Rattle.gr_text.specs.PartialLine.{with_field, AreParts, is_begun}
@@ -36,7 +36,7 @@ AreParts-blank part fields last b parts blank more after others all begins are =
     subst (λ (xs : List ℕ). AreFields xs (with_field (with_field fields last) more ++ others)) bytes
     (subst (AreFields ((part ++ []) ++ (b ∷ (more ++ after)))) same whole)
 
--- where no more comes, the fields are all
+-- if no more comes, these are all the fields
 pub AreParts-whole : (part : List ℕ) (fields : List (List ℕ)) (last : List ℕ) → AreParts part fields last → AreFields part (with_field fields last)
 AreParts-whole part fields last parts =
     let whole : AreFields ((part ++ []) ++ []) (with_field fields (last ++ []) ++ []) = parts [] [] [] tt tt tt in

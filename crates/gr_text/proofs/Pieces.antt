@@ -10,7 +10,7 @@ use Rattle.gr_text.proofs.Cuts.{EndsLines-more}
 use Rattle.gr_text.proofs.Parts.{not_begun}
 use Rattle.gr_text.proofs.Feeding.{HasRead-fault, read_on}
 
--- whole lines, where no part of a line has come
+-- whole lines, if no part of a line has come
 pub Stands-lines : {swap : Swap} (r : ReaderValue) (so_far : LinesSoFarValue) (fed count : ℕ) (text piece : List ℕ)
     → Stands swap r text → r.partial.begun ≡ false → AddsLines count piece r.so_far so_far
     → Stands swap (record r { fed = fed; number = r.number + count; so_far = so_far }) (text ++ piece)
@@ -56,7 +56,7 @@ pub fed_then : {X Y : Type 0} (x : X) (r : Result Y ReadFault) (first second : L
     → IsFed r second mid new → IsFed r (first ++ second) old new
 fed_then {X} {Y} x r first second old mid new a b = search (arith, append_assoc, length-append)
 
--- a fault in the first part
+-- an error in the first part
 pub fed_fault : {X : Type 0} (e : ReadFault) (first second : List ℕ) (old new : ReaderValue) → IsFed {X = X} (Err e) first old new → IsFed {X = X} (Err e) (first ++ second) old new
 fed_fault e first second old new a = record {
   limit = a.limit;

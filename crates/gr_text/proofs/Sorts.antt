@@ -13,7 +13,7 @@ use Rattle.gr_text.proofs.LineFields.{comment_of_silent}
 use Rattle.gr_text.proofs.Parts.{AreParts-none, AreParts-byte, AreParts-blank, AreParts-whole}
 use Rattle.gr_text.proofs.Unique.{AreFields-unique, FieldsSay-unique}
 
--- Each line has fields: byte by byte, the whole fields so far and the bytes of one more.
+-- Each line has fields. Byte by byte, these are the whole fields so far and the bytes of one more.
 parts_of : (rest part : List ℕ) (fields : List (List ℕ)) (last : List ℕ) → AreParts part fields last
     → (others : List (List ℕ)) × (more : List ℕ) × AreParts (part ++ rest) others more
 parts_of [] part fields last parts = (fields, last, subst (λ (xs : List ℕ). AreParts xs fields last) (sym (append-nil part)) parts)
@@ -24,7 +24,7 @@ parts_of (b ∷ rest) part fields last parts = elim (either_or_not (cases_eq b 3
       (others, more, subst (λ (xs : List ℕ). AreParts xs others more) (append_assoc part (b ∷ []) rest) all))
 ]
 
--- what a field is
+-- whether two fields are the same
 same_or_not : (xs ys : List ℕ) → (xs ≡ ys) ⊎ (xs ≢ ys)
 same_or_not [] [] = inl refl
 same_or_not (x ∷ xs) (y ∷ ys) = search (arith, both_or_not, cases_eq, same_or_not xs ys)
@@ -54,7 +54,7 @@ signed_or_not (b ∷ field) = elim (number_or_not (b ∷ field)) [
   ]
 ]
 
--- whether fields state a problem, and whether they give an arc
+-- whether fields state a problem, and whether they state an arc
 problem_or_not : (fields : List (List ℕ)) → ((n m : ℕ) × FieldsSay fields (Problem n m)) ⊎ ¬ ((n m : ℕ) × FieldsSay fields (Problem n m))
 problem_or_not (a ∷ b ∷ x ∷ y ∷ []) =
     elim (both_or_not (same_or_not a (codes "p")) (both_or_not (same_or_not b (codes "sp")) (both_or_not (number_or_not x) (number_or_not y)))) [
@@ -116,7 +116,7 @@ sort_of line =
     let (sort, of_sort) = fields_sort (with_field fields last) in
     (sort, (with_field fields last, AreParts-whole line fields last parts, of_sort))
 
--- the first field of a line of a sort, where it has one
+-- the first field of a line of a sort, if it has one
 abbrev Begins : LineSort → List ℕ → Type 0
 Begins Nothing first = BeginsComment first
 Begins (Makes (Problem n m)) first = first ≡ codes "p"
@@ -131,7 +131,7 @@ begins_of a1 a2 a3 a4 = search (arith, comment_of_silent)
 none_is_silent : (s : LineSort) → AreOfSort [] s → s ≡ Nothing
 none_is_silent a1 a2 = search arith
 
--- No line is of two sorts: its first field tells them apart, or else what the fields say.
+-- No line is of two sorts. Its first field distinguishes them, or else what the fields state.
 sort_unique : (fields : List (List ℕ)) (s t : LineSort) → AreOfSort fields s → AreOfSort fields t → s ≡ t
 sort_unique fields (Makes s) (Makes t) a b = ap Makes (FieldsSay-unique fields s t a b)
 sort_unique fields (Makes (Problem n m)) NoProblem a b = absurd (b.1 n m a)

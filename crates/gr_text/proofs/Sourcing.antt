@@ -1,4 +1,4 @@
--- From what a reader answers to what was read of a source.
+-- From what a reader returns to what was read of a source.
 use Rattle.std.proofs.Common.{◌≡◌, ℕ, ◌+◌, ◌≤◌, List, [], length, ◌++◌, Some, None, Result, Ok, Err, inl, inr, refl, subst, append-nil, ◌<◌, Bool, true, false, cond, arith}
 use Rattle.std.specs.Prelude.{◌==◌, count_by}
 use Rattle.byte_streams.specs.Streams.{SourceState, Gave}
@@ -18,7 +18,7 @@ use Rattle.gr_text.specs.declared.keep.Keep as Keep
 use Rattle.gr_text.proofs.Feeding.{lawful_lines, read_on, stopped_by}
 use Rattle.gr_text.proofs.Keeping.{kept_none, kept_by, nothing_known}
 
--- a reader without a fault was fed no more than its limit, and nothing is wrong with the lines that have ended
+-- a reader without an error was fed at most its limit, and the lines that have ended are valid
 clean : {swap : Swap} (reader : ReaderValue) (text : List ℕ) → HasReadBut swap reader text → reader.fault ≡ None → (length text ≤ reader.limit) × HasLawfulLines text
 clean reader text read none = search (arith, read_on, lawful_lines)
 
@@ -50,12 +50,12 @@ piece_fed old new piece s t u fed so_far more = record {
   gave = gave_more 0 0 so_far.text piece s t u so_far.gave more;
 }
 
--- the links were replaced
+-- the edges were replaced
 pub links_kept : {drops : Type 0} {knew knows : List Link → Type 0} {dropped now : ℕ} (old new : ReaderValue) (s t : SourceState)
     → ((text : List ℕ) → HasKept drops knew dropped old text → HasKept drops knows now new text) → HasFollowed drops knew dropped 0 old s t → HasFollowed drops knows now 0 new s t
 links_kept old new s t keeps so_far = record { text = so_far.text; kept = keeps so_far.text so_far.kept; gave = so_far.gave }
 
--- it ended behind what the reader has read
+-- the source ended after what the reader has read
 pub ends_behind : {drops : Type 0} {knows : List Link → Type 0} {dropped : ℕ} (reader : ReaderValue) (s t u : SourceState)
     → HasFollowed drops knows dropped 0 reader s t → Gave 0 1 [] t u → HasFollowed drops knows dropped 1 reader s u
 ends_behind reader s t u so_far ended = search (arith, append-nil, gave_more)
@@ -81,7 +81,7 @@ read_to_end {drops} {knows} {dropped} limit outcome reader s u ended none is ans
     at (Ok graph) (all, by, read) = (all, kept_by all graph.links kept.are by, whole (Ok (with_links all graph)) read)
     at (Err e) fails = whole (Err e) fails
 
--- where so many bytes were read or the end was found, and the limit lies below so many, the end was
+-- if `enough` bytes were read or the end was found, and the limit is below `enough`, the end was found
 pub read_whole : {drops : Type 0} {knows : List Link → Type 0} {dropped : ℕ} (ended : Bool) (limit enough : ℕ) (outcome : Result GraphValue ReadFault) (reader : ReaderValue) (s u : SourceState)
     → HasFollowed drops knows dropped (cond ended 1 0) reader s u → (ended ≡ false → enough ≤ reader.limit) → limit < enough
     → reader.fault ≡ None → reader.limit ≡ limit → ((swap : Swap) (text : List ℕ) → HasReadBut swap reader text → IsReadBut swap reader.limit text outcome)
@@ -89,7 +89,7 @@ pub read_whole : {drops : Type 0} {knows : List Link → Type 0} {dropped : ℕ}
 read_whole true limit enough outcome reader s u so_far few short none is answers = read_to_end limit outcome reader s u so_far none is answers
 read_whole false limit enough outcome reader s u so_far few short none is answers = absurd (omega (arith, few refl, short, is))
 
--- a read failed behind what the reader has read
+-- a read failed after what the reader has read
 pub breaks_off : {drops : Type 0} {knows : List Link → Type 0} {dropped : ℕ} (limit line : ℕ) (reader : ReaderValue) (s t u : SourceState)
     → HasFollowed drops knows dropped 0 reader s t → reader.fault ≡ None → reader.limit ≡ limit
     → ((swap : Swap) (text : List ℕ) → HasReadBut swap reader text → line ≡ 1 + count_by (λ b. b == line_feed) text) → Gave 1 0 [] t u → IsReadOf limit (Err (fault.Source line)) s u
@@ -105,12 +105,12 @@ breaks_off limit line reader s t u so_far none is next failed = inr (inr (
   },
 ))
 
--- a fault was found in what the reader was fed
+-- there is an error in what the reader was fed
 pub read_up_to : {drops : Type 0} {knows : List Link → Type 0} {dropped : ℕ} (limit : ℕ) (why : ReadFault) (reader : ReaderValue) (s u : SourceState) → HasFollowed drops knows dropped 0 reader s u
     → reader.fault ≡ Some why → reader.limit ≡ limit → IsReadOf limit (Err why) s u
 read_up_to limit why reader s u so_far is at = search (arith, stopped_by)
 
--- memory was refused behind what the reader was fed
+-- there was no memory after what the reader was fed
 pub memory_lacks : {drops : Type 0} {knows : List Link → Type 0} {dropped : ℕ} (limit : ℕ) (reader : ReaderValue) (s u : SourceState)
     → HasFollowed drops knows dropped 0 reader s u → IsReadOf limit (Err fault.Memory) s u
 memory_lacks limit reader s u so_far = inr (inl (record { bytes = so_far.text; gave = so_far.gave; stops = tt }))

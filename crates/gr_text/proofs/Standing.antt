@@ -1,4 +1,4 @@
--- What was read of a text when more of it comes.
+-- What was read of a text after more of it has come.
 use Rattle.std.proofs.Common.{◌≡◌, ℕ, ◌+◌, inl, inr, List, [], ◌∷◌, ◌++◌, ap, sym, ◌∙◌, subst, arith, append_assoc, length, Option, Some, None}
 use Rattle.std.proofs.lemmas.List.{length_push}
 use Rattle.links.specs.declared.links.Link.{Link}
@@ -31,7 +31,7 @@ first_faulty lines part more (fault.Source k) number lawful numbered no_such tex
 first_faulty lines part more fault.TooLong number lawful numbered no_such text r cut = no_such
 first_faulty lines part more fault.Memory number lawful numbered any text r cut = tt
 
--- however much the reader was fed
+-- the number of bytes that were fed doesn't matter
 pub Stands-fed : {swap : Swap} (r : ReaderValue) (fed : ℕ) (text : List ℕ) → Stands swap r text → Stands swap (record r { fed = fed }) text
 Stands-fed r fed text stands = search arith
 
@@ -47,7 +47,7 @@ Stands-part r partial text more stands is_line kept = record {
   numbered = stands.numbered;
 }
 
--- the rest of a line with its line feed, where the line is taken
+-- the rest of a line with its line feed, if the line is valid
 pub Stands-line : {swap : Swap} (r : ReaderValue) (fresh : PartialLine) (so_far : LinesSoFarValue) (text line : List ℕ) → (stands : Stands swap r text) → IsLine line → IsKeptAs fresh []
     → KeepsLinesBut swap so_far (stands.lines ++ (stands.part ++ line) ∷ []) → Stands swap (record r { number = r.number + 1; partial = fresh; so_far = so_far }) (text ++ ended line)
 Stands-line r fresh so_far text line stands is_line none gives = record {
@@ -59,7 +59,7 @@ Stands-line r fresh so_far text line stands is_line none gives = record {
   numbered = omega (arith, length_push stands.lines (stands.part ++ line), stands.numbered);
 }
 
--- the same, where the line has a fault: what follows doesn't matter
+-- the same, if the line is invalid; what follows doesn't matter
 pub StopsAt-line : {swap : Swap} (e : ReadFault) (r : ReaderValue) (text line rest : List ℕ) → (stands : Stands swap r text) → IsLine line
     → IsLineFault e r.number stands.lines (stands.part ++ line) → StopsAt e ((text ++ ended line) ++ rest)
 StopsAt-line e r text line rest stands is_line fault =
@@ -68,6 +68,6 @@ StopsAt-line e r text line rest stands is_line fault =
     ((text ++ ended line) ++ rest) last (EndsLines-more (text ++ ended line) rest (stands.lines ++ (stands.part ++ line) ∷ []) more [] last
     (EndsLines-line text stands.lines stands.part line stands.cut is_line) cut)
 
--- a text and a piece of which a line and what is behind it is left
+-- a text and a piece, of which a line and what follows it is left
 pub piece_line : (text piece done rest line after : List ℕ) → piece ≡ done ++ rest → rest ≡ ended line ++ after → ((text ++ done) ++ ended line) ++ after ≡ text ++ piece
 piece_line text piece done rest line after is ends = search (arith, append_assoc)

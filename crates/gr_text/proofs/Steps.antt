@@ -1,4 +1,4 @@
--- What lines say when one more comes.
+-- What lines state after one more comes.
 use Rattle.std.proofs.Common.{◌≡◌, ℕ, ◌+◌, ◌<◌, ◌≤◌, inl, inr, List, [], ◌∷◌, ◌++◌, refl, ap, sym, ◌∙◌}
 use Rattle.std.proofs.Common.{subst, arith, append-nil, map, length, Option, Some, None, cond, true, false, Bool, Result, Ok, Err, MatchResult}
 use Rattle.std.specs.Prelude.{option_to_list}
@@ -31,7 +31,7 @@ Say-more [] line ss s say says = inr (s, [], says, refl, ap (λ (xs : List State
 Say-more (first ∷ lines) line ss s (inl (quiet, say)) says = inl (quiet, Say-more lines line ss s say says)
 Say-more (first ∷ lines) line ss s (inr (t, others, first_says, say, is)) says = search (arith, Say-more lines line others s say says)
 
--- lines that say the same as lawful ones, and a silent line after lawful ones
+-- lines that state the same as valid ones, and a silent line after valid ones
 pub AreLawfulLines-like : (lines others : List (List ℕ)) (n m : ℕ) (arcs : List Arc) → AreLawfulLines lines n m arcs → Say others (Problem n m ∷ map ArcLine arcs) → AreLawfulLines others n m arcs
 AreLawfulLines-like lines others n m arcs lawful say = search arith
 
@@ -60,7 +60,7 @@ AreLawfulLines-arc lines line n m arcs arc lawful says is_arc room = record {
   each = All-push (IsArcOf n) arcs arc lawful.each is_arc;
 }
 
--- the links with that of one more arc
+-- the edges together with the edge of one more arc
 pub AreLinksOf-loop : (arcs : List Arc) (links : List Link) (arc : Arc) → AreLinksOf arcs links → is_no_loop arc ≡ false → AreLinksOf (arcs ++ arc ∷ []) links
 AreLinksOf-loop arcs links arc are loop = search (arith, append-nil, cond, filter-append)
 

@@ -1,4 +1,4 @@
--- The lines of links in the parts of a room.
+-- The lines of edges in the parts of a buffer.
 use Rattle.std.proofs.Common.{◌≡◌, ℕ, List, ◌∷◌, ◌++◌, length, drop, sym, ap, ◌∙◌, arith}
 use Rattle.std.specs.List.{flat_map}
 use Rattle.std.proofs.lemmas.Grind.{flat_map-append}
@@ -9,7 +9,7 @@ use Rattle.gr_text.specs.ForestText.{link_line}
 use Rattle.gr_text.specs.Handing.{IsPart, text_of_parts}
 use Rattle.gr_text.specs.declared.parallel_writer.TheConstants.{PART_ROOM}
 
--- one part, and others behind it
+-- one part, and others after it
 pub part_and_others : (first later : List Link) (bytes : ℕ) (others : List ℕ) (one rest : List ℕ) → length one ≡ PART_ROOM → IsPart first bytes one
     → text_of_parts others rest ≡ flat_map link_line later → text_of_parts (bytes ∷ others) (one ++ rest) ≡ flat_map link_line (first ++ later)
 part_and_others first later bytes others one rest len part text =

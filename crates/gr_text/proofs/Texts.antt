@@ -1,4 +1,4 @@
--- The laws of texts.
+-- The laws about texts.
 use Rattle.std.proofs.Common.{◌≡◌, ℕ, List, [], ◌∷◌, refl, ap, ◌∙◌, subst, length, map}
 use Rattle.links.specs.Arc.{Arc}
 use Rattle.gr_text.specs.Statement.{Problem, ArcLine}
@@ -14,7 +14,7 @@ ArcLine-injective (a ∷ xs) (b ∷ ys) e =
     let rest : xs ≡ ys = ArcLine-injective xs ys tails in cc
 ArcLine-injective xs ys e = absurd (cc)
 
--- lawful lines have one problem and one list of arcs
+-- valid lines have one problem and one list of arcs
 pub AreLawfulLines-unique : (lines : List (List ℕ)) (n m k l : ℕ) (arcs others : List Arc) → AreLawfulLines lines n m arcs → AreLawfulLines lines k l others → (n ≡ k) × (m ≡ l) × (arcs ≡ others)
 AreLawfulLines-unique lines n m k l arcs others a b =
     let same : Problem n m ∷ map ArcLine arcs ≡ Problem k l ∷ map ArcLine others = Say-unique lines _ _ a.say b.say in
@@ -23,7 +23,7 @@ AreLawfulLines-unique lines n m k l arcs others a b =
     let tails : map ArcLine arcs ≡ map ArcLine others = cc in
     (sn, sm, ArcLine-injective arcs others tails)
 
--- Lawful lines say one thing.
+-- Valid lines state only one thing.
 pub said_unique : (lines : List (List ℕ)) (t u : SaidSoFar) → HaveSaid lines t → HaveSaid lines u → t ≡ u
 said_unique lines Unsaid Unsaid a b = refl
 said_unique lines Unsaid (Stated n m arcs) a b = absurd (let same : [] ≡ Problem n m ∷ map ArcLine arcs = Say-unique lines _ _ a b.say in cc)

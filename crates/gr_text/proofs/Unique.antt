@@ -1,4 +1,4 @@
--- A line has one list of fields, a text one list of lines, and lines say one thing.
+-- A line has only one list of fields, a text only one list of lines, and lines state only one thing.
 use Rattle.std.proofs.Common.{◌≡◌, ◌≢◌, ℕ, ℤ, pos, neg_ℤ, inl, inr, List, [], ◌∷◌, ◌++◌, refl, ap, sym, ◌∙◌, subst, arith, append_assoc, codes}
 use Rattle.std.specs.List.{AllByRecursion, flat_map}
 use Rattle.links.specs.Arc.{Arc}
@@ -8,13 +8,13 @@ use Rattle.gr_text.proofs.Alls.{All-parts}
 use Rattle.gr_text.proofs.FieldBytes.{head_is}
 use Rattle.gr_text.specs.Statement.{Statement, Problem, ArcLine, AreSilent, FieldsSay, IsSilent, Says, Say}
 
--- nothing, or a byte without P in front
+-- no bytes, or bytes whose first doesn't have P
 abbrev pub Stops : (ℕ → Type 0) → List ℕ → Type 0
 Stops P [] = Unit {0}
 Stops P (b ∷ bytes) = ¬ (P b)
 
--- A prefix of bytes with P, and then one without: the prefix is one. By induction on both prefixes; where one of them
--- is over, the other's next byte would have P and not have it.
+-- There is only one way to split bytes into a prefix with P and a rest that begins without P. By induction on both
+-- prefixes: if one of them ended earlier, the next byte of the other would and wouldn't have P.
 pub prefix_unique : (P : ℕ → Type 0) (xs ys r s : List ℕ) → AllByRecursion P xs → AllByRecursion P ys → Stops P r → Stops P s
     → xs ++ r ≡ ys ++ s → (xs ≡ ys) × (r ≡ s)
 prefix_unique P [] [] r s px py pr ps e = (refl, e)
@@ -49,7 +49,7 @@ AreFields-unique line (f ∷ fs) (g ∷ gs) (b1, a1, bl1, s1, al1, is1, be1, o1)
     let rest : fs ≡ gs = AreFields-unique a1 fs gs o1 (subst (λ (x : List ℕ). AreFields x gs) (sym fields.1) o2) in
     ap (λ (x : List ℕ). x ∷ fs) fields.0 ∙ ap (λ (xs : List (List ℕ)). g ∷ xs) rest
 
--- The lines of a text: a whole line is one that ends before the next line feed. By induction on both lists of lines.
+-- The lines of a text. A whole line ends before the next line feed. By induction on both lists of lines.
 cut_first : (line other rest more : List ℕ) → IsLine line → IsLine other → line ++ line_feed ∷ rest ≡ other ++ line_feed ∷ more → (line ≡ other) × (rest ≡ more)
 cut_first line other rest more is_line is_other e =
     let both = prefix_unique (λ b. b ≢ line_feed) line other (line_feed ∷ rest) (line_feed ∷ more) is_line is_other (λ differs. differs refl) (λ differs. differs refl) e in
@@ -82,7 +82,7 @@ AreLines-unique text ls ms (b1, r1, c1, e1) (b2, r2, c2, e2) =
     let same = EndsLines-unique text b1 b2 r1 r2 c1 c2 in
     e1 ∙ ap (λ (x : List (List ℕ)). with_last x r1) same.0 ∙ ap (with_last b2) same.1 ∙ sym e2
 
--- A number is written by its digits, and a signed one has a minus or none.
+-- The digits determine the number, and so does a minus sign or its absence.
 writes_unique : (field : List ℕ) (n m : ℕ) → Writes field n → Writes field m → n ≡ m
 writes_unique field n m w v = sym w.2 ∙ v.2
 
@@ -95,7 +95,7 @@ signed_unique a1 a2 a3 a4 a5 = search (arith, writes_unique, minus_writes_none, 
 pub arc_unique : (a b : Arc) → a.tail ≡ b.tail → a.head ≡ b.head → a.weight ≡ b.weight → a ≡ b
 arc_unique a b e f g = search arith
 
--- Fields make one statement at the most.
+-- Fields make at most one statement.
 pub FieldsSay-unique : (fields : List (List ℕ)) (s t : Statement) → FieldsSay fields s → FieldsSay fields t → s ≡ t
 FieldsSay-unique a1 a2 a3 a4 a5 = search (arith, codes, writes_unique, head_is, arc_unique, signed_unique)
 
@@ -110,7 +110,7 @@ pub IsSilent-says : (line : List ℕ) (s : Statement) → IsSilent line → Says
 IsSilent-says line s (fs, are, silent) (gs, are', says) =
     silent_or_says gs s (subst AreSilent (AreFields-unique line fs gs are are') silent) says
 
--- Lines make one list of statements.
+-- Lines make only one list of statements.
 pub Say-unique : (lines : List (List ℕ)) (ss ts : List Statement) → Say lines ss → Say lines ts → ss ≡ ts
 Say-unique [] ss ts a b = a ∙ sym b
 Say-unique (line ∷ lines) ss ts (inl (quiet, a)) (inl (quiet', b)) = Say-unique lines ss ts a b

@@ -1,4 +1,4 @@
--- A usual arc line: its fields, its bytes, and that it is read whole.
+-- A usual arc line: its fields, its bytes, and that it is read as a whole.
 use Rattle.std.proofs.Common.{◌≡◌, ◌≢◌, ℕ, suc, ◌+◌, ◌-◌, ◌%◌, ◌^◌, ◌<◌, ◌≤◌, inl, inr, List, [], ◌∷◌, ◌++◌, refl, ap, sym, ◌∙◌, subst, arith, append_assoc, codes, length, take, drop, get_or}
 use Rattle.std.specs.List.{AllByRecursion}
 use Rattle.std.proofs.lemmas.List.{length-take-le, take_more, take-append-drop, drop-append-le, take_rest}
@@ -17,7 +17,7 @@ all_as : (P Q : ℕ → Type 0) → ((b : ℕ) → P b → Q b) → (xs : List �
 all_as P Q weaker [] all = tt
 all_as P Q weaker (x ∷ xs) all = (weaker x all.0, all_as P Q weaker xs all.1)
 
--- no blank and no line feed
+-- neither a blank nor a line feed
 abbrev Inner : ℕ → Type 0
 Inner b = 32 < b
 
@@ -30,7 +30,7 @@ field_of_inner b inner blank = elim blank [ inl e ↦ omega arith | inr (inl e) 
 no_feed_of_inner : (b : ℕ) → Inner b → b ≢ line_feed
 no_feed_of_inner b inner is = omega arith
 
--- a number's bytes, without and with a sign
+-- the bytes of a number, with or without a sign
 pub record IsInner (field : List ℕ) : Type 0 where
   pub some : field ≢ []
   pub all : AllByRecursion Inner field
@@ -41,7 +41,7 @@ inner_of_short field short = record { some = short.some; all = all_as IsDigit In
 inner_of_signed : (field : List ℕ) → IsShortSigned field → IsInner field
 inner_of_signed a1 a2 = search (arith, inner_of_short, all_as, inner_of_digit)
 
--- a field behind a space
+-- a field after a space
 behind_space : (field after : List ℕ) (others : List (List ℕ)) → IsInner field → BeginsBlank after → AreFields after others → AreFields (32 ∷ (field ++ after)) (field ∷ others)
 behind_space field after others inner begins are =
     (32 ∷ [], after, (inl refl, tt), inner.some, all_as Inner IsFieldByte field_of_inner field inner.all, refl, begins, are)
@@ -66,7 +66,7 @@ usual_fields line usual =
     subst (λ (xs : List ℕ). AreFields xs (codes "a" ∷ tail ∷ head ∷ weight ∷ [])) (sym usual.spelled)
     ([], 32 ∷ (tail ++ 32 ∷ (head ++ 32 ∷ (weight ++ end))), tt, (λ (e : codes "a" ≡ []). cc), (field_of_inner 97 (omega arith), tt), refl, inl refl, three)
 
--- it has no line feed
+-- a usual line has no line feed
 pub usual_is_line : (line : List ℕ) → IsUsualArc line → IsLine line
 usual_is_line line usual =
     let P : ℕ → Type 0 = λ b. b ≢ line_feed in
@@ -84,7 +84,7 @@ usual_spelled : (line rest tail head weight end : List ℕ) → line ≡ codes "
     → ended line ++ rest ≡ codes "a " ++ (tail ++ 32 ∷ (head ++ 32 ∷ (weight ++ (end ++ line_feed ∷ rest))))
 usual_spelled line rest tail head weight end is = search (arith, append_assoc)
 
--- What is read is such a line.
+-- The bytes that were read are such a line.
 pub usual_found : (bytes fields second third rest : List ℕ) (u v : ℕ) (w : Signed) → bytes ≡ 97 ∷ 32 ∷ fields → BeginsWithShort u 32 fields second → BeginsWithShort v 32 second third
     → BeginsWithShortSigned w third rest
     → (line : List ℕ) × IsUsualArc line × IsWhole (ArcWhole u v w) line × (bytes ≡ ended line ++ rest)
@@ -111,13 +111,14 @@ usual_found bytes fields second third rest u v w begins (tail, short_tail, keeps
 space_no_digit : ¬ (IsDigit 32)
 space_no_digit digit = omega (arith, digit.0)
 
--- behind a short number
+-- what follows a short number
 behind : (kept stop : ℕ) (bytes after field rest : List ℕ) → ¬ (IsDigit stop) → BeginsWithShort kept stop bytes after → IsShort field → bytes ≡ field ++ stop ∷ rest → after ≡ rest
 behind kept stop bytes after field rest no_digit (field', short', keeps, is') short is =
     let both = prefix_unique IsDigit field' field (stop ∷ after) (stop ∷ rest) short'.digits short.digits no_digit no_digit (sym is' ∙ is) in
     let tails : stop ∷ after ≡ stop ∷ rest = both.1 in cc
 
--- No short number ends a line: none stands before a line feed, nor before a carriage return that one follows.
+-- No short number is before the end of a line if none is before a line feed, or before a carriage return and a line
+-- feed.
 pub never_last : (bytes : List ℕ) → HasNoShort line_feed bytes → ((field rest : List ℕ) → IsShort field → bytes ≢ field ++ 13 ∷ line_feed ∷ rest) → HasNoLast bytes
 never_last a1 a2 a3 a4 a5 a6 a7 = search arith
 
@@ -128,12 +129,12 @@ pub never_feed : (kept : ℕ) (bytes after : List ℕ) → BeginsWithShort kept 
     → (field rest : List ℕ) → IsShort field → bytes ≢ field ++ 13 ∷ line_feed ∷ rest
 never_feed kept bytes after begins other field rest short is = other rest (behind kept 13 bytes after field (line_feed ∷ rest) return_no_digit begins short is)
 
--- what follows the letter of a usual line
+-- what follows the first letter of a usual line
 behind_letter : (bytes fields line rest : List ℕ) → (usual : IsUsualArc line) → bytes ≡ 97 ∷ 32 ∷ fields → bytes ≡ ended line ++ rest
     → fields ≡ usual.tail ++ 32 ∷ (usual.head ++ 32 ∷ (usual.weight ++ (usual.end ++ line_feed ∷ rest)))
 behind_letter bytes fields line rest usual begins is = search (arith, usual_spelled)
 
--- No usual line begins bytes in which a field of it is missing.
+-- No usual line begins bytes that lack one of its fields.
 pub never_head : (bytes fields second : List ℕ) (u : ℕ) → bytes ≡ 97 ∷ 32 ∷ fields → BeginsWithShort u 32 fields second
     → ((field rest : List ℕ) → IsShort field → second ≢ field ++ 32 ∷ rest) → (line rest : List ℕ) → IsUsualArc line → bytes ≢ ended line ++ rest
 never_head bytes fields second u begins tail never line rest usual is =
@@ -153,23 +154,23 @@ never_weight bytes fields second third u v begins tail head never line rest usua
           (behind u 32 fields second usual.tail (usual.head ++ 32 ∷ last) space_no_digit tail usual.short_tail (behind_letter bytes fields line rest usual begins is)),
     )
 
--- A place in bytes.
+-- bytes, split at an index
 pub at_place : (xs : List ℕ) (i : ℕ) → i < length xs → xs ≡ take i xs ++ get_or xs i 0 ∷ drop (i + 1) xs
 at_place xs i within =
     sym (take-append-drop (i + 1) xs) ∙ ap (λ (ys : List ℕ). ys ++ drop (i + 1) xs) (take_more xs i 0 within) ∙ append_assoc (take i xs) (get_or xs i 0 ∷ []) (drop (i + 1) xs)
 
--- The bytes before `stop` are digits, one to nineteen, and what is kept of them is their number.
+-- The bytes before `stop` are one to nineteen digits, and what is stored of them is their number.
 pub short_before : (kept stop place : ℕ) (xs : List ℕ) → place < length xs → length xs ≤ 20 → 1 ≤ place → get_or xs place 0 ≡ stop
     → AllByRecursion IsDigit (take place xs) → kept ≡ number_written (take place xs) % 2 ^ 64 → number_written (take place xs) < 10 ^ place
     → HasShortBefore kept place stop xs
 short_before kept stop place xs within few some here digits is below = search (arith, length-take-le, pow-le-pow_right, at_place)
 
--- All are digits.
+-- All bytes are digits.
 pub never_all : (stop : ℕ) (xs : List ℕ) → ¬ (IsDigit stop) → AllByRecursion IsDigit xs → HasNoShort stop xs
 never_all stop xs no_digit all field rest short is =
     let parts = All-parts IsDigit field (stop ∷ rest) (subst (AllByRecursion IsDigit) is all) in no_digit parts.1.0
 
--- The first byte that is no digit isn't `stop`, or there is no digit before it.
+-- The first byte that isn't a digit isn't `stop`, or no digit comes before it.
 pub never_other : (stop : ℕ) (xs : List ℕ) (i : ℕ) → ¬ (IsDigit stop) → i < length xs → AllByRecursion IsDigit (take i xs) → ¬ (IsDigit (get_or xs i 0)) → (get_or xs i 0 ≡ stop → i ≡ 0)
     → HasNoShort stop xs
 never_other stop xs i no_digit within all other none field rest short is =
@@ -179,11 +180,10 @@ never_other stop xs i no_digit within all other none field rest short is =
     let zero : i ≡ 0 = none same in
     short.some (sym both.0 ∙ ap (λ (k : ℕ). take k xs) zero)
 
--- Bytes that begin with one aren't none.
 pub never_empty : (bytes : List ℕ) (b : ℕ) (rest : List ℕ) → length bytes < 1 → bytes ≢ b ∷ rest
 never_empty a1 a2 a3 a4 a5 = search arith
 
--- No number ends a line with or without a minus.
+-- If no number is before the end of a line, none is with a minus sign either.
 pub never_minus : (bytes digits : List ℕ) → bytes ≡ 45 ∷ digits → HasNoLast digits → HasNoShortSigned bytes
 never_minus bytes digits begins none field rest (inl short) (end, ends, is) =
     elim field as (λ f. IsShort f → bytes ≡ f ++ (end ++ line_feed ∷ rest) → ⊥) [
@@ -197,7 +197,7 @@ pub never_plus : (bytes : List ℕ) → ((digits : List ℕ) → bytes ≢ 45 �
 never_plus bytes other none field rest (inl short) ends = none field rest short ends
 never_plus bytes other none field rest (inr (digits, minus, short)) (end, ends, is) = search arith
 
--- bytes by their first ones
+-- bytes, split after the first ones
 pub begins_one : (xs : List ℕ) (a : ℕ) → 1 ≤ length xs → get_or xs 0 0 ≡ a → xs ≡ a ∷ take (length xs - 1) (drop 1 xs)
 begins_one [] a some first = absurd (omega arith)
 begins_one (x ∷ xs) a some first = ap (λ (y : ℕ). y ∷ xs) first ∙ ap (λ (ys : List ℕ). a ∷ ys) (sym (take_rest (x ∷ xs) 1))
@@ -207,7 +207,7 @@ begins_two [] a b some first second = absurd (omega arith)
 begins_two (x ∷ []) a b some first second = absurd (omega arith)
 begins_two (x ∷ y ∷ xs) a b some first second = search (arith, take_rest)
 
--- A number before `stop` stands in the text where it stands in its first twenty bytes.
+-- A number before `stop` in the first twenty bytes is there in all bytes too.
 pub found_in_front : (kept stop place : ℕ) (xs : List ℕ) → HasShortBefore kept place stop (take 20 xs) → BeginsWithShort kept stop xs (drop (place + 1) xs)
 found_in_front kept stop place xs (within, (field, short, keeps, is)) =
     let few : place + 1 ≤ length (take 20 xs) = omega arith in

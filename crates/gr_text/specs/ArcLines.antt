@@ -1,4 +1,4 @@
--- Bytes that are arc lines alone.
+-- Bytes that are only arc lines.
 use Rattle.std.specs.Prelude.{◌≡◌, ℕ, ◌≤◌, List, [], ◌∷◌, ◌++◌, map, length, take, Option, IfSome, option_to_list}
 use Rattle.std.specs.List.{AllByRecursion}
 use Rattle.links.specs.Arc.{Arc}
@@ -9,8 +9,8 @@ use Rattle.gr_text.specs.Statement.{ArcLine, Says, Say}
 use Rattle.gr_text.specs.Graph.{IsArcOf}
 use Rattle.gr_text.specs.declared.arc_lines.ArcLines.{ArcLines}
 
--- the bytes are so many lines, each ended by a line feed; each gives an arc of a graph of n vertices, and the links are
--- those of these arcs
+-- The bytes are `count` lines, each ended by a line feed. Each line gives an arc of a graph of n vertices, and the
+-- links are the edges of these arcs.
 pub record AreArcLines (n count : ℕ) (bytes : List ℕ) (links : List Link) : Type 0 where
   pub lines : List (List ℕ)
   pub arcs : List Arc
@@ -21,24 +21,25 @@ pub record AreArcLines (n count : ℕ) (bytes : List ℕ) (links : List Link) : 
   pub each_arc : length arcs ≡ count
   pub of_arcs : AreLinksOf arcs links
 
--- the bytes are such lines, and their links stand in front in the room
+-- the bytes are such lines, and their edges are at the start of the buffer
 pub record FillsRoom (n : ℕ) (bytes : List ℕ) (found : ArcLines) (room : List Link) : Type 0 where
   pub within : found.links ≤ length room
   pub few : found.lines ≤ length bytes
   pub are : AreArcLines n found.lines bytes (take found.links room)
 
--- the room keeps its length; where an answer is given, the bytes are such lines, and their links stand in front in it
+-- the buffer keeps its length; if the call returns a value, the bytes are such lines, and their edges are at its start
 pub record FillsOrNot (n : ℕ) (bytes : List ℕ) (answer : Option ArcLines) (old new : List Link) : Type 0 where
   pub len : length new ≡ length old
   pub found : IfSome answer (λ found. FillsRoom n bytes found new)
 
--- links were appended to a list; where an answer is given, the bytes are so many such lines, and these are their links
+-- edges were appended to a list; if the call returns a count, the bytes are that many such lines, and these are their
+-- edges
 pub record AppendsOrNot (n : ℕ) (bytes : List ℕ) (answer : Option ℕ) (old new : List Link) : Type 0 where
   pub more : List Link
   pub appended : new ≡ old ++ more
   pub found : IfSome answer (λ count. (count ≤ length bytes) × AreArcLines n count bytes more)
 
--- the bytes begin with such a line, whose arc gives this link, if one; and what is left is this
+-- The bytes begin with such a line, and `rest` is what follows it. `link` is the edge of its arc, or none for a loop.
 pub record BeginsWithArc (n : ℕ) (bytes : List ℕ) (link : Option Link) (rest : List ℕ) : Type 0 where
   pub line : List ℕ
   pub arc : Arc

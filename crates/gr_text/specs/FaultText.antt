@@ -1,4 +1,4 @@
--- What the faults of a text are told as.
+-- The texts of errors.
 use Rattle.std.specs.Prelude.{ℕ, List, ◌++◌, codes, decimal}
 use Rattle.gr_text.specs.declared.faults.GrKind.{GrKind}
 use Rattle.gr_text.specs.declared.faults.GrKind.TheVariants.{UnknownLine, NoProblemYet, SecondProblem, BadProblem, TooLarge, BadArc, EndOutOfRange, WeightOutOfRange, TooManyArcs, MissingProblem, MissingArcs}
@@ -6,7 +6,6 @@ use Rattle.gr_text.specs.declared.faults.GrFault.{GrFault}
 use Rattle.gr_text.specs.declared.faults.ReadFault.{ReadFault}
 use Rattle.gr_text.specs.declared.faults.ReadFault.TheVariants as read
 
--- the name of what is wrong with a line of the file
 abbrev pub kind_text : GrKind → List ℕ
 kind_text UnknownLine = codes "UnknownLine"
 kind_text NoProblemYet = codes "NoProblemYet"
@@ -20,7 +19,7 @@ kind_text TooManyArcs = codes "TooManyArcs"
 kind_text MissingProblem = codes "MissingProblem"
 kind_text MissingArcs = codes "MissingArcs"
 
--- the line, and what is wrong with it
+-- the line number, and what is wrong with the line
 abbrev pub line_text : GrFault → List ℕ
 line_text f = codes "line " ++ decimal f.line ++ codes ": " ++ kind_text f.kind
 
@@ -31,6 +30,6 @@ read_text (read.Source line) = codes "line " ++ decimal line ++ codes ": read fa
 read_text read.TooLong = codes "file is too long"
 read_text read.Memory = codes "no memory"
 
--- how many bytes of a text went out
+-- how many bytes of a text were written
 abbrev pub unwritten_text : ℕ → List ℕ
 unwritten_text written = codes "write failed after " ++ decimal written ++ codes " bytes"

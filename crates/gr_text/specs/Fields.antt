@@ -6,11 +6,10 @@ use Rattle.std.specs.List.{AllByRecursion}
 abbrev pub IsBlank : ℕ → Type 0
 IsBlank b = (b ≡ 32) ⊎ (b ≡ 9) ⊎ (b ≡ 13)
 
--- any other byte
 abbrev pub IsFieldByte : ℕ → Type 0
 IsFieldByte b = ¬ (IsBlank b)
 
--- nothing, or what begins with a blank
+-- no bytes, or bytes that begin with a blank
 abbrev pub BeginsBlank : List ℕ → Type 0
 BeginsBlank [] = Unit {0}
 BeginsBlank (b ∷ bytes) = IsBlank b
@@ -22,7 +21,6 @@ AreFields line (field ∷ fields) = (blanks after : List ℕ)
     × AllByRecursion IsBlank blanks × (field ≢ []) × AllByRecursion IsFieldByte field
     × (line ≡ blanks ++ field ++ after) × BeginsBlank after × AreFields after fields
 
--- a decimal digit
 abbrev pub IsDigit : ℕ → Type 0
 IsDigit b = (48 ≤ b) × (b ≤ 57)
 
@@ -30,11 +28,11 @@ IsDigit b = (48 ≤ b) × (b ≤ 57)
 abbrev pub number_written : List ℕ → ℕ
 number_written digits = fold (λ n b. 10 * n + (b - 48)) 0 digits
 
--- the field is digits, at least one, that write n; zeros may stand before them
+-- the field consists of one or more digits that write n; leading zeros are allowed
 abbrev pub Writes : List ℕ → ℕ → Type 0
 Writes field n = (field ≢ []) × AllByRecursion IsDigit field × (number_written field ≡ n)
 
--- the same with at most one minus before the digits
+-- the same with at most one minus sign before the digits
 abbrev pub WritesSigned : List ℕ → ℤ → Type 0
 WritesSigned field z = ((n : ℕ) × Writes field n × (z ≡ pos n))
     ⊎ ((digits : List ℕ) × (n : ℕ) × (field ≡ 45 ∷ digits) × Writes digits n × (z ≡ neg_ℤ (pos n)))

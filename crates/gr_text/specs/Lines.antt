@@ -2,7 +2,6 @@
 use Rattle.std.specs.Prelude.{◌≡◌, ◌≢◌, ℕ, ◌+◌, ◌==◌, List, [], ◌∷◌, ◌++◌, count_by}
 use Rattle.std.specs.List.{AllByRecursion, flat_map}
 
--- the byte that ends a line
 abbrev pub line_feed : ℕ
 line_feed = 10
 
@@ -18,13 +17,13 @@ IsLine bytes = AllByRecursion (λ b. b ≢ line_feed) bytes
 abbrev pub ended : List ℕ → List ℕ
 ended line = line ++ line_feed ∷ []
 
--- the text is these lines, each ended by a line feed, and then what is left, without one
+-- the text consists of these lines, each ended by a line feed, and then a rest without a line feed
 pub record EndsLines (text : List ℕ) (lines : List (List ℕ)) (rest : List ℕ) : Type 0 where
   pub whole : text ≡ flat_map ended lines ++ rest
   pub each : AllByRecursion IsLine lines
   pub last : IsLine rest
 
--- the lines with the last one, which lacks its line feed; where nothing is left there is none
+-- the lines and the last one, which lacks its line feed; if the rest is empty, there is no such line
 abbrev pub with_last : List (List ℕ) → List ℕ → List (List ℕ)
 with_last lines [] = lines
 with_last lines (b ∷ bytes) = lines ++ (b ∷ bytes) ∷ []

@@ -1,4 +1,4 @@
--- A line of which a part has come.
+-- A line that has come in part.
 use Rattle.std.specs.Prelude.{◌≡◌, ℕ, Bool, true, false, List, [], ◌∷◌, ◌++◌}
 use Rattle.std.specs.List.{AllByRecursion}
 use Rattle.gr_text.specs.Lines.{IsLine, ended}
@@ -7,13 +7,13 @@ use Rattle.gr_text.specs.Word.{WordMeans, LineMeans}
 use Rattle.gr_text.specs.declared.partial_line.PartialLine.{PartialLine}
 use Rattle.gr_text.specs.declared.words.LineFields.{LineFields}
 
--- the fields, and one more where it isn't empty
+-- the fields, and one more if it isn't empty
 abbrev pub with_field : List (List ℕ) → List ℕ → List (List ℕ)
 with_field fields [] = fields
 with_field fields (b ∷ bytes) = fields ++ (b ∷ bytes) ∷ []
 
--- The part has these whole fields, and ends in the bytes of one more, if any: whatever follows, more bytes of that
--- field and then what begins with a blank, the fields of the whole are those.
+-- The part has these whole fields, and ends in the bytes of one more, if any. If more bytes of that field follow, and
+-- then bytes that begin with a blank, the fields of the whole line are those.
 abbrev pub AreParts : List ℕ → List (List ℕ) → List ℕ → Type 0
 AreParts part fields last = (more after : List ℕ) (others : List (List ℕ)) → AllByRecursion IsFieldByte more
     → BeginsBlank after → AreFields after others
@@ -24,21 +24,21 @@ abbrev pub is_begun : List ℕ → Bool
 is_begun [] = false
 is_begun (b ∷ bytes) = true
 
--- this part of a line is kept so
+-- this part of a line is stored as `partial`
 abbrev pub IsKeptAs : PartialLine → List ℕ → Type 0
 IsKeptAs partial part = (partial.begun ≡ is_begun part)
     × ((fields : List (List ℕ)) × (last : List ℕ) × AreParts part fields last × LineMeans partial.on fields × WordMeans partial.word last)
 
--- what is kept of a whole line
+-- what is stored of a whole line
 abbrev pub IsWhole : LineFields → List ℕ → Type 0
 IsWhole line bytes = (fields : List (List ℕ)) × AreFields bytes fields × LineMeans line fields
 
--- behind this part of a line the bytes go on with it, and it is kept so
+-- the bytes continue this part of a line without ending it, and the longer part is stored
 abbrev pub GoesOn : PartialLine → List ℕ → List ℕ → Type 0
 GoesOn partial part bytes = IsLine bytes × IsKeptAs partial (part ++ bytes)
 
--- behind this part of a line the bytes are its end, its line feed and what is left; the line is kept so, and of the next
--- one nothing
+-- After this part of a line, the bytes are its end, its line feed and the rest. The line is stored as `kept`, and
+-- nothing of the next line is stored.
 abbrev pub EndsLine : PartialLine → LineFields → List ℕ → List ℕ → List ℕ → Type 0
 EndsLine fresh kept part bytes rest = IsKeptAs fresh []
     × ((line : List ℕ) × IsLine line × (bytes ≡ ended line ++ rest) × IsWhole kept (part ++ line))

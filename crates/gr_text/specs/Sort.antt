@@ -1,11 +1,11 @@
--- What sort of line a line is.
+-- The sorts of lines.
 use Rattle.std.specs.Prelude.{◌≡◌, ◌≢◌, ℕ, List, ◌∷◌, codes}
 use Rattle.links.specs.Arc.{Arc}
 use Rattle.gr_text.specs.Fields.{AreFields}
 use Rattle.gr_text.specs.Statement.{Statement, Problem, ArcLine, AreSilent, FieldsSay}
 
--- a line says nothing; it makes a statement, a problem or an arc; it begins as such a line, and makes none; or it begins
--- otherwise
+-- A line states nothing, or it makes a statement (a problem or an arc). It may also begin like a problem line or an arc
+-- line without being one, or begin in any other way.
 pub data LineSort : Type 0 where
   Nothing : LineSort
   Makes : Statement → LineSort
@@ -22,6 +22,6 @@ AreOfSort fields NoArc = ((others : List (List ℕ)) × (fields ≡ codes "a" �
 AreOfSort fields Unknown = ((first : List ℕ) × (others : List (List ℕ)) × (fields ≡ first ∷ others) × (first ≢ codes "p") × (first ≢ codes "a"))
     × ¬ (AreSilent fields)
 
--- the line is of this sort; each line is of one alone
+-- the line is of this sort; each line has only one sort
 abbrev pub IsOfSort : List ℕ → LineSort → Type 0
 IsOfSort line sort = (fields : List (List ℕ)) × AreFields line fields × AreOfSort fields sort

@@ -14,16 +14,16 @@ pub record IsShort (field : List ℕ) : Type 0 where
   pub digits : AllByRecursion IsDigit field
   pub few : length field ≤ 19
 
--- the same with at most one minus before them
+-- the same with at most one minus sign before them
 abbrev pub IsShortSigned : List ℕ → Type 0
 IsShortSigned field = IsShort field ⊎ ((digits : List ℕ) × (field ≡ 45 ∷ digits) × IsShort digits)
 
--- nothing, or the carriage return that some systems put before a line feed
+-- no bytes, or the carriage return that some systems put before a line feed
 abbrev pub IsLineEnd : List ℕ → Type 0
 IsLineEnd bytes = (bytes ≡ []) ⊎ (bytes ≡ 13 ∷ [])
 
--- a line `a U V W` of such numbers, with one space between two fields and no other blank but a carriage return at its
--- end; only W may have a minus
+-- A line `a U V W` of such numbers, with one space between two fields. The only other blank is a carriage return at its
+-- end, and only W may have a minus sign.
 pub record IsUsualArc (line : List ℕ) : Type 0 where
   pub tail : List ℕ
   pub head : List ℕ
@@ -35,31 +35,31 @@ pub record IsUsualArc (line : List ℕ) : Type 0 where
   pub short_weight : IsShortSigned weight
   pub ends : IsLineEnd end
 
--- the bytes are a field of this form, which keeps this, then `stop` and what is left
+-- the bytes are a field of this form, stored as `kept`, then `stop` and the rest
 abbrev pub BeginsWithShort : ℕ → ℕ → List ℕ → List ℕ → Type 0
 BeginsWithShort kept stop bytes rest = (field : List ℕ) × IsShort field × KeepsNumber kept field × (bytes ≡ field ++ stop ∷ rest)
 
--- the same with `stop` at this place
+-- the same with `stop` at this index
 abbrev pub HasShortBefore : ℕ → ℕ → ℕ → List ℕ → Type 0
 HasShortBefore kept place stop bytes = (place < length bytes) × BeginsWithShort kept stop bytes (drop (place + 1) bytes)
 
--- this is the field, then the end of its line and what is left
+-- the bytes are this field, the end of its line and the rest
 abbrev pub EndsBehind : List ℕ → List ℕ → List ℕ → Type 0
 EndsBehind field bytes rest = (end : List ℕ) × IsLineEnd end × (bytes ≡ field ++ (end ++ line_feed ∷ rest))
 
--- the bytes are a field of this form, which keeps this, then the end of a line and what is left
+-- the bytes are a field of this form, stored as `kept`, then the end of a line and the rest
 abbrev pub BeginsWithLast : ℕ → List ℕ → List ℕ → Type 0
 BeginsWithLast kept bytes rest = (field : List ℕ) × IsShort field × KeepsNumber kept field × EndsBehind field bytes rest
 
--- the same of a number that may have a minus
+-- the same for a number that may have a minus sign
 abbrev pub BeginsWithShortSigned : Signed → List ℕ → List ℕ → Type 0
 BeginsWithShortSigned kept bytes rest = (field : List ℕ) × IsShortSigned field × KeepsSigned kept field × EndsBehind field bytes rest
 
--- the bytes are such a line, which is kept so, its line feed and what is left
+-- the bytes are such a line, stored as `kept`, its line feed and the rest
 abbrev pub BeginsWithUsualArc : LineFields → List ℕ → List ℕ → Type 0
 BeginsWithUsualArc kept bytes rest = (line : List ℕ) × IsUsualArc line × IsWhole kept line × (bytes ≡ ended line ++ rest)
 
--- the bytes begin with no such field before `stop`, with none before the end of a line, and with no such line
+-- the bytes don't begin with such a field before `stop`, with one before the end of a line, or with such a line
 abbrev pub HasNoShort : ℕ → List ℕ → Type 0
 HasNoShort stop bytes = (field rest : List ℕ) → IsShort field → bytes ≢ field ++ stop ∷ rest
 

@@ -1,4 +1,4 @@
--- What is kept of a field while its bytes come, and of a line while its fields come.
+-- What is stored of a field while its bytes come, and of a line while its fields come.
 use Rattle.std.specs.Prelude.{◌≡◌, ◌≢◌, ℕ, ℤ, pos, neg_ℤ, ◌-◌, ◌^◌, ◌⊎◌, List, [], ◌∷◌, ◌++◌, codes, min}
 use Rattle.links.specs.Arc.{Arc}
 use Rattle.gr_text.specs.Fields.{Writes, WritesSigned}
@@ -10,14 +10,14 @@ use Rattle.gr_text.specs.declared.words.Signed.TheVariants as signed
 use Rattle.gr_text.specs.declared.words.LineFields.{LineFields}
 use Rattle.gr_text.specs.declared.words.LineFields.TheVariants as line
 
--- the largest number that is kept as it is; any greater one is kept as this
+-- the largest number that is stored as it is; any greater one is stored as this
 abbrev pub cap : ℕ
 cap = 2 ^ 64 - 1
 
 abbrev pub IsCapped : ℕ → ℕ → Type 0
 IsCapped kept n = kept ≡ min n cap
 
--- the same with a minus or none
+-- the same with or without a minus sign
 abbrev pub IsCappedSigned : Signed → ℤ → Type 0
 IsCappedSigned (signed.Plus kept) z = (n : ℕ) × (z ≡ pos n) × IsCapped kept n
 IsCappedSigned (signed.Minus kept) z = (n : ℕ) × (z ≡ neg_ℤ (pos n)) × IsCapped kept n
@@ -26,11 +26,11 @@ IsCappedSigned (signed.Minus kept) z = (n : ℕ) × (z ≡ neg_ℤ (pos n)) × I
 abbrev pub BeginsComment : List ℕ → Type 0
 BeginsComment field = (others : List ℕ) × (field ≡ 99 ∷ others)
 
--- a field that a line can have at a lawful place, or that begins a comment
+-- a field that is allowed somewhere in a valid line, or that begins a comment
 abbrev pub IsToken : List ℕ → Type 0
 IsToken field = (field ≡ codes "p") ⊎ (field ≡ codes "a") ⊎ (field ≡ codes "sp") ⊎ BeginsComment field ⊎ ((z : ℤ) × WritesSigned field z)
 
--- the bytes of a field that have come are as this says
+-- what `Word` says about the bytes of a field that have come
 abbrev pub WordMeans : Word → List ℕ → Type 0
 WordMeans word.Empty bytes = bytes ≡ []
 WordMeans word.LetterP bytes = bytes ≡ codes "p"
@@ -43,14 +43,15 @@ WordMeans word.Minus bytes = bytes ≡ codes "-"
 WordMeans (word.Negative kept) bytes = (digits : List ℕ) × (n : ℕ) × (bytes ≡ 45 ∷ digits) × Writes digits n × IsCapped kept n
 WordMeans word.Other bytes = (bytes ≢ []) × ((more : List ℕ) → ¬ (IsToken (bytes ++ more)))
 
--- a field that writes a number, which is kept so
+-- a field that writes a number, stored as `kept`
 abbrev pub KeepsNumber : ℕ → List ℕ → Type 0
 KeepsNumber kept field = (n : ℕ) × Writes field n × IsCapped kept n
 
 abbrev pub KeepsSigned : Signed → List ℕ → Type 0
 KeepsSigned kept field = (z : ℤ) × WritesSigned field z × IsCappedSigned kept z
 
--- a line that states a problem, an arc, and a line that gives an arc, of which these numbers are kept
+-- the line states a problem whose numbers are stored as these; an arc has these stored numbers; the line gives such an
+-- arc
 abbrev pub KeepsProblem : ℕ → ℕ → List ℕ → Type 0
 KeepsProblem n m line = (k l : ℕ) × Says line (Problem k l) × IsCapped n k × IsCapped m l
 
@@ -60,7 +61,7 @@ AreKeptOf u v w arc = IsCapped u arc.tail × IsCapped v arc.head × IsCappedSign
 abbrev pub KeepsArc : ℕ → ℕ → Signed → List ℕ → Type 0
 KeepsArc u v w line = (arc : Arc) × Says line (ArcLine arc) × AreKeptOf u v w arc
 
--- fields that begin with this one and whatever follows make no such statement
+-- fields that begin with `first`, whatever follows them, make no such statement
 abbrev pub NeverSay : List ℕ → List (List ℕ) → (Statement → Type 0) → Type 0
 NeverSay first fields P = ((others : List (List ℕ)) × (fields ≡ first ∷ others))
     × ((more : List (List ℕ)) (statement : Statement) → P statement → ¬ (FieldsSay (fields ++ more) statement))
@@ -73,7 +74,7 @@ abbrev pub IsArcLine : Statement → Type 0
 IsArcLine (Problem n m) = ⊥
 IsArcLine (ArcLine arc) = Unit {0}
 
--- the fields of a line that have come are as this says
+-- what `LineFields` says about the fields of a line that have come
 abbrev pub LineMeans : LineFields → List (List ℕ) → Type 0
 LineMeans line.Nothing fields = fields ≡ []
 LineMeans line.Comment fields = (fields ≢ []) × AreSilent fields
@@ -91,7 +92,7 @@ LineMeans (line.ArcWhole u v w) fields =
     (f g h : List ℕ) × (fields ≡ codes "a" ∷ f ∷ g ∷ h ∷ []) × KeepsNumber u f × KeepsNumber v g × KeepsSigned w h
 LineMeans line.BadArc fields = NeverSay (codes "a") fields IsArcLine
 
--- behind any whole fields of which `old` is kept, and one more, of which this is kept, `new` is kept of all
+-- after any whole fields stored as `old`, and one more stored as `kept`, `new` is what is stored of all
 abbrev pub AddsField : LineFields → Word → LineFields → Type 0
 AddsField old kept new =
     (fields : List (List ℕ)) (field : List ℕ) → field ≢ [] → LineMeans old fields → WordMeans kept field

@@ -1,4 +1,4 @@
-//! Bytes that are arc lines in their usual form, and nothing else, read without the lines before them.
+//! Reads bytes that are only arc lines in their usual form, without knowing the lines before them.
 ghost use Rattle.std.specs.Prelude.{◌≡◌, ◌≤◌, ◌++◌, length, take, option_to_list, IfSome};
 ghost use Rattle.gr_text.specs.ArcLines.{BeginsWithArc, FillsOrNot};
 
@@ -8,16 +8,16 @@ use crate::verdicts::link_of;
 use crate::words::LineFields;
 use links::Link;
 
-/// How many lines bytes have, and how many links these give; loops give none.
+/// How many lines the bytes have, and how many edges the lines give. A loop gives no edge.
 #[derive(Clone, Copy)]
 pub(crate) struct ArcLines {
     pub lines: usize,
     pub links: usize,
 }
 
-/// Reads bytes that are whole arc lines of a graph of this size, each in its usual form and lawful, and writes their links
-/// to the front of `room`. `None` says that the bytes aren't such, or have more links than `room`. The time is linear in
-/// the bytes.
+/// Reads whole arc lines of a graph of this size, if each line is valid and in its usual form, and writes their edges
+/// to the front of `room`. Returns `None` if the bytes are anything else, or have more edges than fit into `room`. The
+/// time is linear in the number of bytes.
 pub(crate) fn read_arc_lines(size: ProblemSize, bytes: &[u8], room: &mut [Link]) -> Option<ArcLines>
     ensures { FillsOrNot size.vertices bytes.now result room.old room.new }
 {
@@ -34,7 +34,7 @@ pub(crate) fn read_arc_lines(size: ProblemSize, bytes: &[u8], room: &mut [Link])
     Some(found)
 }
 
-// The link of the arc line that the bytes begin with, or that it is a loop; and the bytes behind the line.
+// Returns the edge of the arc line that the bytes begin with (none if it is a loop), and the bytes after the line.
 #[inline(always)]
 fn first_arc(size: ProblemSize, bytes: &[u8]) -> Option<(Option<Link>, &[u8])>
     ensures { IfSome result (λ first. BeginsWithArc size.vertices bytes.now first.0 first.1.now) }
@@ -49,7 +49,7 @@ fn first_arc(size: ProblemSize, bytes: &[u8]) -> Option<(Option<Link>, &[u8])>
     }
 }
 
-// Writes the link of an arc, if it has one, to a place, and answers the next place.
+// Writes an arc's edge, if it has one, at an index, and returns the next index.
 #[inline(always)]
 fn put_link(room: &mut [Link], place: usize, link: Option<Link>) -> Option<usize>
     requires { place ≤ length room.old }

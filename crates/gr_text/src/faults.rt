@@ -1,4 +1,4 @@
-//! What is wrong with a text, and what a fault is told as.
+//! What is wrong with a text, and the text of each error.
 ghost use Rattle.std.specs.Prelude.{◌≡◌, ◌≤◌, ◌++◌, length, codes, decimal};
 ghost use Rattle.arrayvec.specs.ArrayString.{array_string_len};
 ghost use Rattle.gr_text.specs.FaultText.{kind_text, line_text, read_text};
@@ -7,42 +7,42 @@ use arrayvec::ArrayString;
 use itoa::Buffer;
 use thiserror::Error;
 
-/// The room for the text of a fault, which has at most 47 bytes.
+/// The size of the buffer for an error's text, which has at most 47 bytes.
 pub const FAULT_ROOM: usize = 64;
 
-/// What is wrong with a line, or lacks behind the last one.
+/// What is wrong with a line, or what is missing after the last one.
 ///
-/// A line that has several of these faults is refused by one. On a problem line `SecondProblem` comes before
-/// `BadProblem`, and that before `TooLarge`; on an arc line the order is `NoProblemYet`, `TooManyArcs`,
+/// If a line has several of these errors, only one is reported. On a problem line `SecondProblem` comes before
+/// `BadProblem`, and `BadProblem` before `TooLarge`. On an arc line the order is `NoProblemYet`, `TooManyArcs`,
 /// `BadArc`, `EndOutOfRange`, `WeightOutOfRange`.
 #[derive(Clone, Copy, Debug, PartialEq, Eq)]
 pub enum GrKind {
     /// The first field is neither `p` nor `a`, and doesn't begin with `c`.
     UnknownLine,
-    /// An arc line before the problem line.
+    /// An arc line comes before the problem line.
     NoProblemYet,
-    /// A problem line after one.
+    /// A problem line comes after another one.
     SecondProblem,
     /// A problem line that isn't `p sp n m` with two numbers in digits.
     BadProblem,
-    /// More than 2^26 vertices or 2^30 arc lines are stated.
+    /// The problem line states more than 2^26 vertices or 2^30 arc lines.
     TooLarge,
-    /// An arc line that isn't `a u v w` with two numbers in digits, and one more, which may have a minus.
+    /// An arc line that isn't `a u v w` with two numbers in digits, and a third that may have a minus sign.
     BadArc,
-    /// An end of an arc isn't a vertex: 1 up to the number stated.
+    /// An endpoint of an arc isn't a vertex, that is, a number from 1 to the stated number of vertices.
     EndOutOfRange,
-    /// A weight below -2^63 or above 2^63 - 1.
+    /// The weight is below -2^63 or above 2^63 - 1.
     WeightOutOfRange,
-    /// An arc line after as many as were stated.
+    /// There are more arc lines than the problem line stated.
     TooManyArcs,
-    /// The text ended without a problem line. Its line is the one after the last.
+    /// The text ended without a problem line. The line number is one past the last line.
     MissingProblem,
-    /// The text ended with fewer arc lines than were stated. Its line is the one after the last.
+    /// The text ended with fewer arc lines than were stated. The line number is one past the last line.
     MissingArcs,
 }
 
 impl GrKind {
-    /// Its name, by which each text tells of it.
+    /// The name that stands for it in the text of each error.
     pub fn name(self) -> &'static str
         ensures text { result.now ≡ kind_text self }
         ensures short { length result.now ≤ 20 }
@@ -63,18 +63,17 @@ impl GrKind {
     }
 }
 
-/// The first fault of a text: that of its first faulty line.
+/// The first error of a text, which is that of its first invalid line.
 #[derive(Clone, Copy, Debug, PartialEq, Eq, Error)]
 #[error("{}", self.text())]
 pub struct GrFault {
-    /// The number of the line, from 1.
+    /// The number of the line, counted from 1.
     pub line: u64,
     /// What is wrong with it.
     pub kind: GrKind,
 }
 
 impl GrFault {
-    // The text that it is shown as.
     fn text(&self) -> ArrayString<FAULT_ROOM>
         ensures { result.bytes ≡ line_text self.now }
     {
@@ -85,7 +84,6 @@ impl GrFault {
     }
 }
 
-// The number of a line.
 fn numbered(line: u64) -> ArrayString<FAULT_ROOM>
     ensures text { result.bytes ≡ codes "line " ++ decimal line }
     ensures short { array_string_len result ≤ 25 }
@@ -101,19 +99,19 @@ fn numbered(line: u64) -> ArrayString<FAULT_ROOM>
 #[derive(Clone, Copy, Debug, PartialEq, Eq, Error)]
 #[error("{}", self.text())]
 pub enum ReadFault {
-    /// The text has a fault.
+    /// The text isn't valid.
     Gr(GrFault),
-    /// A read of the source failed. `line` is that of the next byte; no line that had ended was faulty.
+    /// A read of the source failed. `line` is the line of the next byte; every line that had ended before was valid.
     Source { line: u64 },
-    /// The text has more bytes than the limit, and no line that ended within it is faulty.
+    /// The text has more bytes than the limit, and every line that ended within the limit is valid.
     TooLong,
-    /// The memory for the links was refused.
+    /// There was no memory for the edges.
     Memory,
 }
 
 impl ReadFault {
-    /// The text that it is shown as, put together on the stack: the number of the line and the name of what is wrong with
-    /// it, or why the rest wasn't read.
+    /// The text of the error: the line number and the name of what is wrong with it, or why the rest wasn't read. It is
+    /// built on the stack.
     pub fn text(&self) -> ArrayString<FAULT_ROOM>
         ensures { result.bytes ≡ read_text self.now }
     {

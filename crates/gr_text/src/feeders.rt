@@ -1,4 +1,4 @@
-//! Who feeds a reader with pieces: one thread, or several.
+//! Feeds a reader with pieces, by one thread or by several.
 ghost use denote.Param.Send.{IsSync};
 ghost use Rattle.gr_text.specs.Reader.{IsFed};
 
@@ -11,7 +11,7 @@ use std::thread::Threads;
 
 /// Feeds a reader with a piece, as [`GrReader::feed`] does.
 pub(crate) trait Feed<A: Allocator> {
-    // What a call rests on: that the threads may share what starts them.
+    // What a call depends on: for threads, that they may share the runtime that starts them.
     ghost ready: { Type 0 } = { Unit {0} };
 
     fn feed(&mut self, reader: &mut GrReader<A>, piece: &[u8]) -> Result<(), ReadFault>
@@ -19,7 +19,7 @@ pub(crate) trait Feed<A: Allocator> {
         ensures { IsFed result piece.now reader.old reader.new };
 }
 
-/// One thread feeds.
+/// Feeds with one thread.
 #[derive(Clone, Copy)]
 pub(crate) struct WholePieces;
 
@@ -29,7 +29,7 @@ impl<A: Allocator> Feed<A> for WholePieces {
     }
 }
 
-/// At most so many threads feed, with room for the links of a piece.
+/// Feeds with at most this many threads, and has a buffer for the edges of a piece.
 #[derive(Drop)]
 pub(crate) struct SharedPieces<'a, R, A: Allocator> {
     pub rt: &'a R,
@@ -51,8 +51,8 @@ impl<'a, R: Threads + Sync, A: Allocator> Feed<A> for SharedPieces<'a, R, A> {
     }
 }
 
-// The first line of a piece may be the rest of one, and behind the last line feed may be a part of one. What is between
-// goes by threads.
+// The first line of a piece may be the rest of a line, and after the last line feed may be the start of one. Threads
+// read what is between.
 fn feed_par<R: Threads + Sync, A: Allocator>(
     rt: &R,
     threads: usize,

@@ -6,10 +6,10 @@ use links::Link;
 use std::alloc::{Allocator, Global};
 use std::marker::Model;
 
-/// The graph of a text: its number of vertices, and a link for each arc line that is no loop.
+/// The graph that a text describes: its number of vertices, and an edge for each arc line that isn't a loop.
 ///
-/// Vertices are numbered from 1. The links are those of the arcs with their direction forgotten; an arc
-/// that is given both ways gives two links. It takes 16 bytes a link, beside what its list has spare.
+/// Vertices are numbered from 1. Each edge is an arc without its direction, so an arc that is given in both directions
+/// gives two edges. The graph takes 16 bytes per edge, and its list may have spare capacity.
 #[derive(Drop)]
 pub struct Graph<A: Allocator = Global> {
     vertices: u32,
@@ -40,7 +40,7 @@ impl<A: Allocator> Graph<A> {
         Graph { vertices, links }
     }
 
-    /// The number of vertices, whether a link has them or not. In constant time.
+    /// The number of vertices, including those without an edge. Takes constant time.
     pub fn n(&self) -> u32
         ensures vertices { result ≡ self.now.vertices }
         ensures few { result ≤ MAX_VERTICES }
@@ -48,7 +48,7 @@ impl<A: Allocator> Graph<A> {
         self.vertices
     }
 
-    /// The links in the order of the file: repeats are kept, loops left out. In constant time.
+    /// The edges in the order of the file, with repeats and without loops. Takes constant time.
     pub fn links(&self) -> &[Link]
         ensures links { result.now ≡ self.now.links }
         ensures ends { EndsUpTo self.now.vertices self.now.links }
@@ -57,7 +57,7 @@ impl<A: Allocator> Graph<A> {
         self.links.as_slice()
     }
 
-    /// The links, as [`Graph::links`] gives them, for who wants to own the list. In constant time; nothing is copied.
+    /// The edges that [`Graph::links`] returns, as an owned list. Takes constant time; nothing is copied.
     pub fn into_links(self) -> Vec<Link, A>
         ensures links { result.items ≡ self.links }
         ensures ends { EndsUpTo self.vertices self.links }

@@ -1,4 +1,4 @@
-//! Who keeps the links that a reader has read: all of them, or fewer that stand for them.
+//! Decides which of the edges that a reader has read are kept: all of them, or fewer that cover them.
 ghost use Rattle.std.specs.Prelude.{◌≡◌, ◌≤◌, ◌+◌, ℕ, List, length, OnOk};
 ghost use Rattle.limits.specs.declared.TheConstants.{MAX_ARCS, MAX_VERTICES};
 ghost use Rattle.links.specs.Covers.{IsCoveredBy};
@@ -9,22 +9,23 @@ ghost use Rattle.gr_text.specs.Kept.{BeginsSo};
 use links::Link;
 use std::alloc::{AllocError, Allocator};
 
-/// Looks at the links while a source is read, and may replace them by fewer that cover them, as their forest does.
+/// Looks at the edges while a source is read, and may replace them by fewer that cover them, as their forest does.
 pub trait Keep<A: Allocator> {
-    // What a call rests on.
+    // What a call depends on.
     ghost ready: { Type 0 } = { Unit {0} };
 
-    // Whether links may be dropped.
+    // Whether edges may be dropped.
     ghost drops: { Type 0 };
 
-    // How many links were dropped.
+    // How many edges were dropped.
     ghost dropped: { Self → ℕ };
 
-    // What is known of the links that were kept last: more may have come behind them since.
+    // What is known about the edges that were kept last. More edges may have been appended since.
     ghost knows: { Self → List Link → Type 0 } = { λ _ _. Unit {0} };
 
-    /// Is asked after each read, which may have given few bytes, so a call that does nothing has to be cheap. `links` are
-    /// those kept so far of a graph of so many vertices and stated arc lines. If it fails, they may be any, and aren't used.
+    /// Called after each read. A read may have given few bytes, so a call that does nothing has to be cheap. `links`
+    /// are the edges kept so far, of a graph with this many vertices and stated arc lines. If the call fails, their
+    /// contents are arbitrary and the reader doesn't use them.
     fn keep(&mut self, vertices: u32, arcs: u32, links: &mut Vec<Link, A>) -> Result<(), AllocError>
         requires ready { ready }
         requires few_vertices { vertices ≤ MAX_VERTICES }
@@ -39,7 +40,7 @@ pub trait Keep<A: Allocator> {
         ensures known { OnOk result (BeginsSo (knows self.new) links.new.items) };
 }
 
-/// Keeps all links.
+/// Keeps all edges.
 #[derive(Clone, Copy, Debug, PartialEq, Eq)]
 pub struct KeepAll;
 

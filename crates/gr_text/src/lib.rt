@@ -1,30 +1,32 @@
-//! The `.gr` text of the 9th DIMACS Implementation Challenge, read as an undirected graph, and the text of a forest. A
-//! reader is fed with pieces of any lengths, and keeps no text.
+//! Reads the `.gr` text of the 9th DIMACS Implementation Challenge as an undirected graph, and writes the text of a
+//! forest. A reader is fed pieces of any lengths and doesn't store the text. In the code an edge is a `Link`.
 //!
 //! ```text
 //! source --sourced--> pieces --reader--> bytes --partial_line/words or usual_line--> lines
 //! lines --verdicts/lines_so_far--> graph
-//! links --keep, after each piece--> fewer links that stand for them
-//! pieces --feeders--> whole arc lines --parallel, by threads--> parts --arc_lines--> links
+//! edges --keep, after each piece--> fewer edges that cover them
+//! pieces --feeders--> whole arc lines --parallel, by threads--> parts --arc_lines--> edges
 //! forest --spelled--> lines --writer--> 8 KiB --> sink
 //! forest --spelled, by threads--> lines --parallel_writer--> parts of 8,192 lines --> sink
 //! ```
 //!
 //! What it promises:
-//! - A text, a source or pieces give a graph exactly where they mean one; else the fault of the first faulty line, with
-//!   its number and its kind ([`GrFault`]).
-//! - While a source is read, a keeper may replace the links by fewer that cover them ([`Keep`]). What is read is else the
-//!   same.
-//! - The text of a forest goes out byte for byte, or the fault counts how many of its bytes did.
-//!   So it does by several threads.
-//! - A text means one graph or has one first fault, and never both; a forest's text means just its links ([`laws`]).
+//! - If a text is valid, reading it returns the graph that it describes, whether it comes as a text, a source or
+//!   pieces. If it is invalid, the error names the first invalid line and what is wrong with it ([`GrFault`]). A failed
+//!   read, too long a text and out of memory have errors of their own ([`ReadFault`]).
+//! - While a source is read, a keeper may replace the edges by fewer that cover them ([`Keep`]). Nothing else changes.
+//! - The text of a forest is written byte for byte, or the error counts how many of its bytes were. This also holds if
+//!   several threads write it.
+//! - A text describes one graph or has one first error, and never both. The text of a forest describes exactly its
+//!   edges ([`laws`]).
 //!
-//! Where to start a change: what a line may say, `specs/Statement`, then `words`; what is wrong with a line, and which
-//! fault comes first, `specs/Fault`, then `verdicts`; the limits of vertices, arc lines, bytes and weights, the crate
-//! `limits`, and for wider numbers `cap` in `specs/Word`, then `words` and `verdicts`. A byte goes into a `Word` (the
-//! field that is coming), a field into `LineFields` (those of its line), a line into `LinesSoFar` (what the whole lines
-//! say); an arc line in its usual form that lies whole in a piece is read at once, by `usual_line`. Threads share such
-//! lines alone (`feeders`); all else is read in the order of the text.
+//! To change what a line may contain, start with `specs/Statement`, then `words`. To change what is wrong with a line,
+//! or which error comes first, start with `specs/Fault`, then `verdicts`. The limits of vertices, arc lines, bytes and
+//! weights are in the crate `limits`; wider numbers also need `cap` in `specs/Word`, then `words` and `verdicts`.
+//!
+//! A byte goes into a `Word` (the current field), a field into `LineFields` (the fields of its line), and a line into
+//! `LinesSoFar` (what the whole lines describe). If an arc line in its usual form lies whole in a piece, `usual_line`
+//! reads it at once. Threads share only such lines (`feeders`); everything else is read in the order of the text.
 #![tactic(auto)]
 
 mod arc_lines;
@@ -47,7 +49,7 @@ mod verdicts;
 mod words;
 mod writer;
 
-/// Streams over memory that fail at a chosen byte, for tests of what reads a graph or writes a forest.
+/// Streams in memory that fail at a chosen byte, for tests of code that reads a graph or writes a forest.
 pub use byte_streams::{FusedSink, FusedSource};
 pub use faults::{FAULT_ROOM, GrFault, GrKind, ReadFault};
 pub use graphs::Graph;

@@ -14,14 +14,14 @@ use std::alloc::{AllocError, Allocator};
 use std::marker::Model;
 use std::thread::Threads;
 
-/// What the whole lines so far say.
+/// What the whole lines so far describe.
 #[derive(Drop)]
 pub(crate) struct LinesSoFar<A: Allocator> {
-    /// What their problem line states, once it has come.
+    /// What the problem line states, after it has come.
     size: Option<ProblemSize>,
-    /// How many arc lines have come.
+    /// The number of arc lines so far.
     count: u32,
-    /// The links of these, in order; loops have none.
+    /// The edges of the arc lines, in order. A loop has none.
     links: Vec<Link, A>,
 }
 
@@ -36,7 +36,7 @@ impl<A: Allocator> Model for LinesSoFar<A> {
 }
 
 impl<A: Allocator> LinesSoFar<A> {
-    /// What no lines say.
+    /// The state before any line.
     pub(crate) fn new(alloc: A) -> LinesSoFar<A>
         ensures { KeepsLinesBut no_swap result [] }
     {
@@ -47,8 +47,8 @@ impl<A: Allocator> LinesSoFar<A> {
         }
     }
 
-    /// Takes one more line, of this number. It fails with the fault of the line, or with `Memory` where its
-    /// link finds none; nothing is read behind it.
+    /// Takes one more line, which has this number. Returns the line's error, or `Memory` if there is no memory for its
+    /// edge. After an error nothing more is read.
     #[inline(always)]
     pub(crate) fn take_line(&mut self, number: u64, line: LineFields) -> Result<(), ReadFault>
         ensures { TakesLine result number line self.old self.new }
@@ -64,7 +64,8 @@ impl<A: Allocator> LinesSoFar<A> {
         }
     }
 
-    /// The graph of the lines so far, where nothing lacks. `number` is that of the line after them.
+    /// Returns the graph of the lines so far, or an error if something is missing. `number` is the number of the line
+    /// after them.
     pub(crate) fn graph(self, number: u64) -> Result<Graph<A>, ReadFault>
         ensures { GivesGraph result number self }
     {
@@ -86,8 +87,9 @@ impl<A: Allocator> LinesSoFar<A> {
         }
     }
 
-    /// Takes bytes that are arc lines in their usual form, and nothing else, by threads. It answers how many lines they are.
-    /// Where they aren't such, a line has a fault, or memory or `room` for their links lacks, nothing is taken.
+    /// Reads bytes that are only arc lines in their usual form, using threads, and returns how many lines they have. It
+    /// takes nothing and returns `None` if the bytes are anything else, a line is invalid, or there is too little
+    /// memory or `room` for their edges.
     pub(crate) fn take_arcs<R: Threads + Sync>(
         &mut self,
         rt: &R,
@@ -112,7 +114,7 @@ impl<A: Allocator> LinesSoFar<A> {
         }
     }
 
-    /// Has a keeper look at the links, once the problem line has come. Where it fails, no links are left.
+    /// Lets a keeper look at the edges, if the problem line has come. If the keeper fails, no edges are left.
     pub(crate) fn keep<K: Keep<A>>(&mut self, keeper: &mut K) -> Result<(), AllocError>
         requires ready { K.ready }
         requires few { K.dropped keeper.old + length self.old.links ≤ self.old.count }
@@ -131,7 +133,7 @@ impl<A: Allocator> LinesSoFar<A> {
         }
     }
 
-    // Adds an arc of this link, or a loop.
+    // Adds an arc that gives this edge, or a loop if there is none.
     #[inline(always)]
     fn add(&mut self, link: Option<Link>) -> Result<(), ReadFault>
         requires { FitsAfter (Verdict.Adds link) self.old.size self.old.count }

@@ -1,4 +1,4 @@
-//! Arc lines read by threads, each over a part of the bytes and a part of the room for their links.
+//! Reads arc lines with threads. Each thread reads a part of the bytes into a part of the buffer for their edges.
 ghost use Rattle.std.specs.Prelude.{◌≤◌, length};
 ghost use denote.Param.Send.{IsSync};
 ghost use Rattle.gr_text.specs.ArcLines.{AppendsOrNot, FillsOrNot};
@@ -9,16 +9,18 @@ use links::Link;
 use std::alloc::Allocator;
 use std::thread::{Threads, join_mut};
 
-// So few bytes are worth no thread of their own.
+// A thread's part has at least this many bytes.
 const FEW_BYTES: usize = 1 << 16;
 
-/// The least number of bytes of an arc line in its usual form, `a 1 2 3` and the line feed.
+/// The fewest bytes of an arc line in its usual form: `a 1 2 3` and the line feed.
 pub(crate) const LEAST_LINE: usize = 8;
 
-/// Reads bytes that are whole arc lines of a graph of this size, each in its usual form and lawful, by at most so many
-/// threads, and appends their links to a list. Each thread has a part of the bytes and of the room: one that it makes 64 KiB
-/// or more, the caller's half as much, since it appends what all found. It answers how many lines the bytes are. `None`
-/// says that the bytes aren't such, or that room or memory for their links lacks; some links may have been appended then.
+/// Reads whole arc lines of a graph of this size, if each line is valid and in its usual form, with at most this many
+/// threads. Appends their edges to a list and returns the number of lines.
+///
+/// Each thread has a part of the bytes and of the buffer. A new thread gets at least 64 KiB; the caller's gets half as
+/// much as another, since it also appends the edges that all threads found. Returns `None` if the bytes are anything
+/// else, or if there is too little memory or `room` for their edges. Some edges may have been appended then.
 #[cycle(parts)]
 pub(crate) fn append_arc_lines<R: Threads + Sync, A: Allocator>(
     rt: &R,
@@ -55,7 +57,7 @@ pub(crate) fn append_arc_lines<R: Threads + Sync, A: Allocator>(
     Some(count + found.lines)
 }
 
-// The same by the caller's thread alone.
+// Does the same with only the caller's thread.
 fn append_by_one<A: Allocator>(
     size: ProblemSize,
     bytes: &[u8],
@@ -71,7 +73,7 @@ fn append_by_one<A: Allocator>(
     Some(found.lines)
 }
 
-/// The place behind the first line feed from a place on, or behind all bytes.
+/// The index after the first line feed from an index on, or the length if there is none.
 pub(crate) fn line_end(bytes: &[u8], from: usize) -> usize
     requires { from ≤ length bytes.now }
     ensures { result ≤ length bytes.now }
@@ -82,7 +84,7 @@ pub(crate) fn line_end(bytes: &[u8], from: usize) -> usize
     }
 }
 
-/// The place behind the last line feed, or before all bytes.
+/// The index after the last line feed, or 0 if there is none.
 pub(crate) fn last_line_end(bytes: &[u8]) -> usize
     ensures { result ≤ length bytes.now }
 {

@@ -1,4 +1,5 @@
-//! The writer of a forest's text by several threads: they spell parts of its lines, and the caller's thread writes them.
+//! Writes a forest's text with several threads. They spell parts of its lines, and the caller's thread writes these
+//! parts.
 ghost use Rattle.std.specs.Prelude.{◌≡◌, ◌*◌, ◌≤◌, ◌<◌, IfOk, length};
 ghost use Rattle.std.specs.List.{flat_map, AllByRecursion};
 ghost use denote.Param.Send.{IsSync};
@@ -14,13 +15,13 @@ use links::{Forest, Link};
 use std::alloc::{AllocError, Allocator};
 use std::thread::{Threads, join_mut};
 
-// How many links have their lines in one part, at the most.
+// The most edges whose lines are in one part.
 const PART_LINKS: usize = 8192;
 
-// The room for a part.
+// The size of a part's buffer.
 const PART_ROOM: usize = PART_LINKS * SPELLED_ROOM;
 
-// Puts the lines of these links into a part's room, and answers how many bytes they are.
+// Puts the lines of these edges into a part's buffer and stores their number of bytes in `bytes`.
 fn spell_part(links: &[Link], room: &mut [u8], bytes: &mut usize)
     requires few { length links.now ≤ PART_LINKS }
     requires room { length room.old ≡ PART_ROOM }
@@ -29,8 +30,8 @@ fn spell_part(links: &[Link], room: &mut [u8], bytes: &mut usize)
     *bytes = spell_lines(links, room).bytes;
 }
 
-// Puts the lines of these links into parts, one behind the other, each by a thread of its own if one can be made, the last
-// by this one; and how many bytes each part has.
+// Puts the lines of these edges into consecutive parts and stores how many bytes each part has. Each part gets a thread
+// of its own if one can be started; the caller's thread spells the last part.
 #[cycle(parts)]
 fn spell_parts<R: Threads + Sync>(rt: &R, links: &[Link], room: &mut [u8], bytes: &mut [usize])
     requires few { length links.now ≤ length bytes.old * PART_LINKS }
@@ -58,7 +59,7 @@ fn spell_parts<R: Threads + Sync>(rt: &R, links: &[Link], room: &mut [u8], bytes
     join_mut(rt, &mut spell_one, &mut spell_others);
 }
 
-// Hands the text of the parts to the sink, as the next part of a text of which `written` bytes went out before.
+// Writes the text of the parts to the sink. `written` bytes of the whole text were written before.
 fn hand_parts<W: Sink>(
     sink: &mut W,
     written: u64,
@@ -80,7 +81,7 @@ fn hand_parts<W: Sink>(
     hand_parts(sink, total, others, of_others)
 }
 
-// Threads spell parts.
+// Spells parts with threads.
 #[derive(Drop)]
 struct Parts<'a, R, A: Allocator> {
     rt: &'a R,
@@ -106,7 +107,7 @@ impl<'a, R: Threads + Sync, A: Allocator> PutLines for Parts<'a, R, A> {
     }
 }
 
-// Room for so many parts.
+// Allocates the buffer for this many parts.
 fn room_for_parts<R: Threads + Sync, A: Allocator + Copy>(
     rt: &R,
     alloc: A,
@@ -122,11 +123,11 @@ fn room_for_parts<R: Threads + Sync, A: Allocator + Copy>(
     Ok(Parts { rt, room, bytes })
 }
 
-/// Writes the text of a forest of `n` vertices by up to so many threads, as [`write_forest`] does by one.
+/// Writes the text of a forest of `n` vertices with up to this many threads, as [`write_forest`] does with one.
 ///
-/// The threads spell the lines of 8,192 links each, at a time, and then the caller's thread writes them in their order.
-/// Each thread takes 512 KiB on the heap. A forest of fewer than 16,384 links is written by one thread, and so is any forest
-/// if the memory is refused. Behind the first line the sink is called about once for the lines of 8,192 links.
+/// Each thread spells the lines of 8,192 edges at a time, and then the caller's thread writes them in order. Each
+/// thread takes 512 KiB on the heap. One thread writes the forest if it has fewer than 16,384 edges or if the memory
+/// can't be allocated. After the first line the sink is called about once per 8,192 edges.
 pub fn write_forest_par<R: Threads + Sync, W: Sink, A: Allocator + Copy>(
     rt: &R,
     threads: usize,
@@ -137,7 +138,7 @@ pub fn write_forest_par<R: Threads + Sync, W: Sink, A: Allocator + Copy>(
 ) -> Result<u64, WriteFault>
     requires { W.can_write sink.old }
 
-    // The sink has taken exactly the whole text, or at a fault as many of its first bytes as the fault counts.
+    // The sink has taken the whole text, or on an error exactly as many of its first bytes as the error counts.
     ensures { WritesText (forest_text n forest.now) result (W.state sink.old) (W.state sink.new)
         (W.unflushed sink.new) (W.can_write sink.new) }
 {

@@ -6,11 +6,12 @@ use crate::reader::GrReader;
 use limits::MAX_BYTES;
 use std::alloc::Allocator;
 
-/// The graph that a text means.
+/// Returns the graph that a text describes.
 ///
-/// Else the first fault of the text with its line, or `Memory` where the allocator refused the links;
-/// never `Source`. `TooLong` comes past [`MAX_BYTES`]. The time is linear in the bytes. The links take 16 bytes each, in a
-/// list that doubles as it grows: at most 48 a link while it moves, and 32 once it has.
+/// Otherwise returns the first error of the text with its line, or `Memory` if the allocator had no memory for the
+/// edges. It returns `TooLong` for more than [`MAX_BYTES`] bytes, and never `Source`. The time is linear in the number
+/// of bytes. The edges take 16 bytes each, in a list whose capacity doubles as it grows: at most 48 bytes per edge
+/// while the list moves, and 32 after that.
 pub fn parse<A: Allocator>(alloc: A, bytes: &[u8]) -> Result<Graph<A>, ReadFault>
     ensures { IsRead MAX_BYTES bytes.now result }
 {

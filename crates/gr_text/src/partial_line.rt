@@ -5,20 +5,19 @@ ghost use Rattle.gr_text.specs.Word.{LineMeans, WordMeans};
 use crate::usual_line::usual_arc;
 use crate::words::{LineFields, Word};
 
-/// What is kept of a line of which a part has come: its whole fields, the field that is coming, and whether
-/// any byte has come, since a text may end with a line that has none.
+/// What is stored of a line that has come in part: its whole fields, the current field, and whether any byte has come.
+/// The last matters because a text may end with a line that has no bytes.
 #[derive(Clone, Copy)]
 pub(crate) struct PartialLine {
-    /// The whole fields.
     pub on: LineFields,
-    /// The field that is coming; empty behind a blank.
+    /// The current field; empty after a blank.
     pub word: Word,
-    /// Whether a byte has come, a blank too.
+    /// Whether a byte has come, even a blank.
     pub begun: bool,
 }
 
 impl LineFields {
-    // With the last field, if one has begun.
+    // Adds the last field, if one has begun.
     #[inline]
     fn closed(self, word: Word) -> LineFields
         ensures { (fields : List (List ℕ)) (last : List ℕ) → LineMeans self fields → WordMeans word last
@@ -33,7 +32,7 @@ impl LineFields {
 }
 
 impl PartialLine {
-    /// No byte has come.
+    /// The state before any byte.
     #[inline]
     pub(crate) fn new() -> PartialLine
         ensures { IsKeptAs result [] }
@@ -45,9 +44,9 @@ impl PartialLine {
         }
     }
 
-    /// Takes the bytes up to the next line feed. It answers the whole line and the bytes behind its line feed, of which
-    /// nothing is kept then; where no line ends among the bytes, it keeps them all. A usual arc line is read at once,
-    /// any other byte by byte; a byte takes constant time.
+    /// Takes the bytes up to the next line feed. It returns the whole line and the bytes after its line feed, and
+    /// nothing of the line stays stored. If no line ends among the bytes, it stores them all and returns `None`. A
+    /// usual arc line is read at once, any other line byte by byte, in constant time per byte.
     #[inline(always)]
     pub(crate) fn next_line<'a>(&mut self, bytes: &'a [u8]) -> Option<(LineFields, &'a [u8])>
         ensures shorter { IfSome result (λ next. length next.1.now < length bytes.now) }
@@ -63,14 +62,14 @@ impl PartialLine {
         self.next_by_bytes(bytes)
     }
 
-    // The same, byte by byte.
+    // Does the same byte by byte.
     fn next_by_bytes<'a>(&mut self, bytes: &'a [u8]) -> Option<(LineFields, &'a [u8])>
         ensures shorter { IfSome result (λ next. length next.1.now < length bytes.now) }
         ensures ends { (part : List ℕ) → IsKeptAs self.old part
             → IfSome result (λ next. EndsLine self.new next.0 part bytes.now next.1.now) }
         ensures goes_on { (part : List ℕ) → IsKeptAs self.old part → IfNone result (GoesOn self.new part bytes.now) }
     {
-        // In a local, so that it stays in registers: nearly every byte changes it.
+        // A local copy stays in registers; nearly every byte changes it.
         let mut partial = *self;
         for (place, &byte) in bytes.iter().enumerate() {
             if byte == b'\n' {
@@ -83,7 +82,6 @@ impl PartialLine {
         None
     }
 
-    // With one more byte of the line.
     #[inline]
     fn with(self, byte: u8) -> PartialLine
         ensures { (part : List ℕ) → IsKeptAs self part → IsKeptAs result (part ++ byte ∷ []) }
@@ -99,7 +97,7 @@ impl PartialLine {
         }
     }
 
-    /// The whole line, where no more bytes come.
+    /// The whole line, if no more bytes come.
     #[inline]
     pub(crate) fn whole(self) -> LineFields
         ensures { (part : List ℕ) → IsKeptAs self part → IsWhole result part }

@@ -15,20 +15,20 @@ use std::alloc::{AllocError, Allocator, Global};
 use std::marker::Model;
 use std::thread::Threads;
 
-/// A reader of a `.gr` text that is fed in pieces, of any lengths.
+/// A reader of a `.gr` text that is fed pieces of any lengths.
 ///
-/// Where the text is cut makes no difference. The reader keeps no text: of the line that is coming it
-/// keeps a few words, whatever its length, and else only the links. Once it has a fault, each later
-/// call answers that fault.
+/// It makes no difference where the text is split. The reader doesn't store the text: it stores the edges, and of the
+/// current line only a few machine words, however long the line is. After an error, every later call returns the same
+/// error.
 #[derive(Drop)]
 pub struct GrReader<A: Allocator = Global> {
     limit: u64,
     fed: u64,
-    /// The number of the line that is coming.
+    /// The number of the current line.
     number: u64,
-    /// The part of it that has come.
+    /// The part of the current line that has come.
     partial: PartialLine,
-    /// What the lines before it say.
+    /// What the lines before it describe.
     so_far: LinesSoFar<A>,
     fault: Option<ReadFault>,
 }
@@ -53,7 +53,7 @@ impl<A: Allocator> Model for GrReader<A> {
 }
 
 impl<A: Allocator> GrReader<A> {
-    /// A reader that was fed nothing, and that takes at most `limit` bytes. It takes no memory yet.
+    /// Creates a reader that has been fed nothing and that takes at most `limit` bytes. It allocates nothing yet.
     pub fn new(alloc: A, limit: u64) -> GrReader<A>
         requires { limit ≤ MAX_BYTES }
         ensures limit { result.limit ≡ limit }
@@ -73,9 +73,9 @@ impl<A: Allocator> GrReader<A> {
 
     /// Takes the next piece of the text.
     ///
-    /// It fails with `Gr` where a line that has ended among the first `limit` bytes is faulty, else with
-    /// `TooLong` where more than `limit` bytes were fed, or with `Memory` where the allocator refused a
-    /// link. A line that hasn't ended yet isn't judged. The time is linear in the piece.
+    /// Returns `Gr` if a line that has ended among the first `limit` bytes is invalid. Otherwise it returns `TooLong`
+    /// if more than `limit` bytes were fed, or `Memory` if there was no memory for an edge. A line that hasn't ended
+    /// yet isn't checked. The time is linear in the length of the piece.
     pub fn feed(&mut self, piece: &[u8]) -> Result<(), ReadFault>
         ensures limit { self.new.limit ≡ self.old.limit }
         ensures within { self.new.fed ≤ self.new.limit }
@@ -101,8 +101,8 @@ impl<A: Allocator> GrReader<A> {
         Ok(())
     }
 
-    /// The number of the line that the next byte belongs to: 1 plus the number of line feeds among the
-    /// bytes fed, until a fault. In constant time.
+    /// The number of the line that the next byte belongs to: 1 plus the number of line feeds among the bytes fed before
+    /// any error. Takes constant time.
     pub fn line(&self) -> u64
         ensures line { (text : List ℕ) → HasRead self.now text → self.now.fault ≡ None → result ≡ line_after text }
         ensures line_but { (swap : Swap) (text : List ℕ) → HasReadBut swap self.now text → self.now.fault ≡ None → result ≡ line_after text }
@@ -110,10 +110,10 @@ impl<A: Allocator> GrReader<A> {
         self.number
     }
 
-    /// Ends the text: judges its last line, where it lacks its line feed, and then what lacks.
+    /// Ends the text. It checks the last line, if that lacks its line feed, and then whether anything is missing.
     ///
-    /// It fails with the fault that the reader has, or else with the first fault of the whole text. The
-    /// links aren't copied.
+    /// Returns the error that the reader already has, or else the first error of the whole text. The edges aren't
+    /// copied.
     pub fn finish(self) -> Result<Graph<A>, ReadFault>
         ensures outcome { (text : List ℕ) → HasRead self text → IsRead self.limit text result }
         ensures outcome_but { (swap : Swap) (text : List ℕ) → HasReadBut swap self text → IsReadBut swap self.limit text result }
@@ -139,8 +139,9 @@ impl<A: Allocator> GrReader<A> {
         so_far.graph(number + 1)
     }
 
-    /// Takes the next piece by threads, if it is whole arc lines in their usual form, and no line has a fault. Else, and
-    /// where memory or `room` for their links lacks, nothing is taken.
+    /// Reads the next piece with threads, if it consists of whole arc lines in their usual form and every line is
+    /// valid. Otherwise, or if there is too little memory or `room` for their edges, it takes nothing and returns
+    /// false.
     pub(crate) fn take_arcs<R: Threads + Sync>(
         &mut self,
         rt: &R,
@@ -163,7 +164,7 @@ impl<A: Allocator> GrReader<A> {
         true
     }
 
-    /// Has a keeper look at the links, once the problem line has come. Where it fails, the reader isn't to be read on.
+    /// Lets a keeper look at the edges, if the problem line has come. After a failure the reader must not be used.
     pub(crate) fn keep<K: Keep<A>>(&mut self, keeper: &mut K) -> Result<(), AllocError>
         requires keeps { IsKeeping K.Keep keeper.old self.old }
         ensures limit { self.new.limit ≡ self.old.limit }
@@ -174,9 +175,9 @@ impl<A: Allocator> GrReader<A> {
         self.so_far.keep(keeper)
     }
 
-    // Reads a piece that the limit has room for. It fails at the first line that ends in it and is faulty, or at an
-    // arc whose link finds no memory; then it isn't to be read on. Each byte takes constant time, and one that goes on
-    // with a number only a few instructions.
+    // Reads a piece that is within the limit. Returns the error of the first invalid line that ends in the piece, or
+    // `Memory` for an edge without memory. After an error the reader must not be read on. Each byte takes constant
+    // time, and a digit after another only a few instructions.
     fn read(&mut self, piece: &[u8]) -> Result<(), ReadFault>
         requires { self.old.fed + length piece.now ≤ self.old.limit }
         ensures limit { self.new.limit ≡ self.old.limit }

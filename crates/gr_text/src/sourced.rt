@@ -15,19 +15,19 @@ use links::Link;
 use std::alloc::{AllocError, Allocator};
 use std::thread::Threads;
 
-// The number of bytes that one thread reads at once, into an array on the stack. Who has it is never inlined: within a caller
-// it would lie beside another's, and the stack that Linux maps at first has 132 KiB.
+// The number of bytes that one thread reads at once, into an array on the stack. A function that has this array is
+// never inlined. In a caller it would add to another such array, and Linux maps only 132 KiB of stack at first.
 const READ_ROOM: usize = 65_536;
 
-// The number of bytes that are read at once where threads share them.
+// The number of bytes read at once if threads share them.
 const PAR_READ_ROOM: usize = 1 << 20;
 
-// So many bytes of a source one thread reads before threads share the others.
+// One thread reads this many bytes of a source before threads share the others.
 const ALONE: u64 = 1 << 20;
 
-/// The graph of a source of at most 2^40 bytes.
+/// Reads a graph from a source of at most 2^40 bytes.
 ///
-/// As [`read_graph_upto`] with the limit [`MAX_BYTES`].
+/// Does what [`read_graph_upto`] does with the limit [`MAX_BYTES`].
 pub fn read_graph<S: Source, A: Allocator>(alloc: A, source: &mut S) -> Result<Graph<A>, ReadFault>
     requires { S.can_read source.old }
     ensures outcome { IsReadOf MAX_BYTES result (S.state source.old) (S.state source.new) }
@@ -35,11 +35,11 @@ pub fn read_graph<S: Source, A: Allocator>(alloc: A, source: &mut S) -> Result<G
     read_graph_upto(alloc, source, MAX_BYTES)
 }
 
-/// The graph of a source of at most `limit` bytes.
+/// Reads a graph from a source of at most `limit` bytes.
 ///
-/// The source is read to its end, up to the first fault, or until it gave more than `limit` bytes. The
-/// fault of a line that ended before a read failed comes first, then `Source`. It is read 64 KiB at a
-/// time into an array on the stack; the memory is that of the links, and the time linear in the bytes.
+/// The source is read to its end, up to the first error, or until it gave more than `limit` bytes. If a read fails, the
+/// error is `Source`, unless a line that ended before is invalid. The source is read 64 KiB at a time into an array on
+/// the stack. The memory is that of the edges, and the time is linear in the number of bytes.
 pub fn read_graph_upto<S: Source, A: Allocator>(
     alloc: A,
     source: &mut S,
@@ -52,11 +52,11 @@ pub fn read_graph_upto<S: Source, A: Allocator>(
     read_kept_upto(&mut KeepAll, alloc, source, limit)
 }
 
-/// The graph of a source of at most 2^40 bytes, with the links that a keeper keeps of all of its links.
+/// Reads a graph from a source of at most 2^40 bytes. The graph has only those edges that a keeper keeps.
 ///
-/// As [`read_graph`], but the keeper is asked after each read, once the problem line has come. If it fails, the fault is
-/// `Memory`. The keeper comes as one that knows of no links yet. The memory is that of the links kept and of those of one
-/// read, beside what the keeper takes.
+/// Does what [`read_graph`] does, and calls the keeper after each read as soon as the problem line has come. If the
+/// keeper fails, the error is `Memory`. The keeper must not know of any edges yet. The memory is that of the kept edges
+/// and of the edges of one read, in addition to the keeper's own.
 pub fn read_graph_kept<K: Keep<A>, S: Source, A: Allocator>(
     keeper: &mut K,
     alloc: A,
@@ -91,12 +91,12 @@ fn read_kept_upto<K: Keep<A>, S: Source, A: Allocator>(
     )
 }
 
-/// The graph of a source of at most 2^40 bytes, read by at most so many threads; 0 means one.
+/// Reads a graph from a source of at most 2^40 bytes with at most this many threads; 0 means one.
 ///
-/// As [`read_graph`], and so the first MiB is read. Of the others 1 MiB is read at a time, and shared where all of its
-/// lines but the first and the last are arc lines `a U V W` with single spaces, and nothing is wrong with them; any other
-/// piece, and one of less than 128 KiB, goes by one thread. From the second MiB on it takes 3 MiB more; where these are
-/// refused, one thread reads.
+/// The first MiB is read as by [`read_graph`], the rest 1 MiB at a time. Threads share such a piece if every line but
+/// the first and the last is a valid arc line `a U V W` with single spaces. One thread reads any other piece, and any
+/// piece of less than 128 KiB. From the second MiB on this takes 3 MiB more; if they can't be allocated, one thread
+/// reads everything.
 pub fn read_graph_par<R: Threads + Sync, S: Source, A: Allocator + Copy>(
     rt: &R,
     threads: usize,
@@ -109,7 +109,7 @@ pub fn read_graph_par<R: Threads + Sync, S: Source, A: Allocator + Copy>(
     read_graph_kept_par(rt, threads, &mut KeepAll, alloc, source)
 }
 
-/// As [`read_graph_par`], with a keeper that is asked after each read, as [`read_graph_kept`] does.
+/// Does what [`read_graph_par`] does, and calls a keeper after each read as [`read_graph_kept`] does.
 #[inline(never)]
 pub fn read_graph_kept_par<R: Threads + Sync, K: Keep<A>, S: Source, A: Allocator + Copy>(
     rt: &R,
@@ -155,7 +155,7 @@ pub fn read_graph_kept_par<R: Threads + Sync, K: Keep<A>, S: Source, A: Allocato
     read_rest(&mut feeder, keeper, reader, source, pieces.as_mut_slice())
 }
 
-// Reads a source to its end, from where a reader has followed it on.
+// Reads the rest of a source that a reader has followed so far.
 fn read_rest<F: Feed<A>, K: Keep<A>, S: Source, A: Allocator>(
     feeder: &mut F,
     keeper: &mut K,
@@ -176,8 +176,8 @@ fn read_rest<F: Feed<A>, K: Keep<A>, S: Source, A: Allocator>(
     }
 }
 
-// Reads a source piece by piece, each by one read of at most so many bytes as `buffer` has: to its end, or else until so
-// many bytes or more were read here. After each the keeper is asked. It answers whether it has found the end.
+// Reads a source with one read per piece, each of at most `buffer.len()` bytes, and calls the keeper after each. It
+// stops at the end of the source, or after `enough` bytes or more. Returns whether it has found the end.
 fn read_pieces<F: Feed<A>, K: Keep<A>, S: Source, A: Allocator>(
     feeder: &mut F,
     keeper: &mut K,

@@ -1,5 +1,5 @@
-//! The lines of a forest's text. Each is spelled from its last byte to its first, the order in which the
-//! digits of a number are found, so that each digit is written once, in its place.
+//! The lines of a forest's text. Each is spelled from its last byte to its first. The digits of a number are found in
+//! that order, so each digit is written once, where it belongs.
 ghost use Rattle.std.specs.Prelude.{◌≡◌, ℕ, ◌+◌, ◌≤◌, ◌<◌, ◌^◌, List, [], ◌∷◌, ◌++◌, length, take, drop, decimal};
 ghost use Rattle.std.specs.Fmt.{signed_decimal};
 ghost use Rattle.gr_text.specs.ForestText.{header_of, link_line};
@@ -9,8 +9,8 @@ use itoa::write_digits;
 use links::Link;
 use std::marker::Model;
 
-/// The room for a line: a vertex has at most 10 digits, a weight and a number of links at most 20 bytes, and with the
-/// letters, spaces and the line feed they are shorter.
+/// The size of the buffer for a line. A vertex has at most 10 digits, a weight and a number of edges at most 20 bytes
+/// each. With the letters, spaces and the line feed a line is still shorter than this.
 pub(crate) const SPELLED_ROOM: usize = 64;
 
 /// The end of a line, as far as it is spelled.
@@ -29,7 +29,6 @@ impl Model for Spelled {
 }
 
 impl Spelled {
-    // Nothing yet.
     fn new() -> Self
         ensures { result ≡ [] }
     {
@@ -68,7 +67,6 @@ impl Spelled {
         }
     }
 
-    /// The first line of the text of a forest of `n` vertices and `k` links.
     pub(crate) fn header(n: u32, k: usize) -> Self
         ensures line { result ≡ header_of n k }
         ensures short { length result ≤ 64 }
@@ -82,7 +80,6 @@ impl Spelled {
         line
     }
 
-    /// The line of a link.
     pub(crate) fn of_link(link: &Link) -> Self
         ensures line { result ≡ link_line link.now }
         ensures short { length result ≤ 64 }
@@ -98,7 +95,6 @@ impl Spelled {
         line
     }
 
-    /// Its bytes.
     pub(crate) fn as_slice(&self) -> &[u8]
         ensures { result.now ≡ self.now }
     {
@@ -106,14 +102,14 @@ impl Spelled {
     }
 }
 
-/// How many lines were put into a room, and how many bytes they have.
+/// How many lines were put into a buffer, and how many bytes they have.
 #[derive(Clone, Copy)]
 pub(crate) struct SpelledLines {
     pub links: usize,
     pub bytes: usize,
 }
 
-/// Puts the lines of the first of these links into a room, from its beginning on, of as many as fit.
+/// Puts the lines of the first of these edges at the start of a buffer, as many as fit.
 pub(crate) fn spell_lines(links: &[Link], room: &mut [u8]) -> SpelledLines
     ensures { AreSpelled links.now result room.new }
 {
@@ -130,7 +126,7 @@ pub(crate) fn spell_lines(links: &[Link], room: &mut [u8]) -> SpelledLines
     }
 }
 
-// Puts a line behind the first bytes of a room, and answers where it ends.
+// Puts a line after the first `from` bytes of a buffer, and returns the index where it ends.
 fn put_line(room: &mut [u8], from: usize, line: &[u8]) -> usize
     requires { from + length line.now ≤ length room.old }
     ensures bytes { result ≡ from + length line.now }

@@ -1,16 +1,17 @@
-//! The usual form of an arc line, `a U V W`, which is read at once.
+//! Reads at once an arc line in its usual form, `a U V W`.
 ghost use Rattle.std.specs.Prelude.{◌≤◌, length, MatchOption};
 ghost use Rattle.gr_text.specs.Fields.{IsDigit};
 ghost use Rattle.gr_text.specs.UsualArc.{BeginsWithLast, BeginsWithShort, BeginsWithShortSigned, BeginsWithUsualArc, HasNoLast, HasNoShort, HasNoShortSigned, HasNoUsualArc, HasShortBefore};
 
 use crate::words::{LineFields, Signed};
 
-// The most bytes of a number in such a line, which has at most nineteen digits, and of the byte that stops it.
+// The most bytes of a number in such a line, at most nineteen digits, together with the byte that ends it.
 const MOST_BYTES: usize = 20;
 
-/// The line that the bytes begin with, where it is a usual arc line and its line feed is among them, and the bytes
-/// behind that: `a`, one space, one to nineteen digits, one space, one to nineteen digits, one space, a minus or none,
-/// one to nineteen digits, and a carriage return or none. The time is linear in that line.
+/// Returns the line that the bytes begin with, if it is a usual arc line and its line feed is among the bytes, and the
+/// bytes after it. The form is `a` and three numbers of one to nineteen digits, each after one space. The third may
+/// have a minus sign, and a carriage return may come before the line feed. The time is linear in the length of the
+/// line.
 #[inline(always)]
 pub(crate) fn usual_arc(bytes: &[u8]) -> Option<(LineFields, &[u8])>
     ensures { MatchOption result (HasNoUsualArc bytes.now) (λ found. BeginsWithUsualArc found.0 bytes.now found.1.now) }
@@ -24,8 +25,8 @@ pub(crate) fn usual_arc(bytes: &[u8]) -> Option<(LineFields, &[u8])>
     Some((LineFields::ArcWhole(tail, head, weight), rest))
 }
 
-// The weight that the bytes before the end of the line write, where they are one to nineteen digits or a minus and
-// such; and the bytes behind the line feed.
+// Returns the weight before the end of the line, if it is one to nineteen digits, with or without a minus sign, and the
+// bytes after the line feed.
 #[inline(always)]
 fn short_weight(bytes: &[u8]) -> Option<(Signed, &[u8])>
     ensures { MatchOption result (HasNoShortSigned bytes.now)
@@ -39,8 +40,8 @@ fn short_weight(bytes: &[u8]) -> Option<(Signed, &[u8])>
     Some((Signed::Plus(size), rest))
 }
 
-// The number that the bytes before the end of the line write, where they are one to nineteen digits; and the bytes behind
-// the line feed. A line that ends in a carriage return too costs a second look at this number.
+// Returns the number before the end of the line, if it is one to nineteen digits, and the bytes after the line feed. If
+// the line ends in a carriage return, the number is looked at twice.
 #[inline(always)]
 fn last_number(bytes: &[u8]) -> Option<(u64, &[u8])>
     ensures { MatchOption result (HasNoLast bytes.now) (λ found. BeginsWithLast found.0 bytes.now found.1.now) }
@@ -55,8 +56,8 @@ fn last_number(bytes: &[u8]) -> Option<(u64, &[u8])>
     Some((number, &rest[1..]))
 }
 
-// The number that the bytes before the first `stop` write, where they are one to nineteen digits; and the bytes behind
-// `stop`. Where the bytes are as many as it may have, no look is taken at each whether it is the last.
+// Returns the number before the first `stop`, if it is one to nineteen digits, and the bytes after `stop`. With at
+// least `MOST_BYTES` bytes, the loop needn't check at each whether it is the last.
 #[inline(always)]
 fn short_number(bytes: &[u8], stop: u8) -> Option<(u64, &[u8])>
     requires { ¬ (IsDigit stop) }
@@ -70,7 +71,7 @@ fn short_number(bytes: &[u8], stop: u8) -> Option<(u64, &[u8])>
     Some((number, &bytes[place + 1..]))
 }
 
-// The same of the last bytes of a piece.
+// Does the same near the end of a piece.
 #[inline(never)]
 fn last_short_number(bytes: &[u8], stop: u8) -> Option<(u64, &[u8])>
     requires stop { ¬ (IsDigit stop) }
@@ -82,8 +83,8 @@ fn last_short_number(bytes: &[u8], stop: u8) -> Option<(u64, &[u8])>
     Some((number, &bytes[place + 1..]))
 }
 
-// The number that the bytes before the first `stop` write, where they are one to nineteen digits; and the place of
-// `stop`. The last byte may be a twentieth digit and wrap: then there is no `stop`, and nothing is answered.
+// Returns the number before the first `stop`, if it is one to nineteen digits, and the index of `stop`. The last byte
+// may be a twentieth digit and make the number wrap; then there is no `stop`, and the result is `None`.
 #[inline(always)]
 fn number_before(bytes: &[u8], stop: u8) -> Option<(u64, usize)>
     requires stop { ¬ (IsDigit stop) }

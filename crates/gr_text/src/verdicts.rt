@@ -14,21 +14,21 @@ use crate::words::{LineFields, Signed};
 use limits::{MAX_ARCS, MAX_VERTICES};
 use links::Link;
 
-/// What a line does after those before it.
+/// What a line adds to the lines before it.
 #[derive(Clone, Copy)]
 pub(crate) enum Verdict {
-    /// It says nothing.
+    /// It makes no statement.
     Silent,
     /// It states the problem.
     Begins(ProblemSize),
-    /// It adds an arc of this link, or a loop, which has none.
+    /// It adds an arc with this edge, or a loop, which has none.
     Adds(Option<Link>),
-    /// It has a fault.
+    /// It is invalid.
     Faulty(GrKind),
 }
 
-/// Judges a line by the lines before it: `size` is what their problem line states, where there is one, and
-/// `count` how many arc lines they have. In constant time.
+/// Judges a line given the lines before it. `size` is what their problem line states, if they have one, and `count` is
+/// their number of arc lines. Takes constant time.
 #[inline(always)]
 pub(crate) fn judge(size: Option<ProblemSize>, count: u32, line: LineFields) -> Verdict
     ensures fits { FitsAfter result size count }
@@ -91,7 +91,8 @@ fn judge_arc(size: Option<ProblemSize>, count: u32, u: u64, v: u64, w: Signed) -
     }
 }
 
-/// The link of an arc, or that it is a loop, where it is an arc of a graph of this size; else what is wrong with it.
+/// Returns the edge of an arc, or none for a loop, if it is an arc of a graph of this size. Otherwise returns what is
+/// wrong with it.
 #[inline(always)]
 pub(crate) fn link_of(size: ProblemSize, u: u64, v: u64, w: Signed) -> Result<Option<Link>, GrKind>
     ensures fits { IfOk result (λ link. IfSome link (λ l. l.high ≤ size.vertices)) }

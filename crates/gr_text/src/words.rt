@@ -2,10 +2,10 @@ ghost use Rattle.std.specs.Prelude.{◌≡◌, ◌≢◌, ◌↔◌, ℕ, ℤ, �
 ghost use Rattle.gr_text.specs.Fields.{IsFieldByte, IsDigit, Writes, WritesSigned};
 ghost use Rattle.gr_text.specs.Word.{AddsField, WordMeans, LineMeans, IsCapped, KeepsNumber, KeepsSigned};
 
-/// What is kept of a field while its bytes come, in constant memory.
+/// What is stored of a field while its bytes come, in constant memory.
 ///
-/// Numbers above `u64::MAX` are kept as that: any such number is past every limit, so its faults stay the
-/// same. `Other` is a field that no line may have at any place, whatever bytes follow.
+/// A number above `u64::MAX` is stored as `u64::MAX`. Any such number is past every limit, so its errors stay the same.
+/// `Other` is a field that isn't allowed anywhere in a line, whatever bytes follow.
 #[derive(Clone, Copy)]
 pub(crate) enum Word {
     /// No byte has come.
@@ -18,30 +18,30 @@ pub(crate) enum Word {
     LetterS,
     /// `sp`.
     Sp,
-    /// It begins with `c`.
+    /// It begins with `c`, whatever follows.
     Comment,
-    /// Digits alone, at least one.
+    /// One or more digits and nothing else.
     Number(u64),
-    /// A minus alone.
+    /// Only a minus sign.
     Minus,
-    /// A minus and then digits, at least one.
+    /// A minus sign and then one or more digits.
     Negative(u64),
     /// Anything else.
     Other,
 }
 
-/// What is kept of a number that may have a minus.
+/// What is stored of a number that may have a minus sign.
 #[derive(Clone, Copy)]
 pub(crate) enum Signed {
-    /// Digits alone.
+    /// Only digits.
     Plus(u64),
-    /// A minus and then digits.
+    /// A minus sign and then digits.
     Minus(u64),
 }
 
-/// What is kept of a line while its fields come, in constant memory.
+/// What is stored of a line while its fields come, in constant memory.
 ///
-/// `Bad..` is a line whose first field is known, and which is unlawful whatever fields follow.
+/// `Bad..` is a line whose first field is known, and which is invalid whatever fields follow.
 #[derive(Clone, Copy)]
 pub(crate) enum LineFields {
     Nothing,
@@ -68,8 +68,8 @@ fn extended(kept: u64, digit: u8) -> u64
 }
 
 impl Word {
-    /// The field with one more byte, which is no blank. In constant time. A digit that goes on with a number
-    /// comes first, since most bytes of a text are such.
+    /// Adds a byte, which isn't a blank, to the field. Takes constant time. The case of a digit after another comes
+    /// first, because most bytes of a text are such digits.
     #[inline]
     pub(crate) fn with(self, byte: u8) -> Word
         requires { IsFieldByte byte }
@@ -122,7 +122,7 @@ impl Word {
 }
 
 impl Word {
-    // The number that the whole field writes.
+    // Returns the number that the whole field writes.
     #[inline]
     fn as_number(self) -> Option<u64>
         ensures { (field : List ℕ) → WordMeans self field
@@ -142,7 +142,7 @@ impl Word {
         }
     }
 
-    // The signed number that the whole field writes.
+    // Returns the signed number that the whole field writes.
     #[inline]
     fn as_signed(self) -> Option<Signed>
         ensures { (field : List ℕ) → WordMeans self field
@@ -169,7 +169,6 @@ impl Word {
         matches!(self, Word::Sp)
     }
 
-    /// Whether no byte has come.
     #[inline]
     pub(crate) fn is_empty(self) -> bool
         ensures { (field : List ℕ) → WordMeans self field → (IsTrue result ↔ (field ≡ [])) }
@@ -197,7 +196,7 @@ impl LineFields {
         }
     }
 
-    /// The line with one more whole field. In constant time.
+    /// Adds one more whole field to the line. Takes constant time.
     pub(crate) fn then(self, word: Word) -> LineFields
         ensures { AddsField self word result }
     {

@@ -1,4 +1,4 @@
-//! The writer of a forest's text.
+//! Writes a forest's text.
 ghost use Rattle.std.specs.Prelude.{◌≡◌, ◌<◌, length};
 ghost use Rattle.gr_text.specs.FaultText.{unwritten_text};
 ghost use Rattle.gr_text.specs.ForestText.{forest_text};
@@ -18,12 +18,12 @@ use thiserror::Error;
 #[derive(Clone, Copy, Debug, PartialEq, Eq, Error)]
 #[error("{}", self.text())]
 pub struct WriteFault {
-    /// How many bytes of the text the sink took; `u64::MAX` where they are more.
+    /// The number of bytes of the text that the sink took, or `u64::MAX` if it took more.
     pub written: u64,
 }
 
 impl WriteFault {
-    /// The text that it is shown as, put together on the stack.
+    /// The text of the error, built on the stack.
     pub fn text(&self) -> ArrayString<FAULT_ROOM>
         ensures { result.bytes ≡ unwritten_text self.now.written }
     {
@@ -36,10 +36,10 @@ impl WriteFault {
     }
 }
 
-// How many bytes of lines one thread puts together.
+// How many bytes of lines one thread spells at a time.
 const PIECE_ROOM: usize = 8192;
 
-/// Hands these bytes to the sink, as the next part of a text of which `written` bytes went out before. The count stops at
+/// Writes these bytes to the sink. `written` bytes of the whole text were written before. The count stops at
 /// `u64::MAX`.
 pub(crate) fn hand_out<W: Sink>(sink: &mut W, written: u64, bytes: &[u8]) -> Result<u64, WriteFault>
     requires { W.can_write sink.old }
@@ -56,13 +56,13 @@ pub(crate) fn hand_out<W: Sink>(sink: &mut W, written: u64, bytes: &[u8]) -> Res
     }
 }
 
-/// Who spells the lines of a forest's text, and hands them to its sink.
+/// Spells the lines of a forest's text and writes them to its sink.
 pub(crate) trait PutLines {
-    // What threads need of whoever makes them, and that there is room.
+    // What threads need from the runtime that starts them, and that there are buffers.
     ghost ready: { Self → Type 0 };
 
-    /// Hands the lines of the first of these links to the sink, as the next part of a text of which `written` bytes went
-    /// out before. It answers how many have gone out then, and of how many links these were the lines.
+    /// Writes the lines of the first of these edges to the sink. `written` bytes of the whole text were written before.
+    /// Returns how many bytes are written after the call, and how many edges these lines had.
     fn put_lines<W: Sink>(
         &mut self,
         sink: &mut W,
@@ -76,7 +76,7 @@ pub(crate) trait PutLines {
         ensures ready { ready self.new };
 }
 
-// One thread spells, into room of its own.
+// Spells with one thread, into a buffer of its own.
 #[derive(Drop)]
 struct OnePiece {
     room: [u8; PIECE_ROOM],
@@ -97,7 +97,7 @@ impl PutLines for OnePiece {
     }
 }
 
-/// Writes the text of a forest of `n` vertices, whose lines are put out so, and flushes the sink once.
+/// Writes the text of a forest of `n` vertices, whose lines `lines` puts out, and flushes the sink once.
 pub(crate) fn write_lines<P: PutLines, W: Sink, A: Allocator>(
     lines: &mut P,
     sink: &mut W,
@@ -123,14 +123,14 @@ pub(crate) fn write_lines<P: PutLines, W: Sink, A: Allocator>(
     }
 }
 
-/// Writes the text of a forest of `n` vertices, flushes the sink once, and answers how many bytes the
-/// text has, or `u64::MAX` where they are more.
+/// Writes the text of a forest of `n` vertices and flushes the sink once. Returns the number of bytes of the text, or
+/// `u64::MAX` if it has more.
 ///
-/// The first line is `p sp n k`, and each of the k links has a line `a low high weight`, in ascending
-/// order of their keys. The fault comes where a write or the flush fails, or where a write takes no
-/// byte; there is no second try. Lines are put together in 8 KiB on the stack and written as one
-/// piece, so behind the first line the sink is called about once for 8 KiB; it takes no memory beside. The time is linear
-/// in the bytes of the text.
+/// The first line is `p sp n k`, and each of the k edges has a line `a low high weight`, in ascending order of their
+/// keys. Returns an error if a write or the flush fails, or if a write takes no byte; nothing is tried again.
+///
+/// Lines are put together in a buffer of 8 KiB on the stack and written as one piece. So after the first line the sink
+/// is called about once per 8 KiB. Nothing is allocated, and the time is linear in the bytes of the text.
 pub fn write_forest<W: Sink, A: Allocator>(
     sink: &mut W,
     n: u32,
@@ -138,7 +138,7 @@ pub fn write_forest<W: Sink, A: Allocator>(
 ) -> Result<u64, WriteFault>
     requires { W.can_write sink.old }
 
-    // The sink has taken exactly the whole text, or at a fault as many of its first bytes as the fault counts.
+    // The sink has taken the whole text, or on an error exactly as many of its first bytes as the error counts.
     ensures { WritesText (forest_text n forest.now) result (W.state sink.old) (W.state sink.new)
         (W.unflushed sink.new) (W.can_write sink.new) }
 {

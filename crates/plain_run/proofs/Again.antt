@@ -17,9 +17,9 @@ use Rattle.plain_run.specs.PlainRun.{RanPlain, WritesAgain}
 use Rattle.plain_run.proofs.PlainRunning.{given_file}
 use Rattle.plain_run.proofs.Lengths.{no_longer, same_length, fewer_links}
 
--- ---- what a file says of its graph
+-- ---- what a file states about its graph
 
--- the links of arcs end within the vertices
+-- the endpoints of the arcs' edges are vertices
 ends_of_kept : (n : ℕ) (kept : List Arc) (links : List Link) → All (IsArcOf n) kept → map key_of links ≡ map arc_key kept → EndsUpTo n links
 ends_of_kept n kept [] each are i d b = absurd (omega arith)
 ends_of_kept n [] (l ∷ links) each are i d b = absurd (cc)

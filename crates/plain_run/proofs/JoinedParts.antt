@@ -1,4 +1,4 @@
--- What is kept of several files, and the forest of all their links.
+-- What is stored of several files, and the forest of all their edges.
 use Rattle.std.proofs.Common.{◌≡◌, ◌+◌, ◌≤◌, ◌^◌, ℕ, zero, suc, List, [], ◌∷◌, ◌++◌, length, ◌⊎◌, inl, inr, sym, ap, subst, ◌∙◌, arith}
 use Rattle.std.specs.Prelude.{All}
 use Rattle.std.proofs.lemmas.List.{flat_map_more, length-append}
@@ -20,15 +20,15 @@ use Rattle.plain_run.specs.PlainRun.{counted_report}
 use Rattle.plain_run.specs.declared.report.Report.{Report}
 use Rattle.plain_run.proofs.PlainRunning.{plainly}
 
--- no link ends outside where there is none
+-- an empty list has no endpoint that isn't a vertex
 pub none_ends : (n : ℕ) (links : List Link) → length links ≡ 0 → EndsUpTo n links
 none_ends n links none = λ i d b. absurd (omega arith)
 
--- the links of one graph more come last
+-- the edges of one more graph come last
 all_more : (graphs : List GraphValue) (graph : GraphValue) → links_of_all (graphs ++ graph ∷ []) ≡ links_of_all graphs ++ graph.links
 all_more graphs graph = sym (flat_map_more (λ (g : GraphValue). g.links) [] graphs graph)
 
--- all graphs have the number of vertices of one more, where there are none or it has theirs
+-- all graphs have the number of vertices of one more, if there are none or it has theirs
 one_number_more : (graphs : List GraphValue) (graph : GraphValue) (vertices n files : ℕ) → All (λ (g : GraphValue). g.vertices ≡ vertices) graphs
     → files ≡ length graphs → graph.vertices ≡ n → (files ≡ 0) ⊎ (n ≡ vertices) → All (λ (g : GraphValue). g.vertices ≡ n) (graphs ++ graph ∷ [])
 one_number_more graphs graph vertices n files one as_many same either =
@@ -42,7 +42,8 @@ one_number_more graphs graph vertices n files one as_many same either =
     before (inl none) = λ i d b. absurd (omega arith)
     before (inr is) = λ i d b. one i d b ∙ sym is
 
--- one graph more, of which some links were dropped and the others came to those kept, which were replaced by fewer
+-- One more graph: some of its edges were dropped, the others were added to the kept ones, and these were replaced by
+-- fewer.
 pub with_one_more : (graphs : List GraphValue) (graph : GraphValue) (old new : PartsValue) (links : List Link) (dropped : ℕ)
     → IsCoveredBy graph.links links → length graph.links ≡ dropped + length links → IsCoveredBy (old.kept ++ links) new.kept
     → graph.vertices ≡ new.vertices → (old.files ≡ 0) ⊎ (new.vertices ≡ old.vertices)
@@ -62,7 +63,7 @@ with_one_more graphs graph old new links dropped cover counted fewer same either
 
 -- ---- the forest of all
 
--- the forest of what is kept is that of all links
+-- the forest of the kept edges is that of all edges
 pub forest_of_parts : (graphs : List GraphValue) (parts : PartsValue) (forest : List Link) → ArePartsOf graphs parts → IsForestOf parts.kept forest
     → IsForestOf (links_of_all graphs) forest
 forest_of_parts graphs parts forest are is = cover_has_forest (links_of_all graphs) parts.kept forest are.cover is

@@ -1,4 +1,4 @@
--- What is read of a source whose bytes are known, and that it has no failure,.
+-- What is read of a source whose bytes are visible and which doesn't fail.
 use Rattle.std.proofs.Common.{◌≡◌, ◌≤◌, ℕ, List, ◌++◌, length, inl, inr, Some, Ok, Err, refl, sym, subst, arith}
 use Rattle.std.specs.Prelude.{Result}
 use Rattle.limits.specs.declared.TheConstants.{MAX_BYTES}
@@ -14,7 +14,7 @@ use Rattle.gr_text.proofs.Ending.{fails_of_stops}
 use Rattle.gr_text.proofs.OneFault.{never_both}
 use Rattle.plain_run.specs.Files.{IsFileOf, IsFirstOf, HasFile, MeansGraph, MeansNothing}
 
--- what is read of a source whose bytes are known, and that it has no failure, is what is read of the bytes
+-- what is read of a source whose bytes are visible and which doesn't fail is what is read of these bytes
 pub reads_the_file : (bytes : List ℕ) (s t : SourceState) (outcome : Result GraphValue ReadFault) → s.left ≡ Some bytes → HadNoFailure s t
     → IsReadOf MAX_BYTES outcome s t → IsRead MAX_BYTES bytes outcome
 reads_the_file bytes s t outcome known no_failure (inl whole) =
@@ -27,11 +27,11 @@ reads_the_file bytes s t outcome known no_failure (inr (inr (line, is, broke))) 
     let none = gave_unfailing 1 0 broke.bytes s t no_failure broke.gave in
     absurd (omega (arith, none))
 
--- a fault within the limit is the first of the file, or want of memory
+-- an error within the limit is the first of the file, or out of memory
 first_of_failed : (why : ReadFault) (bytes : List ℕ) → length bytes ≤ MAX_BYTES → FailsBy why MAX_BYTES bytes → IsFirstOf bytes why
 first_of_failed a1 a2 a3 a4 = search arith
 
--- bytes that mean a graph have no fault
+-- bytes that describe a graph have no error
 no_fault_of_lawful : (why : ReadFault) (bytes : List ℕ) (graph : GraphValue) → IsFileOf bytes graph → FailsBy why MAX_BYTES bytes → why ≡ read.Memory
 no_fault_of_lawful (read.Gr f) bytes graph file (inl (short, first)) =
     let (arcs, means, links) = file.means in
@@ -41,7 +41,7 @@ no_fault_of_lawful (read.Source line) bytes graph file fails = absurd fails
 no_fault_of_lawful read.TooLong bytes graph file (long, lawful) = absurd (omega (arith, file.within, long))
 no_fault_of_lawful read.Memory bytes graph file fails = refl
 
--- ---- and of a source that tells its file
+-- ---- the same for a source whose file is known
 
 pub first_of_file : (why : ReadFault) (s t : SourceState) → IsReadOf MAX_BYTES (Err why) s t → (bytes : List ℕ) → HasFile bytes s t → IsFirstOf bytes why
 first_of_file why s t refused bytes file = first_of_failed why bytes file.within (reads_the_file bytes s t (Err why) file.known file.no_failure refused)

@@ -1,4 +1,4 @@
--- How many links a list and a graph have.
+-- How many edges a list and a graph have.
 use Rattle.std.proofs.Common.{◌≡◌, ℕ, zero, suc, ◌≤◌, List, [], ◌∷◌, length, get_or, map, sym, ap, subst, ◌∙◌, arith}
 use Rattle.std.specs.Prelude.{All, Contains, filter}
 use Rattle.std.proofs.lemmas.List.{length-map}
@@ -13,7 +13,7 @@ use Rattle.links.proofs.Keys.{below_irrefl}
 use Rattle.gr_text.specs.Graph.{GraphValue, IsGraphOf}
 use Rattle.gr_text.proofs.Texts.{means_one_graph}
 
--- what ascends and is in a list is no longer than it: of each link one place is taken
+-- edges that ascend and are in a list are at most as many as the list: each takes one index
 pub no_longer : (xs ys : List Link) → IsAscending xs → All (Contains ys) xs → length xs ≤ length ys
 no_longer [] ys up all = omega arith
 no_longer (x ∷ xs) ys up all =
@@ -29,13 +29,13 @@ no_longer (x ∷ xs) ys up all =
     other zs x y apart (zero, b, e) = absurd (apart e)
     other zs x y apart (suc k, b, e) = (k, omega arith, e)
 
--- two graphs of one text have as many links
+-- two graphs of one text have the same number of edges
 pub same_length : (bytes : List ℕ) (graph other : GraphValue) → IsGraphOf bytes graph → IsGraphOf bytes other → length graph.links ≡ length other.links
 same_length bytes graph other (arcs, means, links) (arcs', means', links') =
     let same = means_one_graph bytes graph.vertices other.vertices arcs arcs' means means' in
     let keys : map key_of graph.links ≡ map key_of other.links = links ∙ (ap (λ (xs : List Arc). map arc_key (filter is_no_loop xs)) same.1 ∙ sym links') in
     sym (length-map graph.links key_of) ∙ (ap (λ ks. length ks) keys ∙ length-map other.links key_of)
 
--- of arcs there are no more links than arcs
+-- arcs have at most as many edges
 pub fewer_links : (arcs : List Arc) (links : List Link) → AreLinksOf arcs links → length links ≤ length arcs
 fewer_links arcs links are = search (arith, length-map, length-filter, count_by-le-length)

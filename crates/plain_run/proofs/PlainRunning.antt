@@ -1,4 +1,4 @@
--- What a run did, by what its steps say; and what follows for bytes in memory.
+-- What a run did, given what its steps did, and what follows for bytes in memory.
 use Rattle.std.proofs.Common.{◌≡◌, ◌≤◌, ◌^◌, ℕ, List, [], length, inl, inr, Some, Ok, Err, refl, sym, subst, arith}
 use Rattle.limits.specs.declared.TheConstants.{MAX_BYTES}
 use Rattle.byte_streams.specs.Streams.{SourceState, SinkState, Gave, Took, HadNoFailure}
@@ -19,7 +19,7 @@ use Rattle.plain_run.specs.declared.fault.RunFault.{RunFault}
 use Rattle.plain_run.specs.declared.report.Report.{Report}
 use Rattle.plain_run.specs.declared.fault.RunFault.TheVariants as fault
 
--- a graph is read only of a whole file
+-- a graph is read only from a whole file
 pub whole_file : (graph : GraphValue) (s t : SourceState) → IsReadOf MAX_BYTES (Ok graph) s t → (bytes : List ℕ) × Gave 0 1 bytes s t × IsFileOf bytes graph
 whole_file a1 a2 a3 a4 = search arith
 
@@ -34,19 +34,19 @@ pub done : (found says : GraphValue → List Link → Type 0) (graph : GraphValu
     → IsDone found says (streams s a) (streams t b)
 done found says graph forest n s t a b read found_is same took said = search (arith, whole_file)
 
--- such a report is one of least links
+-- such a report has the least total
 pub plainly : (graph : GraphValue) (forest : List Link) (report : Report) → IsLightest graph.links (sum_of_weights forest) → report ≡ plain_report graph forest
     → IsPlainReport graph forest report
 plainly graph forest report least is = record { report_is = is; lightest = subst (λ (r : Report). IsLightest graph.links r.total) (sym is) least }
 
--- a file has at most 2^30 arc lines, so what a failed write counts is the number of bytes itself
+-- a file has at most 2^30 arc lines, so a failed write counts its bytes exactly
 pub broken_off : {X : Type 0} (found : GraphValue → List Link → Type 0) (says : GraphValue → List Link → X → Type 0)
     (answer : X) (written : ℕ) (graph : GraphValue) (forest : List Link) (n : ℕ) (s t : SourceState) (a b : SinkState)
     → IsReadOf MAX_BYTES (Ok graph) s t → found graph forest → length forest ≤ 2 ^ 55 → n ≡ graph.vertices
     → PrefixWentOut written (forest_text n forest) a b → says graph forest answer → IsBrokenOff found says written (streams s a) (streams t b)
 broken_off found says answer written graph forest n s t a b read found_is few same part said = search (arith, whole_file, few_are_exact)
 
--- ---- bytes in memory: a source of which they are known, and that it has no failure
+-- ---- bytes in memory: a source whose bytes are visible and which doesn't fail
 
 -- the file that was read is all that there was
 pub given_file : (bytes got : List ℕ) (s t : SourceState) → s.left ≡ Some bytes → Gave 0 1 got s t → got ≡ bytes

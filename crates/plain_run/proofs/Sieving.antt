@@ -25,12 +25,12 @@ use Rattle.gr_text.specs.Kept.{BeginsSo}
 use Rattle.plain_run.specs.Sieve.{IsSieveOf, Passes, stays}
 use Rattle.plain_run.specs.declared.sieve.Sieve.{Sieve}
 
--- one that passes is counted
+-- an element that passes is counted
 pub counted_by : (b : Bool) (n n' : ℕ) → n' ≡ n + bool_byte b → ((n' ≡ n) × (b ≡ false)) ⊎ ((n' ≡ n + 1) × (b ≡ true))
 counted_by a1 a2 a3 a4 = search arith
 
--- What passes a test is written behind what was kept before it, and counted; what doesn't pass is written there too, and
--- not counted.
+-- An element that passes a test is written after those kept before it, and counted. One that doesn't pass is also
+-- written there, but not counted.
 pub written_behind : {X : Type 0} (p : X → Bool) (before start now : List X) {i kept kept' : ℕ} (x : X) → i < length start → x ≡ get_or start i x → kept < length now
     → take kept now ≡ before ++ filter p (take i start) → ((kept' ≡ kept) × (p x ≡ false)) ⊎ ((kept' ≡ kept + 1) × (p x ≡ true))
     → take kept' (set now kept x) ≡ before ++ filter p (take (i + 1) start)
@@ -68,7 +68,7 @@ kept p (y ∷ ys) x here passes = kept_or p y x ys (p y) refl (λ behind. kept p
 kept_of : {X : Type 0} (p : X → Bool) (xs : List X) (x : X) → Contains (filter p xs) x → Contains xs x
 kept_of p xs x here = All-contains (Contains xs) (filter p xs) x (All-filter p (Contains xs) xs (All-contains_itself xs)) here
 
--- ---- a link that doesn't stay is above one, and its ends have one label
+-- ---- an edge that doesn't stay is above one, and its endpoints have the same label
 
 by_tests : (same less : Bool) → not (same && less) ≡ false → (same ≡ true) × (less ≡ true)
 by_tests a1 a2 a3 = search arith
@@ -82,13 +82,13 @@ above h l less = search (arith, trichotomy, wide_below, ints)
 goes_by : (labels : List ℕ) (h l : Link) → stays labels h l ≡ false → (label_of labels l.low ≡ label_of labels l.high) × IsBelow h l
 goes_by labels h l goes = search (arith, by_tests, one_number, above)
 
--- ---- what links join, more links join
+-- ---- more edges connect what fewer edges connect
 
 pub sieve_more : (labels : List ℕ) (h : Link) (links more : List Link) → ((m : Link) → Contains links m → Contains more m) → IsSieveOf labels h links → IsSieveOf labels h more
 sieve_more labels h links more grows sieve u v u1 un v1 vn same =
     joins_more (LinksNotAbove links h) (LinksNotAbove more h) (λ m m_is. (grows m m_is.0, m_is.1)) u v (sieve u v u1 un v1 vn same)
 
--- ---- those that stay cover all
+-- ---- the edges that stay cover all
 
 module _ (labels : List ℕ) (h : Link) (first rest : List Link) (sieve : IsSieveOf labels h first) (ends : EndsUpTo (length labels) rest) where
   joined_or : (l : Link) → Contains rest l → (b : Bool) → stays labels h l ≡ b → Joins (LinksNotAbove (first ++ filter (stays labels h) rest) l) l.low l.high
@@ -141,7 +141,7 @@ sifts {A} sieve old new count ends begins new_is counted =
     is : new ≡ begins.first ++ filter (stays sieve.labels sieve.heaviest) begins.more
     is = new_is ∙ ap₂ (λ (xs ys : List Link). xs ++ filter (stays sieve.labels sieve.heaviest) ys) front behind
 
--- ---- the components of the first links of a list that ascends are a sieve of it
+-- ---- the components of the first edges of an ascending list are a sieve of it
 
 in_front : (count : ℕ) (links : List Link) (h m : Link) → 0 < count → count ≤ length links → IsAscending links → h ≡ get_or links (count - 1) h → Contains (take count links) m
     → LinksNotAbove links h m

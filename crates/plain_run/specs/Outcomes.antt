@@ -14,7 +14,7 @@ use Rattle.plain_run.specs.Files.{IsFileOf}
 use Rattle.plain_run.specs.declared.fault.RunFault.{RunFault}
 use Rattle.plain_run.specs.declared.fault.RunFault.TheVariants as fault
 
--- a run's two streams, as each is known
+-- the states of a run's two streams, as far as they are visible
 pub record Streams : Type 0 where
   pub source : SourceState
   pub sink : SinkState
@@ -22,19 +22,19 @@ pub record Streams : Type 0 where
 abbrev pub streams : SourceState → SinkState → Streams
 streams source sink = record { source = source; sink = sink }
 
--- what is known of a run's source and sink
+-- the states of a run's source and sink
 abbrev pub known : {S W : Type 0} → (S → SourceState) → (W → SinkState) → S → W → Streams
 known source_of sink_of source sink = record { source = source_of source; sink = sink_of sink }
 
--- what may be so of a graph and links of it, and of an answer beside them
+-- what may hold for a graph and edges of it, and for a result together with them
 abbrev pub ForestFact : Type 1
 ForestFact = GraphValue → List Link → Type 0
 
 abbrev pub AnswerFact : Type 0 → Type 1
 AnswerFact X = GraphValue → List Link → X → Type 0
 
--- the source was read to its end, a forest of its graph was found, and exactly the forest's text went out; so much is said
--- of the graph and the forest
+-- The source was read to its end, a forest of its graph was found, and exactly the forest's text was written. `says`
+-- holds for the graph and the forest.
 pub record IsDone (found says : ForestFact) (before after : Streams) : Type 0 where
   pub bytes : List ℕ
   pub graph : GraphValue
@@ -45,12 +45,12 @@ pub record IsDone (found says : ForestFact) (before after : Streams) : Type 0 wh
   pub written : Took 0 (forest_text graph.vertices forest) before.sink after.sink
   pub said : says graph forest
 
--- what the source gave is refused by this fault, and nothing was written
+-- reading the source gave this error, and nothing was written
 pub record IsUnread (why : ReadFault) (before after : Streams) : Type 0 where
   pub refused : IsReadOf MAX_BYTES (Err why) before.source after.source
   pub nothing : Took 0 [] before.sink after.sink
 
--- the source was read to its end and means a graph, for which so much is said, and nothing was written
+-- the source was read to its end and describes a graph, for which `why` holds, and nothing was written
 pub record IsUnsolved (why : GraphValue → Type 0) (before after : Streams) : Type 0 where
   pub bytes : List ℕ
   pub graph : GraphValue
@@ -59,8 +59,8 @@ pub record IsUnsolved (why : GraphValue → Type 0) (before after : Streams) : T
   pub cause : why graph
   pub nothing : Took 0 [] before.sink after.sink
 
--- the source was read to its end, a forest of its graph was found, and so many bytes of its text went out before a
--- setback; of the graph and the forest is said what some answer of a good end says of both
+-- The source was read to its end, a forest of its graph was found, and `written` bytes of its text were written before
+-- the sink failed. For the graph and the forest, `says` holds with some result of a run that succeeds.
 pub record IsBrokenOff {X : Type 0} (found : ForestFact) (says : AnswerFact X) (written : ℕ) (before after : Streams) : Type 0 where
   pub bytes : List ℕ
   pub graph : GraphValue
@@ -72,17 +72,18 @@ pub record IsBrokenOff {X : Type 0} (found : ForestFact) (says : AnswerFact X) (
   pub answer : X
   pub said : says graph forest answer
 
--- what a run did that answered this: which links it may have found as a graph's forest, what its answer says of both, and why it may have found none
+-- What a run with this result did. `found` says which edges it may have found as a graph's forest, `says` what its
+-- result says about both, and `why` why it may have found none.
 abbrev pub Ran : {X : Type 0} → ForestFact → AnswerFact X → (GraphValue → RunFault → Type 0) → Result X RunFault → Streams → Streams → Type 0
 Ran found says why (Ok x) = IsDone found (λ graph forest. says graph forest x)
 Ran found says why (Err (fault.Read fault)) = IsUnread fault
 Ran found says why (Err (fault.Write written)) = IsBrokenOff found says written
 Ran found says why (Err other) = IsUnsolved (λ graph. why graph other)
 
--- the links, in the order of their keys, are a spanning forest of the graph's
+-- the edges, in the order of their keys, are a spanning forest of the graph
 abbrev pub IsSpanning : GraphValue → List Link → Type 0
 IsSpanning graph forest = IsAscending forest × IsSpanningForestOf graph.links forest
 
--- the links are the graph's minimum spanning forest
+-- the edges are the graph's minimum spanning forest
 abbrev pub IsLeast : GraphValue → List Link → Type 0
 IsLeast graph forest = IsForestOf graph.links forest

@@ -1,4 +1,4 @@
--- Several files as parts of one graph, which has the links of all of them.
+-- Several files as parts of one graph, which has the edges of all of them.
 use Rattle.std.specs.Prelude.{◌≡◌, ◌≢◌, ◌<◌, ◌≤◌, ◌*◌, ⊤, ℕ, List, [], ◌∷◌, ◌++◌, length, All, Option, Result, Ok, Err, OnOk}
 use Rattle.std.specs.List.{flat_map}
 use Rattle.limits.specs.declared.TheConstants.{MAX_ARCS, MAX_BYTES, MAX_VERTICES}
@@ -20,15 +20,16 @@ use Rattle.plain_run.specs.declared.fault.RunFault.TheVariants as fault
 use Rattle.plain_run.specs.declared.parts.TheConstants.{MAX_FILES}
 use Rattle.plain_run.specs.declared.report.Report.{Report}
 
--- what is kept of the files so far: the number of vertices that each of them names, some of their links, and how many
--- links and files there were
+-- What is stored of the files so far: their common number of vertices, some of their edges, and how many edges and
+-- files there were.
 pub record PartsValue : Type 0 where
   pub vertices : ℕ
   pub kept : List Link
   pub count : ℕ
   pub files : ℕ
 
--- what is so of any parts: the links end within the vertices, no more are kept than there were, and neither they nor the files are too many
+-- what holds for any parts: endpoints are vertices, at most as many edges are kept as there were, and the numbers are
+-- within the limits
 pub record AreLawfulParts (parts : PartsValue) : Type 0 where
   pub few_vertices : parts.vertices ≤ MAX_VERTICES
   pub ends : EndsUpTo parts.vertices parts.kept
@@ -36,15 +37,15 @@ pub record AreLawfulParts (parts : PartsValue) : Type 0 where
   pub few : parts.count ≤ parts.files * MAX_ARCS
   pub few_files : parts.files ≤ MAX_FILES
 
--- the links of all graphs, one list after the other
+-- the edges of all graphs, one list after the other
 abbrev pub links_of_all : List GraphValue → List Link
 links_of_all graphs = flat_map (λ graph. graph.links) graphs
 
--- the graph of n vertices with the links of all graphs
+-- the graph with n vertices and the edges of all graphs
 abbrev pub joined_graph : ℕ → List GraphValue → GraphValue
 joined_graph n graphs = record { vertices = n; links = links_of_all graphs }
 
--- the parts stand for these graphs: each has as many vertices, and the links kept cover those of all
+-- the parts represent these graphs: each has this many vertices, and the kept edges cover the edges of all
 pub record ArePartsOf (graphs : List GraphValue) (parts : PartsValue) : Type 0 where
   pub one_number : All (λ graph. graph.vertices ≡ parts.vertices) graphs
   pub cover : IsCoveredBy (links_of_all graphs) parts.kept
@@ -53,7 +54,7 @@ pub record ArePartsOf (graphs : List GraphValue) (parts : PartsValue) : Type 0 w
 
 -- ---- one more file
 
--- the source was read to its end and means a graph, which comes behind those that the parts stand for
+-- the source was read to its end and describes a graph, which is added after those that the parts represent
 pub record IsAdded (old new : PartsValue) (before after : SourceState) : Type 0 where
   pub bytes : List ℕ
   pub graph : GraphValue
@@ -61,8 +62,8 @@ pub record IsAdded (old new : PartsValue) (before after : SourceState) : Type 0 
   pub file : IsFileOf bytes graph
   pub parts : (graphs : List GraphValue) → ArePartsOf graphs old → ArePartsOf (graphs ++ graph ∷ []) new
 
--- the source was read to its end and means a graph of so many vertices, which aren't the wanted ones: those that the files
--- before it name
+-- The source was read to its end and describes a graph with another number of vertices than the wanted one, which the
+-- files before it have.
 pub record HasOtherVertices (vertices wanted : ℕ) (old : PartsValue) (before after : SourceState) : Type 0 where
   pub bytes : List ℕ
   pub graph : GraphValue
@@ -73,60 +74,60 @@ pub record HasOtherVertices (vertices wanted : ℕ) (old : PartsValue) (before a
   pub differ : vertices ≢ wanted
   pub some_before : 0 < old.files
 
--- what one more file did to the parts: it was added, or refused for what it says or for want of memory, or for another
--- number of vertices
+-- What one more file did to the parts: it was added, or it wasn't read (for an error in it, or for lack of memory), or
+-- it has another number of vertices.
 abbrev pub Adds : PartsValue → Result PartsValue PartFault → SourceState → SourceState → Type 0
 Adds old (Ok new) = IsAdded old new
 Adds old (Err (part.Read why)) = IsReadOf MAX_BYTES (Err why)
 Adds old (Err (part.OtherVertices vertices wanted)) = HasOtherVertices vertices wanted old
 
--- the answer is the first fault of the bytes, or that memory was refused in reading
+-- the result is the first error of the bytes, or that there was no memory to read them
 abbrev pub IsFirstFaultOfPart : {X : Type 0} → List ℕ → Result X PartFault → Type 0
 IsFirstFaultOfPart bytes (Err (part.Read why)) = IsFirstOf bytes why
 IsFirstFaultOfPart bytes other = ⊥
 
--- the answer isn't a fault of the file or of its source: where it was not read, memory was refused
+-- the result isn't an error of the file or of its source: if the file wasn't read, there was no memory
 abbrev pub IsNoRefusalOfPart : {X : Type 0} → Result X PartFault → Type 0
 IsNoRefusalOfPart (Err (part.Read why)) = why ≡ read.Memory
 IsNoRefusalOfPart other = ⊤
 
--- where the source has a file that means nothing and no read of it fails, the answer is the file's first fault
+-- if the source has an invalid file and no read of it fails, the result is the file's first error
 abbrev pub RefusesFile : {X : Type 0} → Result X PartFault → SourceState → SourceState → Type 0
 RefusesFile result before after = (bytes : List ℕ) → HasFile bytes before after → MeansNothing bytes → IsFirstFaultOfPart bytes result
 
--- where it has one that means a graph, the answer is no fault of the file's
+-- if it has a valid file, the result isn't an error of the file
 abbrev pub AcceptsFile : {X : Type 0} → Result X PartFault → SourceState → SourceState → Type 0
 AcceptsFile result before after = (bytes : List ℕ) → HasFile bytes before after → MeansGraph bytes → IsNoRefusalOfPart result
 
 -- ---- the forest of all
 
--- this is the graph's forest, whose text went out, and such is its report
+-- this is the graph's forest, whose text was written, and this is its report
 pub record IsWrittenForest (graph : GraphValue) (report : Report) (before after : SinkState) : Type 0 where
   pub forest : List Link
   pub least : IsForestOf graph.links forest
   pub text : Took 0 (forest_text graph.vertices forest) before after
   pub said : IsPlainReport graph forest report
 
--- so many bytes of the text of the graph's forest went out before a setback
+-- this many bytes of the text of the graph's forest were written before the sink failed
 pub record IsPartOfForest (graph : GraphValue) (written : ℕ) (before after : SinkState) : Type 0 where
   pub forest : List Link
   pub least : IsForestOf graph.links forest
   pub part : WentOut written (forest_text graph.vertices forest) before after
 
--- what was done for the forest of a graph, and answered: its text was written, or a part of it; or nothing, for want of
--- memory alone
+-- The result and the effect of finding and writing the forest of a graph: its text was written, or a part of it, or
+-- nothing because there was no memory.
 abbrev pub WritesForestOf : GraphValue → Result Report RunFault → SinkState → SinkState → Type 0
 WritesForestOf graph (Ok report) = IsWrittenForest graph report
 WritesForestOf graph (Err (fault.Write written)) = IsPartOfForest graph written
 WritesForestOf graph (Err fault.Memory) = Took 0 []
 WritesForestOf graph (Err other) = λ _ _. ⊥
 
--- what writing the forest of all files' links did that answered this, to a sink in which these bytes wait for a flush then,
--- and which can be written again if `ready`
+-- What writing the forest of all files' edges did if it returned this. `unflushed` are the bytes in the sink that wait
+-- for a flush afterwards, and the sink can be written to again if `ready`.
 pub record WritesParts (parts : PartsValue) (result : Result Report RunFault) (before after : SinkState) (unflushed : Option (List ℕ)) (ready : Type 0) : Type 0 where
-  -- exactly the text of the forest of the files' links went out, one file's after the other's, or a part of it, or nothing
-  -- for want of memory; the links of all files are counted
+  -- Exactly the text of the forest of the files' edges was written, taken in the order of the files, or a part of it.
+  -- If there was no memory, nothing was written. The edges of all files are counted.
   pub written : (graphs : List GraphValue) → ArePartsOf graphs parts → WritesForestOf (joined_graph parts.vertices graphs) result before after
-  -- then no byte of a sink that knows which wait for a flush does, and it can be written again
+  -- if it succeeds, no byte waits for a flush, as far as the sink shows, and the sink can be written to again
   pub flushed : OnOk result (IsFlushed unflushed)
   pub again : OnOk result ready

@@ -3,7 +3,7 @@ use Rattle.std.specs.Prelude.{ℕ, List, ◌++◌, codes, decimal}
 use Rattle.std.specs.Fmt.{signed_decimal}
 use Rattle.plain_run.specs.declared.report.Report.{Report}
 
--- its nine numbers in this order, each behind its name, with a space between two
+-- its nine numbers in this order, each after its name, separated by spaces
 abbrev pub report_text : Report → List ℕ
 report_text r =
     codes "vertices=" ++ decimal r.vertices ++ codes " links=" ++ decimal r.links

@@ -1,4 +1,4 @@
-//! Who reads, solves and writes: one thread, or several.
+//! Reads, solves and writes with one thread or with several.
 ghost use Rattle.std.specs.Prelude.{◌≤◌, length, IfOk};
 ghost use Rattle.std.specs.Thread.{IsSync};
 ghost use Rattle.gr_text.specs.ForestText.{forest_text};
@@ -18,12 +18,12 @@ use link_key::{Forest, Link, keep_forest, keep_forest_par};
 use std::alloc::{AllocError, Allocator};
 use std::thread::Threads;
 
-/// Who reads a file, keeps the forest of a list, and writes its text.
+/// Reads a file, reduces a list to its forest, and writes the forest's text.
 pub trait Crew {
-    // What threads need of whoever makes them.
+    // What threads need from the runtime that starts them.
     ghost ready: { Type 0 } = { Unit {0} };
 
-    /// The graph of a source, with the links that a keeper keeps, as [`read_graph_kept`] reads it.
+    /// Reads a graph from a source, with the edges that a keeper keeps, as [`read_graph_kept`] does.
     fn read<K: Keep<A>, S: Source, A: Allocator + Copy>(
         &self,
         keeper: &mut K,
@@ -35,7 +35,7 @@ pub trait Crew {
         requires can { S.can_read source.old }
         ensures outcome { IsKeptReadOf K.drops MAX_BYTES (K.dropped keeper.new) result (S.state source.old) (S.state source.new) };
 
-    /// The list, of which the links of its forest alone are kept.
+    /// Reduces the list to the edges of its forest.
     fn keep_forest<A: Allocator + Copy>(
         &self,
         alloc: A,
@@ -62,7 +62,7 @@ pub trait Crew {
             (W.unflushed sink.new) (W.can_write sink.new) };
 }
 
-/// The caller's thread alone.
+/// Uses only the caller's thread.
 #[derive(Drop)]
 pub struct OneThread;
 
@@ -96,7 +96,7 @@ impl Crew for OneThread {
     }
 }
 
-/// Up to so many threads.
+/// Uses up to `threads` threads.
 #[derive(Drop)]
 pub struct ManyThreads<'a, R> {
     pub rt: &'a R,
@@ -135,7 +135,7 @@ impl<'a, R: Threads + Sync> Crew for ManyThreads<'a, R> {
     }
 }
 
-/// The forest of the list, in its memory.
+/// Finds the forest of the list, in the list's memory.
 pub(crate) fn forest_by<C: Crew, A: Allocator + Copy>(
     crew: &C,
     alloc: A,

@@ -1,4 +1,4 @@
-//! Why a run ends ill.
+//! The errors of a run.
 ghost use Rattle.std.specs.Prelude.{◌≡◌, ◌≤◌, length};
 ghost use Rattle.plain_run.specs.FaultText.{cut_text, fault_text, part_text};
 
@@ -8,41 +8,42 @@ use gr_text::{ReadFault, WriteFault};
 use links::{CutFault, Link};
 use thiserror::Error;
 
-/// Why a run gave no forest, or not all of its text.
+/// Why a run gave no forest, or didn't write all of its text.
 #[derive(Clone, Copy, Debug, PartialEq, Eq, Error)]
 #[error("{}", self.text())]
 pub enum RunFault {
     /// The file wasn't read.
     Read(ReadFault),
 
-    /// The links can't be cut into shards as it was asked for, or memory was refused in cutting them.
+    /// The edges can't be split into shards as requested, or there was no memory to split them.
     Cut(CutFault),
 
-    /// A round had picks, though no graph of so many vertices has so many merging rounds: what was answered in the
-    /// rounds isn't right.
+    /// A round chose edges, although no graph with this many vertices has so many merging rounds. An answer that came
+    /// in the rounds was wrong.
     Rounds {
-        /// The number of the round, from 1 on.
+        /// The number of the round, counted from 1.
         round: u32,
     },
 
-    /// A round had no picks, though the links taken don't join the ends of this link: what was answered isn't right.
+    /// A round chose no edges, although the edges taken so far don't connect the endpoints of this one. An answer was
+    /// wrong.
     Missed {
-        /// The first such link, in the order of the file.
+        /// The first such edge, in the order of the file.
         link: Link,
     },
 
-    /// Memory was refused once the file was read and cut.
+    /// There was no memory, after the file had been read and split.
     Memory,
 
     /// The sink failed, or took no byte of what was left.
     Write {
-        /// How many bytes of the forest text the sink took.
+        /// How many bytes of the forest's text the sink took.
         written: u64,
     },
 }
 
 impl RunFault {
-    /// The text that it is shown as, put together on the stack.
+    /// The text of the error, built on the stack.
     pub fn text(&self) -> ArrayString<LINE_ROOM>
         ensures text { result.bytes ≡ fault_text self.now }
         ensures short { length result.bytes ≤ 120 }
@@ -68,24 +69,24 @@ impl RunFault {
     }
 }
 
-/// Why a file isn't a part beside those before it.
+/// Why a file can't be joined with those before it.
 #[derive(Clone, Copy, Debug, PartialEq, Eq, Error)]
 #[error("{}", self.text())]
 pub enum PartFault {
-    /// The file wasn't read, or memory was refused for its links beside the others.
+    /// The file wasn't read, or there was no memory for its edges together with the others.
     Read(ReadFault),
 
     /// The file has another number of vertices than those before it.
     OtherVertices {
-        /// How many it has.
+        /// The number of vertices of this file.
         vertices: u32,
-        /// How many they have.
+        /// The number of vertices of the files before it.
         wanted: u32,
     },
 }
 
 impl PartFault {
-    /// The text that it is shown as, put together on the stack.
+    /// The text of the error, built on the stack.
     pub fn text(&self) -> ArrayString<LINE_ROOM>
         ensures text { result.bytes ≡ part_text self.now }
         ensures short { length result.bytes ≤ 120 }
@@ -102,7 +103,7 @@ impl PartFault {
     }
 }
 
-// Why a list isn't cut: want of memory is shown as everywhere.
+// Why a list isn't split. Out of memory has the same text as everywhere.
 fn text_of_cut(fault: CutFault) -> &'static str
     ensures text { result.now ≡ cut_text fault }
     ensures short { length result.now ≤ 40 }

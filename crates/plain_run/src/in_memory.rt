@@ -1,4 +1,4 @@
-//! A run by one thread over bytes in memory.
+//! Runs with one thread over bytes in memory.
 ghost use Rattle.std.specs.Prelude.{◌≤◌, length, IfOk, IfErr};
 ghost use Rattle.plain_run.specs.Files.{IsForestTextOf, IsFaultInMemory, MeansGraph, MeansNothing, IsFirstFaultOf, IsNoRefusal};
 
@@ -7,14 +7,13 @@ use crate::plain::run_plain;
 use limits::MAX_BYTES;
 use std::alloc::Allocator;
 
-/// The text of the forest of a file whose bytes are in memory.
+/// Returns the text of the forest of a file whose bytes are in memory.
 ///
-/// It costs what [`run_plain`] does, and memory for the text. A growth of the text that is refused is
-/// a failed write.
+/// It costs what [`run_plain`] does, and memory for the text. If the text can't grow, the error is a failed write.
 pub fn plain_text<A: Allocator + Copy>(alloc: A, bytes: &[u8]) -> Result<Vec<u8, A>, RunFault>
     ensures text { IfOk result (λ text. IsForestTextOf bytes.now text.items) }
 
-    // A fault is one that reading the bytes meets, or want of memory for a graph's forest or for its text, and no other.
+    // The only errors are those of reading the bytes, and out of memory for the forest or its text.
     ensures fault { IfErr result (IsFaultInMemory bytes.now) }
 
     ensures malformed { length bytes.now ≤ MAX_BYTES → MeansNothing bytes.now

@@ -1,5 +1,5 @@
-//! A list of links that is kept within a bound while its file is read: links that repeat the one before them are dropped,
-//! and when the list is long it becomes its forest, which covers it.
+//! Keeps a list of edges within a bound while its file is read. It drops edges that repeat the one before them, and if
+//! the list is long, reduces it to its forest, which covers it.
 ghost use Rattle.std.specs.Prelude.{◌≡◌, ◌+◌, ◌≤◌, length, None, IfOk, OnOk};
 ghost use Rattle.links.specs.Covers.{IsCoveredBy};
 ghost use Rattle.links.specs.Link.{EndsUpTo, IsAscending};
@@ -15,37 +15,37 @@ use links::repeats::drop_usual_repeats;
 use std::alloc::{AllocError, Allocator};
 use std::mem;
 
-// A file that states no more arcs than these, or no more than so many a vertex, has all of its links kept: it would gain
-// little memory, and lose the time of a second forest.
+// If a file states at most `FEW_ARCS` arcs, or at most `FEW_A_VERTEX` per vertex, all of its edges are kept. Reducing
+// them would save little memory and cost the time of a second forest.
 const FEW_ARCS: usize = 1 << 16;
 
 const FEW_A_VERTEX: usize = 15;
 
-// A list of so many links, and of so many a vertex, becomes its forest. A smaller bound takes less memory, but the forest's
-// links are gone over more often.
+// A list of at least this many edges, and of this many per vertex, is reduced to its forest. A smaller bound takes less
+// memory, but goes over the forest's edges more often.
 const LONG: usize = 1 << 15;
 
 const LONG_A_VERTEX: usize = 10;
 
-// So many links are sifted at once, or more.
+// At least this many edges are sifted at once.
 const BATCH: usize = 1 << 10;
 
-/// Keeps the links of a file within the bound.
+/// Keeps the edges of a file within the bound.
 #[derive(Drop)]
 pub(crate) struct Keeper<'a, C, A: Allocator> {
     crew: &'a C,
-    /// How many links were dropped.
+    /// How many edges were dropped.
     pub dropped: u64,
-    // How many links had come when it was asked last.
+    // How many edges the list had after the last call.
     seen: usize,
-    /// Drops further links before the list is long, where many more come.
+    /// If many more edges come, this drops some of them before the list is long.
     sieve: Option<Sieve<A>>,
-    // Whether a sieve let more than half of the links through: then none is made again.
+    // Whether a sieve let more than half of the edges through. If so, no other is made.
     is_coarse: bool,
 }
 
 impl<'a, C: Crew, A: Allocator + Copy> Keeper<'a, C, A> {
-    /// One that has dropped none.
+    /// Creates a keeper that has dropped no edge.
     pub fn new(crew: &'a C) -> Self
         ensures none { result.dropped ≡ 0 }
         ensures no_sieve { result.sieve ≡ None }
@@ -60,8 +60,8 @@ impl<'a, C: Crew, A: Allocator + Copy> Keeper<'a, C, A> {
     }
 
     #[tactic(auto, using(links::proofs::Covers::same_links_cover))]
-    // Drops links that have come since it was asked last: those that repeat the one before them; after a sieve was made, which
-    // counts the links in front, those that it drops, once some have come.
+    // Drops some of the edges that came after the last call. Without a sieve, these are edges that repeat the one
+    // before them. With a sieve, they are those that it drops, after enough have come for it to sift.
     fn drop_some(&mut self, vertices: u32, links: &mut Vec<Link, A>)
         requires ends { EndsUpTo vertices links.old.items }
         requires few { self.old.dropped + length links.old.items ≤ MAX_ARCS }
@@ -92,7 +92,7 @@ impl<'a, C: Crew, A: Allocator + Copy> Keeper<'a, C, A> {
         }
     }
 
-    // A sieve of the forest that a list became, where one serves.
+    // Makes a sieve of the forest that a list was reduced to, if one is worth its cost.
     fn sieve_of(
         &self,
         alloc: A,
@@ -114,7 +114,7 @@ impl<'a, C: Crew, A: Allocator + Copy> Keeper<'a, C, A> {
         Sieve::of_lightest(alloc, vertices, forest, light)
     }
 
-    // The list becomes its forest.
+    // Reduces the list to its forest.
     fn reduce(
         &mut self,
         vertices: u32,
@@ -168,8 +168,8 @@ impl<'a, C: Crew, A: Allocator + Copy> Keep<A> for Keeper<'a, C, A> {
     }
 }
 
-// How many of a forest's links are light, after so many others were dropped. None if the links to come make no long list
-// again. The more links were seen, the fewer are the heavy ones that join the last vertices.
+// How many of a forest's edges count as light, after this many others were dropped. Returns 0 if the edges still to
+// come don't make a long list again. The more edges were seen, the fewer heavy ones connect the last vertices.
 fn light_links(vertices: u32, arcs: u32, dropped: u64, kept: usize) -> usize
     requires few { dropped + kept ≤ arcs }
     requires few_arcs { arcs ≤ MAX_ARCS }
@@ -182,7 +182,7 @@ fn light_links(vertices: u32, arcs: u32, dropped: u64, kept: usize) -> usize
     kept.saturating_sub((kept as u64 * vertices as u64 / (4 * seen + 1)) as usize)
 }
 
-// How many links of a graph of so many vertices and stated arcs are a long list.
+// How many edges make a long list, in a graph with this many vertices and stated arcs.
 fn long_list(vertices: usize, arcs: usize) -> usize
     requires { vertices ≤ MAX_VERTICES }
 {
@@ -193,7 +193,7 @@ fn long_list(vertices: usize, arcs: usize) -> usize
     }
 }
 
-/// How many links of so many vertices are a long list.
+/// How many edges make a long list, with this many vertices.
 pub(crate) fn many_links(vertices: usize) -> usize
     requires { vertices ≤ MAX_VERTICES }
 {

@@ -1,5 +1,5 @@
-//! A run without workers, from the bytes of a `.gr` file to the text of its minimum spanning forest, by one thread or by
-//! several; and what every run answers: its report, or its fault.
+//! Runs without workers, from the bytes of a `.gr` file to the text of its minimum spanning forest, with one thread or
+//! with several. It also has the report and the errors of every run. In the code an edge is a `Link`.
 //!
 //! ```text
 //!     Source --read_graph_kept--> Graph --keep_forest--> Forest --write_forest--> Sink   run_plain
@@ -8,20 +8,23 @@
 //!     Sources --Parts::add, one after the other--> Parts --Parts::write----------> Sink
 //! ```
 //!
-//! While a file is read, links that repeat the one before them are dropped (`links::repeats`). Of many arcs a long list of links
-//! becomes its forest, which covers it (`keeper`). If many more come, those that its light links make needless aren't kept
-//! (`sieve`). So memory has a bound by the vertices, and all links are counted.
+//! While a file is read, edges that repeat the one before them are dropped (`links::repeats`). If the file has many
+//! arcs, a long list of edges is reduced to its forest, which covers it (`keeper`). If many more come, those that the
+//! forest's light edges make unnecessary aren't kept (`sieve`). So the number of vertices bounds the memory, and all
+//! edges are counted.
 //!
 //! What it promises:
-//! - A run that ends well has read a whole file that means a graph, and written just the text of the graph's minimum
-//!   spanning forest. A malformed file is refused by its first fault; at any other fault a prefix of that text went out.
-//! - No spanning forest weighs less than the total reported, and the text of a forest is written again as it is.
-//! - Several files of one number of vertices give the text of the forest of all their links ([`Parts`]).
+//! - A run that succeeds has read a whole valid file and written exactly the text of its graph's minimum spanning
+//!   forest. If the file is invalid, the run returns its first error. After any other error, a prefix of that text was
+//!   written.
+//! - No spanning forest weighs less than the reported total. If the file is the text of a forest, the run writes the
+//!   same text.
+//! - Several files with the same number of vertices give the text of the forest of all their edges ([`Parts`]).
 //!
-//! Where to start a change: `specs/Files` says what a file gives, `Outcomes` what a run does to its streams, whatever
-//! finds the forest, `PlainRun` what this run finds and reports, `Sieve` which links may go, `Parts` what several files
-//! give; `FaultText` and `ReportText` have the texts. Runs over workers stand on these definitions in `forest_run`. Who reads,
-//! solves and writes, one thread or several, is a `Crew`.
+//! To change what a file describes, start with `specs/Files`. To change what a run does to its streams, whatever finds
+//! the forest, start with `Outcomes`; for what this run finds and reports, `PlainRun`. To change which edges may be
+//! dropped, start with `Sieve`; for several files, `Parts`. The texts are in `FaultText` and `ReportText`. Runs with
+//! workers use the same definitions, in `forest_run`. A `Crew` reads, solves and writes, with one thread or several.
 #![tactic(auto)]
 
 mod crew;

@@ -1,4 +1,4 @@
-//! Several files as parts of one graph: the forest of all their links together.
+//! Several files as parts of one graph: the forest of all their edges together.
 ghost use Rattle.std.specs.Prelude.{◌≡◌, ◌+◌, ◌<◌, ◌≤◌, ◌++◌, ℕ, List, [], length, IfOk};
 ghost use Rattle.links.specs.Covers.{IsCoveredBy};
 ghost use Rattle.links.specs.Link.{EndsUpTo};
@@ -17,12 +17,13 @@ use std::alloc::{AllocError, Allocator, Global};
 use std::marker::Model;
 use std::thread::Threads;
 
-/// How many files may be parts of one graph.
+/// The most files that may be parts of one graph.
 pub const MAX_FILES: u32 = 1 << 16;
 
-/// What is kept of files that were read one after the other, for the forest of all their links together.
+/// What is stored of files that were read one after the other, to find the forest of all their edges together.
 ///
-/// Its memory has a bound by the vertices: when the links kept are many, they become their forest, which covers them.
+/// The number of vertices bounds its memory: if many edges are kept, they are reduced to their forest, which covers
+/// them.
 #[derive(Drop)]
 pub struct Parts<A: Allocator = Global> {
     vertices: u32,
@@ -41,7 +42,8 @@ impl<A: Allocator> Model for Parts<A> {
     ghost invariant = { λ p. AreLawfulParts (record { vertices = p.vertices; kept = p.kept.items; count = p.count; files = p.files }) };
 }
 
-// The links kept of some lists with those of one more; where they are many, their forest.
+// Appends the edges of one more list to those kept of the lists before. If they are many, it reduces them to their
+// forest.
 fn join_lists<C: Crew, A: Allocator + Copy>(
     crew: &C,
     n: u32,
@@ -66,7 +68,7 @@ fn join_lists<C: Crew, A: Allocator + Copy>(
 }
 
 impl<A: Allocator + Copy> Parts<A> {
-    /// No file yet.
+    /// Creates the state before any file.
     pub fn new(alloc: A) -> Self
         ensures none { ArePartsOf [] result }
         ensures files { result.files ≡ 0 }
@@ -80,30 +82,30 @@ impl<A: Allocator + Copy> Parts<A> {
         }
     }
 
-    /// How many files were added.
+    /// The number of files that were added.
     pub fn files(&self) -> u32
         ensures { result ≡ self.now.files }
     {
         self.files
     }
 
-    /// Reads one more file of at most [`limits::MAX_BYTES`] bytes, whose arcs come to those of the files before it.
+    /// Reads one more file of at most [`limits::MAX_BYTES`] bytes and adds its arcs to those of the files before it.
     ///
-    /// It has to name their number of vertices. At a fault all is dropped. It takes the time and the memory of
-    /// [`run_plain`](crate::run_plain), but for the writing, and memory for the links kept of the files before and once more
-    /// for those of this file.
+    /// The file must have the same number of vertices as they have. After an error nothing is left. It takes the time
+    /// and the memory of [`run_plain`](crate::run_plain), except for writing. In addition it takes memory for the edges
+    /// kept of the files before, and once more for those of this file.
     pub fn add<C: Crew, S: Source>(self, crew: &C, source: &mut S) -> Result<Self, PartFault>
         requires ready { C.ready }
         requires source { S.can_read source.old }
         requires room { self.files < MAX_FILES }
 
-        // The source was read to its end and its graph became the last of those that the parts stand for, or the fault says
-        // why it didn't.
+        // If it succeeds, it read the source to its end and added its graph after those of the files before. Otherwise
+        // the error says why.
         ensures added { Adds self result (S.state source.old) (S.state source.new) }
         ensures files { IfOk result (λ parts. parts.files ≡ self.files + 1) }
 
-        // So a file that means nothing is refused by its first fault, where no read fails; one that means a graph is
-        // refused for its number of vertices alone.
+        // So if no read fails, an invalid file gives its first error, and a valid one is rejected only for its number
+        // of vertices. Both may run out of memory.
         ensures malformed { RefusesFile result (S.state source.old) (S.state source.new) }
         ensures lawful { AcceptsFile result (S.state source.old) (S.state source.new) }
     {
@@ -139,7 +141,7 @@ impl<A: Allocator + Copy> Parts<A> {
         }
     }
 
-    // Writes the text of the forest of all links, by whoever solves and writes.
+    // Writes the text of the forest of all edges, with this crew.
     fn write_by<C: Crew, W: Sink>(self, crew: &C, sink: &mut W) -> Result<Report, RunFault>
         requires ready { C.ready }
         requires sink { W.can_write sink.old }
@@ -163,19 +165,19 @@ impl<A: Allocator + Copy> Parts<A> {
         }
     }
 
-    /// Writes the text of the forest of all links of the files, as [`run_plain`](crate::run_plain) writes that of one file's
-    /// links. Without a file it writes that of the graph of no vertices.
+    /// Writes the text of the forest of all edges of the files, as [`run_plain`](crate::run_plain) does for one file.
+    /// Without a file it writes the text of the graph without vertices.
     pub fn write<W: Sink>(self, sink: &mut W) -> Result<Report, RunFault>
         requires sink { W.can_write sink.old }
 
-        // Exactly the text of the forest of the files' links went out, one file's after the other's, or a part of it, or
-        // nothing for want of memory. The links of all files are counted.
+        // It writes exactly the text of the forest of the files' edges, taken in the order of the files, or a part of
+        // it. If there is no memory, it writes nothing. The edges of all files are counted.
         ensures { WritesParts self result (W.state sink.old) (W.state sink.new) (W.unflushed sink.new) (W.can_write sink.new) }
     {
         self.write_by(&OneThread, sink)
     }
 
-    /// Writes it by up to `threads` threads, as [`run_threads`](crate::run_threads) does.
+    /// Does the same with up to `threads` threads, as [`run_threads`](crate::run_threads) does.
     pub fn write_threads<R: Threads + Sync, W: Sink>(
         self,
         rt: &R,
@@ -184,7 +186,7 @@ impl<A: Allocator + Copy> Parts<A> {
     ) -> Result<Report, RunFault>
         requires sink { W.can_write sink.old }
 
-        // All that `write` promises.
+        // The same contract as `write`.
         ensures { WritesParts self result (W.state sink.old) (W.state sink.new) (W.unflushed sink.new) (W.can_write sink.new) }
     {
         self.write_by(&ManyThreads { rt, threads }, sink)

@@ -1,4 +1,4 @@
-//! A run by one thread or by several, from the bytes of a file to the text of its forest.
+//! Runs with one thread or several, from the bytes of a file to the text of its forest.
 ghost use Rattle.std.specs.Prelude.{◌≡◌};
 ghost use Rattle.plain_run.specs.Outcomes.{known};
 ghost use Rattle.plain_run.specs.PlainRun.{RunsPlain, counted_report};
@@ -13,7 +13,7 @@ use link_key::Forest;
 use std::alloc::Allocator;
 use std::thread::Threads;
 
-/// What is reported of a graph of so many vertices and links, and of its forest.
+/// The report for a graph with this many vertices and edges, and for its forest.
 pub(crate) fn report_of<A: Allocator>(vertices: u32, links: u64, forest: &Forest<A>) -> Report
     ensures { result ≡ counted_report vertices links (sum_of_weights forest.now) }
 {
@@ -30,7 +30,7 @@ pub(crate) fn report_of<A: Allocator>(vertices: u32, links: u64, forest: &Forest
     }
 }
 
-// Runs by whoever reads, solves and writes.
+// Runs with this crew.
 fn run<C: Crew, S: Source, W: Sink, A: Allocator + Copy>(
     crew: &C,
     alloc: A,
@@ -62,16 +62,20 @@ fn run<C: Crew, S: Source, W: Sink, A: Allocator + Copy>(
     }
 }
 
-/// Reads a graph of at most [`limits::MAX_BYTES`] bytes, finds its minimum spanning forest by one thread, and writes the
-/// forest's text.
+/// Reads a graph of at most [`limits::MAX_BYTES`] bytes, finds its minimum spanning forest with one thread, and writes
+/// the forest's text.
 ///
-/// No spanning forest of the graph weighs less than the total that it reports. The text of a forest is written again as
-/// it is, with the same total. The forest is whole before the first byte is written. For b bytes, m links and n vertices
-/// it takes O(b + m log m + n log n) time, and memory for one list of the links, in which the forest is found, and what
-/// [`link_key::keep_forest`] takes beside it. Links that repeat the one before them are dropped as they come, as of edges that
-/// stand in both directions side by side. If the file states more than 65,536 arcs, and more than 15 a vertex, a list of 10
-/// links a vertex, and of 32,768 or more, becomes its forest before more are read. If a further such list would come, heavy
-/// links whose ends light ones of the forest join are dropped as they come, which takes 4 bytes a vertex.
+/// No spanning forest of the graph weighs less than the reported total. If the file is the text of a forest, the run
+/// writes the same text and reports its total. The whole forest is found before the first byte is written.
+///
+/// For b bytes, m edges and n vertices it takes O(b + m log m + n log n) time. It takes memory for one list of the
+/// edges, in which the forest is found, and the additional memory of [`link_key::keep_forest`]. Edges that repeat the
+/// one before them are dropped as they come, for example if both directions of an edge are in adjacent lines.
+///
+/// If the file states more than 65,536 arcs, and more than 15 per vertex, long lists are reduced. A list of at least 10
+/// edges per vertex and at least 32,768 is reduced to its forest before more edges are read. If the edges to come could
+/// make another such list, heavy edges whose endpoints light edges of the forest already connect are dropped as they
+/// come. This takes 4 bytes per vertex.
 pub fn run_plain<S: Source, W: Sink, A: Allocator + Copy>(
     alloc: A,
     source: &mut S,
@@ -80,20 +84,20 @@ pub fn run_plain<S: Source, W: Sink, A: Allocator + Copy>(
     requires source { S.can_read source.old }
     requires sink { W.can_write sink.old }
 
-    // The source was read to its end and exactly the forest's text went out, or the fault says what was done. So a file that
-    // means nothing is refused by its first fault.
+    // If it succeeds, it read the source to its end and wrote exactly the forest's text. Otherwise the error says what
+    // was done. So an invalid file gives its first error.
     ensures { RunsPlain result (known S.state W.state source.old sink.old) (known S.state W.state source.new sink.new)
         (W.unflushed sink.new) (W.can_write sink.new) }
 {
     run(&OneThread, alloc, source, sink)
 }
 
-/// Runs as [`run_plain`] does, by up to `threads` threads.
+/// Does what [`run_plain`] does, with up to `threads` threads.
 ///
-/// Each step of the run takes as many threads as its work is worth, and goes on with fewer where one can't be made. What
-/// goes out and what is answered is the same for any number, but that the system may refuse memory. It takes the memory of
-/// `run_plain`, and what [`gr_text::read_graph_kept_par`], [`link_key::keep_forest_par`] and [`gr_text::write_forest_par`] take
-/// for their threads.
+/// Each step of the run takes as many threads as its work is worth, and continues with fewer if one can't be started.
+/// The output and the result are the same for any number of threads, unless the system runs out of memory. It takes the
+/// memory of `run_plain`, and what [`gr_text::read_graph_kept_par`], [`link_key::keep_forest_par`] and
+/// [`gr_text::write_forest_par`] take for their threads.
 pub fn run_threads<R: Threads + Sync, S: Source, W: Sink, A: Allocator + Copy>(
     rt: &R,
     threads: usize,
@@ -104,7 +108,7 @@ pub fn run_threads<R: Threads + Sync, S: Source, W: Sink, A: Allocator + Copy>(
     requires source { S.can_read source.old }
     requires sink { W.can_write sink.old }
 
-    // All that `run_plain` promises.
+    // The same contract as `run_plain`.
     ensures { RunsPlain result (known S.state W.state source.old sink.old) (known S.state W.state source.new sink.new)
         (W.unflushed sink.new) (W.can_write sink.new) }
 {

@@ -1,4 +1,4 @@
-//! What a run counts of itself.
+//! What a run counts about itself.
 ghost use Rattle.std.specs.Prelude.{◌≡◌, ◌≤◌, length};
 ghost use Rattle.plain_run.specs.ReportText.{report_text};
 
@@ -6,30 +6,30 @@ use crate::spelling::{LINE_ROOM, push_count, push_signed};
 use arrayvec::ArrayString;
 use std::fmt;
 
-/// What a run did, in counts; it is shown as one line of names and numbers.
+/// The counts of a run. It is shown as one line of names and numbers.
 ///
-/// In a run over workers each ask brought an answer or closed a port: `asked` is `answered + closed`. Each shard of each
-/// round was answered or scanned alone: `answered + alone` is `(rounds + 1) * shards`. A run without workers has no rounds
-/// and cuts nothing.
+/// In a run with workers, each ask either brought an answer or closed a port, so `asked` is `answered + closed`. Each
+/// shard was answered or scanned without a worker in each round, so `answered + alone` is `(rounds + 1) * shards`. A
+/// run without workers has no rounds or shards.
 #[derive(Clone, Copy, Debug, PartialEq, Eq)]
 pub struct Report {
-    /// The vertices of the graph.
+    /// The number of vertices of the graph.
     pub vertices: u32,
-    /// The links of the list, repeats counted.
+    /// The number of edges in the list, counting repeats.
     pub links: u64,
-    /// The rounds that took links; one more came, which took none.
+    /// The number of rounds that took edges. One more round took none.
     pub rounds: u32,
-    /// The shards of the cut.
+    /// The number of shards.
     pub shards: u32,
     /// How often open ports were asked.
     pub asked: u64,
-    /// The answers of ports that were taken.
+    /// How many answers of ports were accepted.
     pub answered: u64,
-    /// The shards that were scanned without a port.
+    /// How many shards were scanned without a port.
     pub alone: u64,
-    /// The ports that were closed in the run.
+    /// How many ports were closed during the run.
     pub closed: u64,
-    /// What the forest weighs: the sum of the weights of its links.
+    /// The total weight of the forest's edges.
     pub total: i128,
 }
 
@@ -44,7 +44,7 @@ impl fmt::Display for Report {
 }
 
 impl Report {
-    /// The text that it is shown as, put together on the stack.
+    /// The text of the report, built on the stack.
     pub fn text(&self) -> ArrayString<LINE_ROOM>
         ensures text { result.bytes ≡ report_text self.now }
         ensures short { length result.bytes ≤ 300 }

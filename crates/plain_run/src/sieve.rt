@@ -1,4 +1,5 @@
-//! A sieve of links: what of a list that joins many vertices by light links lets a heavier link be dropped as it comes.
+//! A sieve of edges. If the light edges of a list connect many vertices, a heavier edge can often be dropped as it
+//! comes.
 ghost use Rattle.std.specs.Prelude.{◌≡◌, ◌≤◌, ◌++◌, ◌-◌, take, drop, length, slice_index, IfOk, IfSome};
 ghost use Rattle.std.specs.List.{filter};
 ghost use Rattle.links.specs.Covers.{IsCoveredBy};
@@ -11,18 +12,18 @@ use link_key::{Labels, Link, components_of};
 use links::sorting::wide;
 use std::alloc::{AllocError, Allocator};
 
-/// The components that the light links of a list join, and the heaviest of these links.
+/// The components that the light edges of a list form, and the heaviest of these edges.
 #[derive(Drop)]
 pub(crate) struct Sieve<A: Allocator> {
     labels: Labels<A>,
     heaviest: Link,
-    /// How many links of the list it has let through: those in front.
+    /// How many edges, from the start of the list, it has let through.
     pub passed: usize,
 }
 
 impl<A: Allocator + Copy> Sieve<A> {
-    /// One of a forest's lightest links, so many; none if there are none. It takes the memory of their components, and 4
-    /// bytes a vertex stay.
+    /// Makes a sieve of the `count` lightest edges of a forest, or none if there are none. It takes the memory to find
+    /// their components, of which 4 bytes per vertex stay allocated.
     pub fn of_lightest(
         alloc: A,
         n: u32,
@@ -53,15 +54,15 @@ impl<A: Allocator + Copy> Sieve<A> {
 }
 
 impl<A: Allocator> Sieve<A> {
-    /// How many vertices have labels.
+    /// The number of vertices that have labels.
     pub fn vertices(&self) -> usize
         ensures { result ≡ length self.now.labels }
     {
         self.labels.as_slice().len()
     }
 
-    /// Drops those of the links behind the ones it let through that are heavier than the light ones and have both ends in
-    /// one component.
+    /// Looks at the edges after those that it has let through. It drops those that are heavier than the light ones and
+    /// have both endpoints in one component.
     pub fn sift<B: Allocator>(&mut self, links: &mut Vec<Link, B>)
         requires ends { EndsUpTo (length self.old.labels) links.old.items }
         requires known { BeginsSo (Passes self.old) links.old.items }
@@ -76,8 +77,8 @@ impl<A: Allocator> Sieve<A> {
     }
 }
 
-// Puts the links from a place on that stay behind the first ones, in their order. Returns how many they are with these. It
-// takes no branch on the labels, so that those of the next links are looked up meanwhile.
+// Moves the edges from index `from` on that stay to directly after the first ones, in order, and returns how many edges
+// there are then. It has no branch on the labels, so the processor looks up those of the next edges meanwhile.
 fn put_staying_behind(links: &mut [Link], from: usize, labels: &[u32], heaviest: &Link) -> usize
     requires in_range { from ≤ length links.old }
     ensures in_range { result ≤ length links.new }
@@ -92,7 +93,7 @@ fn put_staying_behind(links: &mut [Link], from: usize, labels: &[u32], heaviest:
     kept
 }
 
-// Whether the link is no heavier than the heaviest light one, or its ends lie in different components.
+// Whether the edge is at most as heavy as the heaviest light one, or its endpoints are in different components.
 #[inline]
 fn stays(labels: &[u32], heaviest: &Link, link: &Link) -> bool
     ensures { result ≡ stays labels.now heaviest.now link.now }
@@ -101,7 +102,7 @@ fn stays(labels: &[u32], heaviest: &Link, link: &Link) -> bool
     !(is_within & (wide(heaviest) < wide(link)))
 }
 
-// The label of a vertex; 0 if it has none.
+// The label of a vertex, or 0 if it has none.
 #[inline]
 fn label(labels: &[u32], v: u32) -> u32
     requires { 1 ≤ v }

@@ -1,4 +1,4 @@
-//! The texts of reports and faults, put together in room of a fixed size.
+//! Builds the texts of reports and errors in buffers of a fixed size.
 ghost use Rattle.std.specs.Prelude.{◌≡◌, ◌+◌, ◌≤◌, ◌++◌, length, decimal};
 ghost use Rattle.std.specs.Fmt.{signed_decimal};
 ghost use Rattle.arrayvec.specs.ArrayString.{array_string_len};
@@ -6,7 +6,7 @@ ghost use Rattle.arrayvec.specs.ArrayString.{array_string_len};
 use arrayvec::ArrayString;
 use itoa::Buffer;
 
-/// The room for a text. A report has at most 241 bytes, and a fault fewer.
+/// The size of the buffer for a text. A report has at most 241 bytes, and an error fewer.
 pub const LINE_ROOM: usize = 320;
 
 /// Appends a name and a number, which has at most twenty digits.
@@ -20,7 +20,7 @@ pub(crate) fn push_count(text: &mut ArrayString<LINE_ROOM>, name: &str, count: u
     text.push_str(digits.format(count));
 }
 
-/// Appends a name and a number with its sign, which has at most forty characters.
+/// Appends a name and a signed number, which has at most forty characters.
 pub(crate) fn push_signed(text: &mut ArrayString<LINE_ROOM>, name: &str, number: i128)
     requires { array_string_len text.old + length name.now + 40 ≤ LINE_ROOM }
     ensures text { text.new.bytes ≡ text.old.bytes ++ name.now ++ signed_decimal number }

@@ -1,4 +1,5 @@
--- What a parse of the program's words gives: what each word sets, and numbers that passed the ranges of their arguments.
+-- What a parse of the program's arguments gives: what each argument sets, and numbers that are in the ranges of their
+-- options.
 use Rattle.std.proofs.Common.{◌≡◌, ◌≢◌, ◌⊎◌, ◌∙◌, ◌<◌, ℕ, true, false, List, [], ◌∷◌, length, Option, Some, None, Result, refl, sym, ap, subst, inl, inr, arith, codes, slice_index, ◌||◌}
 use Rattle.std.specs.Prelude.{Bool, map, pos, is_some, option_map, unwrap_or}
 use Rattle.std.specs.List.{All, slice_index_or}
@@ -35,7 +36,7 @@ use Rattle.clap.specs.Kinds.{Kinds, IsAmong, or_else}
 use Rattle.clap.specs.declared.error.kind.ErrorKind.{ErrorKind}
 use Rattle.clap.specs.declared.error.kind.ErrorKind.TheVariants.{OutOfMemory}
 
--- an argument takes what the caller's does
+-- an argument takes what the caller's argument takes
 takes_same : (name : List ℕ) (low high : ℕ) (a b : Arg) → SameRules a b → TakesFrom name low high a → TakesFrom name low high b
 takes_same name low high a b same takes named = same.parser _ (takes (ap (λ x. x.now) (sym same.id) ∙ named))
 
@@ -65,7 +66,7 @@ built_takes c m p name low high takes no_help no_version j x in_range at same =
           absurd (elim auto [ inl h ↦ no_help (sym named ∙ h) | inr h ↦ no_version (sym named ∙ h) ])
     ]
 
--- the values of an entry that is no group's
+-- the values of an entry that isn't a group's
 values_of : (c : Command) (name : List ℕ) (x : MatchedArg) (e : Entry) → groups_of c ≡ [] → ¬ (name ≡ []) → e.1 ≡ x → e.0.now ≡ name → EntryPasses c e
     → All (λ v. PassesArg c name v.now) x.vals.items × HasReading c name x.reading
 values_of c name x e no_groups named same_x key pass =
@@ -144,7 +145,7 @@ threads_hold c m own p =
     (apart (codes "threads") (codes "help") (λ (e : 116 ≡ 104). absurd (omega arith)))
     (apart (codes "threads") (codes "version") (λ (e : 116 ≡ 118). absurd (omega arith)))
 
--- ---- what the words say
+-- ---- what the arguments mean
 
 program_simple : is_simple program ≡ true
 unfolding clap_on_literals
@@ -159,34 +160,34 @@ rows_are : (app : App) (words : List (List ℕ)) (m : ArgMatches) → app ≡ pr
     → rows_of (found_of m) ≡ matches_of program words
 rows_are app words m is has = (has (ap is_simple is ∙ program_simple)).0 ∙ ap (λ (a : App). matches_of a words) is
 
--- what a getter reads under a name is what the words give there
+-- what a getter reads under a name is what the arguments give there
 pub given_is : (app : App) (words : List (List ℕ)) (m : ArgMatches) (name : List ℕ) → app ≡ program → HasMatchesOf app words m
     → one_text (found_of m) name ≡ given words name
 given_is app words m name is has = one_text-rows (found_of m) name ∙ ap (one_of name) (rows_are app words m is has)
 
--- the first text under a name is what the words say there
+-- the first text under a name is what the arguments say there
 pub said_is : (app : App) (words : List (List ℕ)) (m : ArgMatches) (name : List ℕ) → app ≡ program → HasMatchesOf app words m
     → first_value (found_of m) name ≡ said words name
 said_is app words m name is has = first_value-rows (found_of m) name ∙ ap (first_of name) (rows_are app words m is has)
 
--- a parse fails as the words say
+-- a parse fails as the arguments say
 pub fails_by_words : {T : Type 0} (app : App) (words : List (List ℕ)) (r : Result T Error) → app ≡ program
     → (is_simple_and_free app ≡ true → FailsBy (fault_of app words) r) → FailsBy (fault_of program words) r
 fails_by_words {T} app words r is fails = subst (λ (a : App). FailsBy (fault_of a words) r) is (fails (ap is_simple_and_free is ∙ program_free))
 
--- what is there is there under a function
+-- a function on the contents of an option doesn't change whether there are any
 pub is_some-map : {X Y : Type 0} (f : X → Y) (o : Option X) → is_some o ≡ is_some (option_map f o)
 is_some-map f None = refl
 is_some-map f (Some x) = refl
 
--- the texts that a getter reads for files are the names that the words give
+-- the texts that a getter reads for files are the names that the arguments give
 pub names_are : (app : App) (words : List (List ℕ)) (m : ArgMatches) → app ≡ program → HasMatchesOf app words m
     → unwrap_or (option_map raw_values (matched_of (found_of m) (codes "file"))) [] ≡ names_given words
 names_are app words m is has =
     ap (λ (names : Option (List (List ℕ))). unwrap_or names [])
     (raw_values-rows (found_of m) (codes "file") ∙ ap (all_of (codes "file")) (rows_are app words m is has))
 
--- words that are refused one by one are refused
+-- arguments that are invalid one by one are invalid
 among_first : (kind : ErrorKind) (kinds others : Kinds) → IsAmong kind kinds → IsAmong kind (or_else kinds others)
 among_first kind [] others among = absurd among
 among_first kind (k ∷ kinds) others among = among
@@ -197,7 +198,7 @@ refused_first words (Usage error) among =
     among_first (kind_of error) (fault_of program words) (wrong_together (is_some (said words (codes "threads"))) (length (files_named words)) (is_set words (codes "plain"))) among
 refused_first words Memory among = tt
 
--- words that are right one by one are refused for what is told of them together
+-- arguments that are each valid alone are rejected for what is wrong with them together
 pub told_is : {X : Type 0} (words : List (List ℕ)) (chosen : Options) (threads : Bool) (files : ℕ) (told : Option (ErrorKind × X)) → fault_of program words ≡ []
     → threads ≡ is_some (said words (codes "threads")) → map (option_map string_bytes) chosen.files.items ≡ files_named words
     → chosen.plain ≡ is_set words (codes "plain") → files ≡ length chosen.files.items
@@ -208,7 +209,7 @@ told_is words chosen threads files told none threads_are files_are plain_is long
     rw (threads_are, count, plain_is) refl in
     ap (λ (k : Kinds). or_else k (wrong_together (is_some (said words (codes "threads"))) (length (files_named words)) (is_set words (codes "plain")))) none ∙ sym (is ∙ same)
 
--- so an error of that kind is among their refusals
+-- so an error of that kind is among the kinds of their errors
 pub refused_together : (words : List (List ℕ)) (kind : ErrorKind) (fault : OptionsFault) → refusals words ≡ kind ∷ []
     → IsUsage fault (λ error. kind_of error ≡ kind) → IsUsage fault (λ error. IsAmong (kind_of error) (refusals words))
 refused_together words kind (Usage error) are is = subst (IsAmong (kind_of error)) (sym are) (inl is)

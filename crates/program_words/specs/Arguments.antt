@@ -1,4 +1,4 @@
--- The words of the command line: what the program takes, and what each word sets.
+-- The arguments of the command line: which ones the program accepts, and what each sets.
 use Rattle.std.specs.Prelude.{◌≡◌, ◌≢◌, ◌⊎◌, ℕ, ⊤, nat_lt, pos, true, false, not, ◌&&◌, ◌||◌, is_some, if◌then◌else◌, List, [], ◌∷◌, length, map, Option, Some, None, unwrap_or, Bool, Result, Ok, Err, codes}
 use Rattle.std.specs.List.{All}
 use Rattle.std.specs.Str.{bytes_eq}
@@ -20,9 +20,9 @@ use Rattle.program_words.specs.declared.chosen.TheConstants.{MAX_THREADS}
 use Rattle.program_words.specs.declared.chosen.OptionsFault.{OptionsFault}
 use Rattle.program_words.specs.declared.chosen.OptionsFault.TheVariants.{Usage, Memory}
 
--- ---- what the program takes
+-- ---- what the program accepts
 
--- an option with a whole number from low to high
+-- an option with an integer from low to high
 abbrev pub number_rule : List ℕ → ℕ → ℕ → Rule
 number_rule name low high = record (new_rule name) {
   long = Some name;
@@ -30,19 +30,19 @@ number_rule name low high = record (new_rule name) {
   parser = Some (vp.Signed (pos low) (pos high));
 }
 
--- the same, with the number that is taken where it isn't there
+-- the same, with the number that is taken if the option is absent
 abbrev pub default_rule : List ℕ → List ℕ → ℕ → ℕ → Rule
 default_rule name default low high = record (number_rule name low high) { defaults = default ∷ [] }
 
--- an option that is there or not
+-- an option that is present or absent
 abbrev pub flag_rule : List ℕ → Rule
 flag_rule name = record (new_rule name) { long = Some name; action = Some SetTrue }
 
--- words that are no option: each of them is kept
+-- arguments that aren't options; all of them are stored
 abbrev pub words_rule : List ℕ → Rule
 words_rule name = record (new_rule name) { value_names = 1; action = Some Append }
 
--- a command that tells its version
+-- a command that can print its version
 abbrev pub with_version : App → App
 with_version a = record a { top = record a.top { has_version = true } }
 
@@ -63,29 +63,28 @@ program =
     (flag_rule (codes "progress")))
     (words_rule (codes "file"))
 
--- ---- what words say to it, the program's name first
+-- ---- what the arguments mean to it; the first one is the program's name
 
--- what the words give under a name, or else its default
+-- what the arguments give under a name, or else its default
 abbrev pub given : List (List ℕ) → List ℕ → Option (List ℕ)
 given words name = one_of name (matches_of program words)
 
--- the first text under a name
 abbrev pub said : List (List ℕ) → List ℕ → Option (List ℕ)
 said words name = first_of name (matches_of program words)
 
--- the file of a name: `-` is none, but the input
+-- the file with a name; `-` isn't a file but standard input
 abbrev pub file_of : List ℕ → Option (List ℕ)
 file_of name = if bytes_eq name (codes "-") then None else Some name
 
--- the names of files that the words give, in their order
+-- the names of files in the arguments, in their order
 abbrev pub names_given : List (List ℕ) → List (List ℕ)
 names_given words = unwrap_or (all_of (codes "file") (matches_of program words)) []
 
--- the files that they name
+-- the files with these names
 abbrev pub files_named : List (List ℕ) → List (Option (List ℕ))
 files_named words = map file_of (names_given words)
 
--- the number that a text writes, or this one where there is no text
+-- the number that a text writes, or the default if there is no text
 abbrev pub number_or : Option (List ℕ) → ℕ → ℕ
 number_or None default = default
 number_or (Some text) default = digits_value 10 (without_leading_plus text)
@@ -95,50 +94,51 @@ abbrev pub is_true : Option (List ℕ) → Bool
 is_true None = false
 is_true (Some text) = bytes_eq text (codes "true")
 
--- whether the words set the flag of this name
+-- whether the arguments set the flag with this name
 abbrev pub is_set : List (List ℕ) → List ℕ → Bool
 is_set words name = is_true (said words name)
 
--- what is wrong with words that are right one by one, by whether they say how many threads there are, how many files they
--- name, and whether `--plain` is there: it is missing where threads or several files need it, or there are too many files
+-- What is wrong with arguments that are each valid alone, given whether they set the number of threads, how many files
+-- they name, and whether `--plain` is there. Either threads or several files lack `--plain`, or there are too many
+-- files.
 abbrev pub wrong_together : Bool → ℕ → Bool → Kinds
 wrong_together threads files plain = if (threads || nat_lt 1 files) && not plain then MissingRequiredArgument ∷ []
     else (if nat_lt MAX_FILES files then TooManyValues ∷ [] else [])
 
--- what is wrong with the words, or that they ask for the help: nothing where the program takes them
+-- what is wrong with the arguments, or that they ask for the help; nothing if the program accepts them
 abbrev pub refusals : List (List ℕ) → Kinds
 refusals words = or_else (fault_of program words)
     (wrong_together (is_some (said words (codes "threads"))) (length (files_named words)) (is_set words (codes "plain")))
 
--- the kind of what is told, if anything
+-- the kind of the error, if there is one
 abbrev pub kinds_of : {X : Type 0} → Option (ErrorKind × X) → Kinds
 kinds_of None = []
 kinds_of (Some told) = told.0 ∷ []
 
--- ---- why words ask for nothing
+-- ---- why arguments can't be carried out
 
--- what the program makes of an error of its words: want of memory is its own case, and every other stays as it is
+-- what the program makes of clap's error: out of memory is a case of its own, and every other error stays as it is
 abbrev pub IsCauseOf : Error → OptionsFault → Type 0
 IsCauseOf error (Usage same) = (kind_of error ≢ OutOfMemory) × (same ≡ error)
 IsCauseOf error Memory = kind_of error ≡ OutOfMemory
 
--- P of the error of words, where the fault has one
+-- P holds for the usage error, if the fault is one
 abbrev pub IsUsage : OptionsFault → (Error → Type 0) → Type 0
 IsUsage (Usage error) P = P error
 IsUsage Memory P = ⊤
 
--- P of the error of words that aren't taken
+-- P holds for the usage error, if the result is one
 abbrev pub OnUsage : {T : Type 0} → Result T OptionsFault → (Error → Type 0) → Type 0
 OnUsage (Ok taken) P = ⊤
 OnUsage (Err fault) P = IsUsage fault P
 
--- words of this kind are wrong: they ask neither for the help nor for the version
+-- an error of this kind is a mistake: the arguments ask neither for the help nor for the version
 abbrev pub IsMistake : ErrorKind → Type 0
 IsMistake kind = (kind ≢ DisplayHelp) × (kind ≢ DisplayVersion)
 
 -- ---- the numbers
 
--- an argument of this name takes whole numbers from low to high
+-- an argument with this name takes integers from low to high
 abbrev pub TakesFrom : List ℕ → ℕ → ℕ → Arg → Type 0
 TakesFrom name low high a = a.id.now ≡ name → a.value_parser ≡ Some (vp.Signed (pos low) (pos high))
 
@@ -150,7 +150,7 @@ pub record IsOwnArg (a : Arg) : Type 0 where
   pub shards : TakesFrom (codes "shards") 1 MAX_SHARDS a
   pub threads : TakesFrom (codes "threads") 1 MAX_THREADS a
 
--- a command with such arguments alone
+-- a command with only such arguments
 pub record IsOwn (c : Command) : Type 0 where
   pub plain : IsPlain c
   pub local : (out-Command c).has_globals ≡ false
@@ -158,7 +158,7 @@ pub record IsOwn (c : Command) : Type 0 where
   pub shards : All (TakesFrom (codes "shards") 1 MAX_SHARDS) (args_of c)
   pub threads : All (TakesFrom (codes "threads") 1 MAX_THREADS) (args_of c)
 
--- a name of an argument that takes no number
+-- the name of an argument that takes no number
 abbrev pub IsOtherName : List ℕ → Type 0
 IsOtherName name = ¬ (name ≡ codes "workers") × ¬ (name ≡ codes "shards") × ¬ (name ≡ codes "threads")
 

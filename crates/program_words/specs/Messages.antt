@@ -1,4 +1,4 @@
--- The lines that say what a run did, or what went wrong, and what it is to write them.
+-- The lines that say what a run did or what went wrong, and the effect of writing them.
 use Rattle.std.specs.Prelude.{◌≡◌, ℕ, ◌/◌, ◌%◌, ◌⊎◌, if◌then◌else◌, List, [], ◌∷◌, ◌++◌, codes, decimal}
 use Rattle.std.specs.Char.{digit_char, encode_utf8, is_control}
 use Rattle.std.specs.List.{flat_map}
@@ -10,7 +10,7 @@ use Rattle.plain_run.specs.declared.fault.PartFault.{PartFault}
 use Rattle.plain_run.specs.declared.fault.RunFault.{RunFault}
 use Rattle.plain_run.specs.declared.report.Report.{Report}
 
--- all of a text was written, or a first part of it and then came a setback
+-- the whole text was written, or a first part of it before the sink failed
 abbrev pub IsWritten : List ℕ → SinkState → SinkState → Type 0
 IsWritten text before after = Took 0 text before after ⊎ ((written : ℕ) × WentOut written text before after)
 
@@ -18,31 +18,30 @@ IsWritten text before after = Took 0 text before after ⊎ ((written : ℕ) × W
 abbrev pub IsPartWritten : List ℕ → List ℕ → SinkState → SinkState → Type 0
 IsPartWritten text left before after = (gone : List ℕ) × Took 0 gone before after × (text ≡ gone ++ left)
 
--- a report as a line
 abbrev pub report_line : Report → List ℕ
 report_line report = report_text report ++ 10 ∷ []
 
--- how many million bytes were read, and how the line ends: at CR the next line is written over it
+-- how many million bytes were read, and how the line ends; after a CR the next line is written over it
 abbrev pub progress_line : ℕ → List ℕ → List ℕ
 progress_line read end = codes "read " ++ decimal (read / 1000000) ++ codes " MB" ++ end
 
--- a message as a line, behind the program's name
+-- a message as a line, after the program's name
 abbrev pub message_line : List ℕ → List ℕ
 message_line message = codes "boruvka: " ++ message ++ 10 ∷ []
 
--- the line of a word that is no text
+-- the line for an argument that isn't UTF-8
 abbrev pub no_text_line : List ℕ
 no_text_line = message_line (codes "a word is not UTF-8")
 
--- the line of a fault
+-- the line for an error
 abbrev pub fault_line : RunFault → List ℕ
 fault_line why = message_line (fault_text why)
 
--- a byte as `\x` and two hex digits
 abbrev pub hex_of : ℕ → List ℕ
 hex_of byte = codes "\\x" ++ digit_char (byte / 16) ∷ digit_char (byte % 16) ∷ []
 
--- a character in UTF-8, with its bytes in hex digits if it is a control character: U+0000 to U+001F, and U+007F to U+009F
+-- a character in UTF-8, with its bytes in hex digits if it is a control character: U+0000 to U+001F, and U+007F to
+-- U+009F
 abbrev pub escaped_char : ℕ → List ℕ
 escaped_char c = if is_control c then flat_map hex_of (encode_utf8 c) else encode_utf8 c
 
@@ -50,10 +49,10 @@ escaped_char c = if is_control c then flat_map hex_of (encode_utf8 c) else encod
 abbrev pub escaped : List ℕ → List ℕ
 escaped text = flat_map escaped_char (chars text)
 
--- the line of a file of this name that can't be opened
+-- the line for a file with this name that can't be opened
 abbrev pub unopened_line : List ℕ → List ℕ
 unopened_line name = message_line (codes "cannot open " ++ escaped name)
 
--- the line of a file of this name that isn't a part
+-- the line for a file with this name that can't be part of the graph
 abbrev pub part_line : List ℕ → PartFault → List ℕ
 part_line name why = message_line (escaped name ++ codes ": " ++ part_text why)

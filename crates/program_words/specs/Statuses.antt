@@ -1,4 +1,4 @@
--- The status of a fault.
+-- The exit status of an error.
 use Rattle.std.specs.Prelude.{ℕ}
 use Rattle.links.specs.declared.cuts.CutFault.TheVariants as cut
 use Rattle.gr_text.specs.declared.faults.ReadFault.TheVariants as read
@@ -7,7 +7,7 @@ use Rattle.plain_run.specs.declared.fault.PartFault.TheVariants as part
 use Rattle.plain_run.specs.declared.fault.RunFault.{RunFault}
 use Rattle.plain_run.specs.declared.fault.RunFault.TheVariants as fault
 
--- the status of a fault: 1 the file's, or that it can't be cut so, 3 a stream's, 4 want of memory, 5 the workers'
+-- 1 for the file, or a split that isn't allowed; 3 for a stream; 4 for out of memory; 5 for the workers' answers
 abbrev pub status_for : RunFault → ℕ
 status_for (fault.Read (read.Gr f)) = 1
 status_for (fault.Read read.TooLong) = 1
@@ -20,7 +20,7 @@ status_for (fault.Rounds round) = 5
 status_for (fault.Missed link) = 5
 status_for fault.Memory = 4
 
--- the status of a file that isn't a part: its own fault's, or 1 for another number of vertices
+-- the exit status for a file that can't be part of the graph: that of its error, or 1 for another number of vertices
 abbrev pub status_for_part : PartFault → ℕ
 status_for_part (part.Read why) = status_for (fault.Read why)
 status_for_part (part.OtherVertices vertices wanted) = 1

@@ -1,4 +1,4 @@
-//! The words of the command line.
+//! The arguments of the command line.
 ghost use Rattle.std.specs.Prelude.{◌≡◌, ◌≢◌, ◌<◌, ◌≤◌, ℕ, ◌^◌, [], is_some, map, length, option_map, None, IfSome, IfOk, OnOk, codes};
 ghost use Rattle.std.specs.String.{string_bytes};
 ghost use Rattle.std.specs.Vec.Iter.{into_iter_items};
@@ -135,7 +135,7 @@ fn the_command<'a>(alloc: Global) -> Result<Command<'a>, AllocError>
     with(command, file_arg(alloc))
 }
 
-// The number under a name, or the default where there is none.
+// The number under a name, or the default if there is none.
 fn number<'a>(matches: &ArgMatches<'a>, name: &str, default: u32) -> u32
     ensures range { (low high : ℕ) → HoldsFrom matches.now name.now low high
         → low ≤ default → default ≤ high → high < 2 ^ 32 → (low ≤ result) × (result ≤ high) }
@@ -145,7 +145,7 @@ fn number<'a>(matches: &ArgMatches<'a>, name: &str, default: u32) -> u32
     matches.get_one::<u32>(name).unwrap_or(default)
 }
 
-// Whether the flag of this name is set: clap keeps a flag as a text.
+// Whether the flag with this name is set; clap stores a flag as a text.
 fn is_set(matches: &ArgMatches<'_>, name: &str) -> bool
     ensures { result ≡ is_true (first_value (found_of matches.now) name.now) }
 {
@@ -155,7 +155,7 @@ fn is_set(matches: &ArgMatches<'_>, name: &str) -> bool
     }
 }
 
-// What is wrong with words that are right one by one, and what is told of it.
+// What is wrong with arguments that are each valid alone, and the message about it.
 fn told_together(
     names_threads: bool,
     files: usize,
@@ -177,7 +177,7 @@ fn told_together(
     None
 }
 
-// What is answered to words that are wrong together.
+// The error for arguments that are wrong together.
 fn wrong_words(alloc: Global, kind: ErrorKind, text: &'static str) -> OptionsFault
     ensures { IsUsage result (λ error. kind_of error ≡ kind) }
 {
@@ -190,7 +190,7 @@ fn wrong_words(alloc: Global, kind: ErrorKind, text: &'static str) -> OptionsFau
     }
 }
 
-// The file of a name: `-` is none, but standard input.
+// The file with a name; `-` isn't a file but standard input.
 fn file_of(alloc: Global, name: &str) -> Result<Option<String>, AllocError>
     ensures { IfOk result (λ file. option_map string_bytes file ≡ the_file_of name.now) }
 {
@@ -201,7 +201,6 @@ fn file_of(alloc: Global, name: &str) -> Result<Option<String>, AllocError>
     Ok(Some(name))
 }
 
-// The files of these names, in their order.
 fn files_of(alloc: Global, names: &[&str]) -> Result<Vec<Option<String>>, AllocError>
     ensures { IfOk result (λ files. map (option_map string_bytes) files.items
         ≡ map the_file_of (map (λ name. name.now) names.now)) }
@@ -214,9 +213,9 @@ fn files_of(alloc: Global, names: &[&str]) -> Result<Vec<Option<String>>, AllocE
     Ok(files)
 }
 
-/// The words that std got of the command line, all of them and in their order.
+/// Returns all arguments of the command line, in their order.
 ///
-/// Nothing but memory may be refused. It takes time and memory linear in the words.
+/// The only error is out of memory. The time and the memory are linear in the total length of the arguments.
 pub fn all_words(alloc: Global, words: Args) -> Result<Vec<String>, AllocError>
     ensures { IfOk result (λ all. all.items ≡ into_iter_items words) }
 {
@@ -224,7 +223,7 @@ pub fn all_words(alloc: Global, words: Args) -> Result<Vec<String>, AllocError>
     Ok(all)
 }
 
-// What the words ask for, each for itself, and whether they say how many threads there are.
+// What the arguments ask for, each taken alone, and whether they give a number of threads.
 fn options_of<'a, S: AsStr>(alloc: Global, words: &'a [S]) -> Result<(Options, bool), OptionsFault>
     ensures lawful { OnOk result (fault_of program (map S.text words.entry.now) ≡ []) }
     ensures names_threads { IfOk result (λ o.
@@ -273,13 +272,14 @@ fn options_of<'a, S: AsStr>(alloc: Global, words: &'a [S]) -> Result<(Options, b
     Ok((chosen, matches.get_str("threads").is_some()))
 }
 
-/// What the words ask for, the program's name first.
+/// What the arguments ask for. The first one is the program's name.
 ///
-/// Words that the program doesn't take, those that ask for the help or the version, numbers past their ranges, threads or
-/// several files without `--plain`, and more than [`MAX_FILES`] files are `Usage`. FILE `-` is standard input. What each word means is clap's to say; it is asked for the
-/// arguments above. In time and memory linear in the words.
+/// Returns `Usage` if an argument is unknown or a number is out of range, and for threads or several files without
+/// `--plain`, or more than [`MAX_FILES`] files. It also returns `Usage` if the arguments ask for the help or the
+/// version. FILE `-` is standard input. clap decides what each argument means, for the arguments defined above. The
+/// time and the memory are linear in the total length of the arguments.
 pub fn options<'a, S: AsStr>(alloc: Global, words: &'a [S]) -> Result<Options, OptionsFault>
-    // Words are taken only where nothing is wrong with them, and each sets what it names.
+    // If this succeeds, nothing is wrong with the arguments, and each sets what it names.
     ensures lawful { OnOk result (refusals (map S.text words.entry.now) ≡ []) }
     ensures workers { IfOk result (λ o.
         o.workers ≡ number_or (given (map S.text words.entry.now) (codes "workers")) 2) }
@@ -304,7 +304,7 @@ pub fn options<'a, S: AsStr>(alloc: Global, words: &'a [S]) -> Result<Options, O
     ensures few_threads { IfOk result (λ o. o.threads ≤ MAX_THREADS) }
     ensures few_files { IfOk result (λ o. length o.files.items ≤ MAX_FILES) }
 
-    // What is refused is refused for what is wrong with it; want of memory is answered as such.
+    // A usage error is about something that is wrong with the arguments. Out of memory is always reported as `Memory`.
     ensures refused { OnUsage result (λ error.
         IsAmong (kind_of error) (refusals (map S.text words.entry.now))) }
     ensures memory { OnUsage result (λ error. kind_of error ≢ OutOfMemory) }

@@ -1,37 +1,38 @@
-//! What the words of the command line ask for.
+//! What the arguments of the command line ask for.
 ghost use Rattle.program_words.specs.Arguments.{IsCauseOf};
 
 use clap::error::ErrorKind;
 use std::alloc::AllocError;
 
-/// The greatest number of threads that words can ask for.
+/// The greatest number of threads that can be requested.
 pub const MAX_THREADS: u32 = 64;
 
-/// What the words ask for.
+/// What the arguments ask for.
 #[derive(Debug, Drop)]
 pub struct Options {
-    /// How many workers scan the shards: 0 to 64.
+    /// The number of workers that scan the shards: 0 to 64.
     pub workers: u32,
-    /// How many shards the links are cut into: 1 to 4,096.
+    /// The number of shards that the edges are split into: 1 to 4,096.
     pub shards: u32,
     /// Whether the forest is found without workers.
     pub plain: bool,
-    /// By how many threads it is found then, at the most: 1 to 64.
+    /// The most threads that find the forest without workers: 1 to 64.
     pub threads: u32,
-    /// Whether the report goes to standard error.
+    /// Whether the report is printed to standard error.
     pub report: bool,
-    /// Whether standard error is told how much was read.
+    /// Whether the number of bytes read is printed to standard error.
     pub progress: bool,
-    /// The files that are read, at most [`MAX_FILES`](plain_run::MAX_FILES). `None` is standard input, which is read without a file too.
+    /// The files to read, at most [`MAX_FILES`](plain_run::MAX_FILES). `None` is standard input, which is also read if
+    /// there is no file.
     pub files: Vec<Option<String>>,
 }
 
-/// Why the words ask for nothing.
+/// Why the arguments can't be carried out.
 #[derive(Debug, Drop)]
 pub enum OptionsFault {
-    /// They are none that the program takes, or they ask for the help; it has the text to print.
+    /// The arguments are invalid, or ask for the help or the version. The error has the text to print.
     Usage(clap::Error),
-    /// Memory was refused, in judging the words or in keeping what they say.
+    /// There was no memory to check the arguments or to store what they ask for.
     Memory,
 }
 

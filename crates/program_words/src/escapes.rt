@@ -1,4 +1,4 @@
-//! Control characters of a text, written so that a terminal doesn't obey them.
+//! Writes control characters in a text so that a terminal doesn't obey them.
 ghost use Rattle.std.specs.Prelude.{◌≡◌, ◌+◌, ◌<◌, ◌≤◌, ◌++◌};
 ghost use Rattle.std.specs.Char.{digit_char};
 ghost use Rattle.arrayvec.specs.ArrayString.{array_string_len};
@@ -6,16 +6,16 @@ ghost use Rattle.program_words.specs.Messages.{hex_of, escaped_char};
 
 use arrayvec::ArrayString;
 
-/// The room for a character that is escaped: four bytes, each as `\x` and two digits.
+/// The space for an escaped character: four bytes, each as `\x` and two digits.
 pub(crate) const ESCAPED_ROOM: usize = 16;
 
-/// The room for what stands behind a name: a fault's text has at most 120 bytes.
+/// The space for the text after a name. The text of an error has at most 120 bytes.
 pub(crate) const END_ROOM: usize = 128;
 
-/// The room for a line with a name: 4200 bytes, one more character and an end. Linux opens no name of more than 4095 bytes.
+/// The size of the buffer for a line with a name: 4200 bytes, one more character and the text after the name. Linux
+/// opens no name of more than 4095 bytes.
 pub(crate) const NAMED_LINE_ROOM: usize = 4344;
 
-// The hex digit of a number below 16.
 fn hex_digit(value: u8) -> char
     requires { value < 16 }
     ensures digit { result ≡ digit_char value }
@@ -28,7 +28,6 @@ fn hex_digit(value: u8) -> char
     }
 }
 
-// Appends a byte as `\x` and two hex digits.
 fn push_hex(line: &mut ArrayString<NAMED_LINE_ROOM>, byte: u8)
     requires { array_string_len line.old + 4 ≤ NAMED_LINE_ROOM }
     ensures text { line.new.bytes ≡ line.old.bytes ++ hex_of byte }
@@ -39,7 +38,6 @@ fn push_hex(line: &mut ArrayString<NAMED_LINE_ROOM>, byte: u8)
     line.push(hex_digit(byte % 16));
 }
 
-/// Appends a character, or its bytes in hex digits if it is a control character.
 pub(crate) fn push_escaped(line: &mut ArrayString<NAMED_LINE_ROOM>, c: char)
     requires { array_string_len line.old + ESCAPED_ROOM ≤ NAMED_LINE_ROOM }
     ensures text { line.new.bytes ≡ line.old.bytes ++ escaped_char c }

@@ -1,19 +1,21 @@
-//! The program's words, messages and statuses: what stands between a run and its user.
+//! The program's arguments, messages and exit statuses: what is between a run and its user.
 //!
 //! ```text
-//!     words of the command line --options--> Options, or OptionsFault
+//!     arguments of the command line --options--> Options, or OptionsFault
 //!     Report, RunFault, FILE's name --write_report, write_fault, write_unopened--> a line on standard error
 //!     RunFault --status_of--> status            PartFault --write_part_fault, status_of_part--> the same
 //! ```
 //!
 //! What it promises:
-//! - Words are taken only if nothing is wrong with them, and each sets what it names; numbers are in their ranges.
-//! - A message is written whole, or up to the sink's first setback; a report and a fault have the texts that they are shown
-//!   as, and a fault has its status.
-//! - A file's name stands in its message with its control characters escaped.
+//! - Arguments are accepted only if nothing is wrong with them, and each sets what it names. Numbers are in their
+//!   ranges.
+//! - A message is written whole, or until the sink first fails. A report and an error are written with their texts, and
+//!   each error has its exit status.
+//! - The name of a file is written in a message with its control characters escaped.
 //!
-//! Where to start a change: a new option, `arguments` and `chosen`, with the table in `specs/Arguments`; a message,
-//! `messages` and `specs/Messages`, with `escapes` for names; a status, `statuses` and `specs/Statuses`.
+//! To add an option, change `arguments` and `chosen`, with the table in `specs/Arguments`. To change a message, start
+//! with `messages` and `specs/Messages`, and for names with `escapes`. To change an exit status, start with `statuses`
+//! and `specs/Statuses`.
 #![tactic(auto)]
 
 mod arguments;

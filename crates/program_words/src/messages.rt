@@ -1,4 +1,4 @@
-//! Lines for the user on standard error, written without taking memory. A failed write is ignored.
+//! Writes lines for the user to standard error without allocating. Failed writes are ignored.
 ghost use Rattle.std.specs.Prelude.{◌+◌, ◌≤◌, ◌++◌, length, OnOk, IfErr};
 ghost use Rattle.program_words.specs.declared.escapes.TheConstants.{END_ROOM, NAMED_LINE_ROOM};
 ghost use Rattle.arrayvec.specs.ArrayString.{array_string_len};
@@ -12,7 +12,7 @@ use byte_streams::{PutFault, Sink, put};
 use itoa::Buffer;
 use plain_run::{LINE_ROOM, PartFault, Report, RunFault};
 
-/// Writes a text, up to the sink's first setback.
+/// Writes a text, until the sink first fails.
 pub fn write_text<S: Sink>(sink: &mut S, text: &[u8])
     requires { S.can_write sink.old }
     ensures { IsWritten text.now (S.state sink.old) (S.state sink.new) }
@@ -23,9 +23,7 @@ pub fn write_text<S: Sink>(sink: &mut S, text: &[u8])
     }
 }
 
-/// Writes a report as a line, in one write where the sink takes it whole.
-///
-/// It has the text that [`Report`] is shown as.
+/// Writes a report as a line, with the text of [`Report`], in one write if the sink takes it whole.
 pub fn write_report<S: Sink>(sink: &mut S, report: &Report)
     requires { S.can_write sink.old }
     ensures { IsWritten (report_line report.now) (S.state sink.old) (S.state sink.new) }
@@ -36,10 +34,10 @@ pub fn write_report<S: Sink>(sink: &mut S, report: &Report)
     write_text(sink, line.as_str().as_bytes());
 }
 
-// The room for a line that tells how much was read: a number has at most 40 digits.
+// The size of the buffer for the line that says how much was read. A number has at most 40 digits.
 const PROGRESS_ROOM: usize = 64;
 
-/// Writes how many million bytes of so many were read, with this end, in one write where the sink takes it whole.
+/// Writes `read` in millions of bytes, and this end of the line, in one write if the sink takes it whole.
 pub fn write_progress<S: Sink>(sink: &mut S, read: u64, end: &str) -> Result<(), PutFault>
     requires sink { S.can_write sink.old }
     requires end { length end.now ≤ 2 }
@@ -57,9 +55,8 @@ pub fn write_progress<S: Sink>(sink: &mut S, read: u64, end: &str) -> Result<(),
     put(sink, line.as_str().as_bytes())
 }
 
-/// Writes why a run ended ill as a line, behind the program's name, in one write where the sink takes it whole.
-///
-/// It has the text that [`RunFault`] is shown as.
+/// Writes why a run failed as a line after the program's name, with the text of [`RunFault`], in one write if the sink
+/// takes it whole.
 pub fn write_fault<S: Sink>(sink: &mut S, fault: &RunFault)
     requires { S.can_write sink.old }
     ensures { IsWritten (fault_line fault.now) (S.state sink.old) (S.state sink.new) }
@@ -71,7 +68,7 @@ pub fn write_fault<S: Sink>(sink: &mut S, fault: &RunFault)
     write_text(sink, line.as_str().as_bytes());
 }
 
-/// Writes that a word of the command line isn't UTF-8, as a line behind the program's name.
+/// Writes that an argument of the command line isn't UTF-8, as a line after the program's name.
 pub fn write_no_text<S: Sink>(sink: &mut S)
     requires { S.can_write sink.old }
     ensures { IsWritten no_text_line (S.state sink.old) (S.state sink.new) }
@@ -79,7 +76,8 @@ pub fn write_no_text<S: Sink>(sink: &mut S)
     write_text(sink, b"boruvka: a word is not UTF-8\n");
 }
 
-// Appends a character to a line, escaped. If there may be no room for it and an end, what stands in the line is written first.
+// Appends a character to a line, escaped. If too little space may be left for it and an end, the line so far is written
+// first.
 fn push_or_write<S: Sink>(
     sink: &mut S,
     line: &mut ArrayString<NAMED_LINE_ROOM>,
@@ -103,8 +101,8 @@ fn push_or_write<S: Sink>(
 
 // Writes a name between two texts, in one write if all have at most 4200 bytes.
 //
-// Control characters of the name could fake a line on a terminal, so they are escaped: each of their bytes is written
-// as `\x` and two hex digits. All other characters stay as they are, a backslash too.
+// Control characters in the name could fake a line on a terminal, so they are escaped: each of their bytes is written
+// as `\x` and two hex digits. All other characters stay as they are, even a backslash.
 fn write_named<S: Sink>(sink: &mut S, front: &str, name: &str, end: &str)
     requires can { S.can_write sink.old }
     requires front { length front.now ≤ 64 }
@@ -133,9 +131,8 @@ pub fn write_unopened<S: Sink>(sink: &mut S, name: &str)
     write_named(sink, "boruvka: cannot open ", name, "\n");
 }
 
-/// Writes why a file isn't a part of a graph, behind its name, as [`write_unopened`] writes the name.
-///
-/// It has the text that [`PartFault`] is shown as.
+/// Writes a file's name, as [`write_unopened`] does, and why the file can't be part of the graph, with the text of
+/// [`PartFault`].
 pub fn write_part_fault<S: Sink>(sink: &mut S, name: &str, fault: &PartFault)
     requires { S.can_write sink.old }
     ensures { IsWritten (part_line name.now fault.now) (S.state sink.old) (S.state sink.new) }

@@ -1,4 +1,4 @@
-//! The statuses that the program ends with.
+//! The exit statuses of the program.
 ghost use Rattle.std.specs.Prelude.{◌≡◌};
 ghost use Rattle.program_words.specs.Statuses.{status_for, status_for_part};
 
@@ -6,20 +6,20 @@ use gr_text::ReadFault;
 use links::CutFault;
 use plain_run::{PartFault, RunFault};
 
-/// Wrong words.
+/// The arguments are invalid.
 pub const USAGE: u8 = 2;
 
 /// A stream or a file failed.
 pub const DEVICE: u8 = 3;
 
-/// Memory was refused.
+/// There was no memory.
 pub const MEMORY: u8 = 4;
 
-/// What was answered in the rounds wasn't right.
+/// An answer that came in the rounds was wrong.
 pub const ANSWERS: u8 = 5;
 
-/// The status of a run that failed: 1 for what the file says and for a cut that is refused, 3 for a source or a sink that
-/// failed, 4 for want of memory, 5 for rounds that were answered wrongly.
+/// The exit status of a run that failed. It is 1 for an invalid file and for a split into shards that isn't allowed,
+/// and 3 for a source or a sink that failed. It is 4 for out of memory and 5 for rounds with wrong answers.
 pub fn status_of(fault: &RunFault) -> u8
     ensures { result ≡ status_for fault.now }
 {
@@ -33,8 +33,8 @@ pub fn status_of(fault: &RunFault) -> u8
     }
 }
 
-/// The status of a file that isn't a part of a graph: that of a run that ends by the same fault, or 1 for another number of
-/// vertices.
+/// The exit status for a file that can't be part of the graph: the status of a run with the same error, or 1 for
+/// another number of vertices.
 pub fn status_of_part(fault: &PartFault) -> u8
     ensures { result ≡ status_for_part fault.now }
 {

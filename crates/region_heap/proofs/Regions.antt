@@ -1,4 +1,4 @@
--- A region that was taken or is made, and its memory as room for a type. Assumes `Logic`.
+-- A region that was taken or is made, and its memory as space for a type. Assumes `Logic`.
 use Rattle.std.proofs.Common.{◌≡◌, ℕ, ◌+◌, ◌-◌, ◌*◌, ◌/◌, ◌%◌, ◌^◌, ◌<◌, ◌≤◌, List, [], ◌∷◌, ◌++◌, IfSome, None, Some, refl, sym, ap, subst, ◌∙◌, w64, arith}
 use seplogic.Ra.Ura.{Ura}
 use mir.Syntax.{Ty, Width, w8, w16, w32, w128, ty_int, ty_array}
@@ -25,11 +25,11 @@ use Rattle.region_heap.specs.contracts.region.Owner as owner
 use Rattle.region_heap.specs.contracts.region.Region as region
 use Rattle.region_heap.specs.Memory.{units, room_within}
 
--- what `take` answers
+-- the result of `take`
 abbrev pub Taken : RattleType
 Taken = option.the_row region.the_row
 
--- a region as the machine has it: its owner takes no bytes
+-- a region at run time: its owner takes no bytes
 abbrev pub region_val : Ptr → ℕ → Val
 region_val p n = vstruct (vcons (ptr_val p) (vcons (vint w64 n) (vcons (vstruct vnil) vnil)))
 
@@ -50,7 +50,7 @@ region_made 𝓛 p n small =
     feq_i ! (List Val) (region_val p n ∷ []) (region_val p n ∷ []) refl $ fjoin ! $
     fpack ! (Valss (RawPtr ∷ usize ∷ owner.the_row ∷ [])) (within (Declared.shape region.the_type) (p, (n, (o, tt))) (region_val p n ∷ [])) (ptr_val p ∷ [], (vint w64 n ∷ [], (vstruct vnil ∷ [], tt))) $ done !
 
--- no type is aligned to more than a unit
+-- no type has a greater alignment than a unit
 aligned : (τ : Ty) → Dv (align τ) 16
 aligned τ = subst (λ (k : ℕ). Dv k 16) (sym (align-bytes τ)) (of_width (align_w τ))
   where
@@ -61,7 +61,7 @@ aligned τ = subst (λ (k : ℕ). Dv k 16) (sym (align-bytes τ)) (of_width (ali
     of_width w64 = tt
     of_width w128 = tt
 
--- the first units of a region's memory are room for a type that fits into them exactly
+-- the first units of a region's memory are space for a type that fits into them exactly
 pub serves : {M : Type 1} {𝓤 : Ura M} (𝓛 : Logic 𝓤) (τ : Ty) (n m b o : ℕ) → capped (size τ) ≡ n → n < 2 ^ 63 → n % 16 ≡ 0 → n ≤ m → ent 𝓤 (sem 𝓛 (room_within (block_ptr b o) m)) (𝓛.H.room τ b o)
 serves {𝓤 = 𝓤} 𝓛 τ n m b o sized small whole within =
     let short : size τ < 2 ^ 63 = capped_small (size τ) (omega arith) in
@@ -74,7 +74,7 @@ serves {𝓤 = 𝓤} 𝓛 τ n m b o sized small whole within =
     use1 𝓛 (‵ (froom τ b o) ⊛ raw (wand 𝓤 (𝓛.H.room τ b o) (𝓛.H.room (units n) b o))) (𝓛.laws.room_as (units n) τ b o exact (aligned τ)) $ split ! $ keep ! (0 ∷ []) $ done !
 
 module _ {M : Type 1} {𝓤 : Ura M} {𝓛 : Logic 𝓤} {K : Type 0} {Γ : List (Item 𝓤)} {G : Goal 𝓤 𝓛.H} where
-  -- a proof's step: the two cases of what `take` answered
+  -- a step of a proof: the two cases of the result of `take`
   pub taken : K → (P : (region.the_row).Denot → Type 0) (x : Taken.Denot) (v : Val) → IfSome x P
       → ((w : (region.the_row).Denot) (b o : ℕ) → P w → w.size < 2 ^ 64 → v ≡ live 1 (vcons (region_val (block_ptr b o) w.size) vnil) → Seq K 𝓛 (‵ (room_within (block_ptr b o) w.size) ∷ Γ) G)
       → (v ≡ live 0 vnil → Seq K 𝓛 Γ G) → Seq K 𝓛 (‵ (Taken.own_val x (v ∷ [])) ∷ Γ) G
@@ -82,7 +82,7 @@ module _ {M : Type 1} {𝓤 : Ura M} {𝓛 : Logic 𝓤} {K : Type 0} {Γ : List
       fpick t (λ us. fsplit t $ feq_l t (λ e. fpick t (λ vss. fsplit t $ feq_l t (λ e'. drop t $ none (ap only e ∙ ap (λ (ws : List Val). live 0 (of_list ws)) e')))))
   taken t P (Some w) v is some none =
       fpick t (λ us. fsplit t $ feq_l t (λ e. fpick t (λ vss. fsplit t $ feq_l t (λ e'. fsplit t $ move t (1 ∷ []) $ drop t $
-      -- [the region's words, and what its owner owns]
+      -- [the fields of the region, and what its owner owns]
       fpick t (λ rs. fsplit t $ feq_l t (λ e''. fsplit t $ feq_l t (λ start. fsplit t $ fsplit t $ feq_l t (λ number. flt_l t (λ small. fsplit t $ move t (1 ∷ []) $ drop t $
       fsplit t $ fpick t (λ os. fsplit t $ feq_l t (λ owner. drop t $
       rewrite t 0 (λ (u : Ptr × ℕ). ‵ (room_within u.0 u.1)) (λ i. (w.own.0 i, w.own.1 i)) refl $ in_a_block t w.start (λ p. room_within p w.size) (id⊢ 𝓤 _) (λ b o at.

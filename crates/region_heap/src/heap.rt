@@ -1,22 +1,22 @@
-//! The heap within a region.
+//! A heap in a region.
 use crate::one_block::OneBlock;
 use crate::region::Region;
 use bumpalo::Bump;
 
-/// A heap within a region; `&RegionHeap` is an allocator. It is for one thread.
+/// A heap in a region, for one thread. `&RegionHeap` is an allocator.
 pub type RegionHeap = Bump<OneBlock>;
 
-// A heap takes whole pages of its region, of so many bytes.
+// A heap takes whole pages of its region, each of this many bytes.
 const PAGE: usize = 4096;
 
-// Of the pages so many bytes are no room for blocks.
+// This many bytes of the pages can't be used for blocks.
 const BESIDE: usize = 64;
 
-/// The heap within a region: it has room for 64 bytes less than the region's whole pages of 4096 bytes, and hands out no
-/// other memory. In a region of less than a page it may refuse every allocation.
+/// Makes a heap in a region. Its blocks can take 64 bytes less than the region's whole pages of 4096 bytes, and it
+/// hands out no other memory. In a region of less than one page every allocation may fail.
 ///
-/// An allocation takes constant time, a growth the time to copy the block. If no room is left it is refused, and what was
-/// allocated stays.
+/// An allocation takes constant time, and growing a block the time to copy it. If too little is left, an allocation
+/// fails and the blocks that were allocated stay.
 pub fn heap_within(region: Region) -> RegionHeap {
     let room = (region.size() / PAGE * PAGE).saturating_sub(BESIDE);
     match Bump::try_with_capacity(OneBlock::new(region), room) {

@@ -1,17 +1,19 @@
-//! A heap within a region of memory that its owner gives up.
+//! A heap in a region of memory that the region's owner provides.
 //!
 //! ```text
-//!   a region  --one_block-->  one block of it  --bumpalo-->  blocks, one beside the other
+//!   a region  --one_block-->  one block of it  --bumpalo-->  blocks, one next to the other
 //! ```
 //!
-//! The block that was cut last can grow in place, and its bytes are free again once it goes back. Those of other blocks are
-//! free again with the region. Vectors that are filled one after the other lose little so.
+//! Only the block that was allocated last can grow in place, and only its bytes are free again when it is deallocated.
+//! The bytes of other blocks are free again together with the region. So vectors that are filled one after the other
+//! waste little.
 //!
 //! What it promises:
-//! - Blocks lie within the region, are aligned as their types want it, and don't overlap.
-//! - Nothing else gives memory: no operating system, no C library.
+//! - Blocks are in the region, have the alignment of their types, and don't overlap.
+//! - No memory comes from elsewhere, neither from the operating system nor from a C library.
 //!
-//! Where to start a change: what a region is, `region` and `specs/Memory`; how much of it a heap takes, `heap`.
+//! To change what a region is, start with `region` and `specs/Memory`. To change how much of it a heap takes, start
+//! with `heap`.
 #![tactic(auto)]
 
 mod heap;

@@ -1,4 +1,4 @@
-//! A region as one block.
+//! A region as a single block.
 ghost use Rattle.std.specs.Prelude.{◌≡◌, ◌%◌, ◌^◌, ◌<◌, ◌≤◌, IfSome};
 ghost use base.Fml.{ftrue};
 
@@ -6,29 +6,29 @@ use crate::region::{Region, UNIT};
 use std::alloc::{AllocError, Allocator};
 use std::cell::Cell;
 
-/// An allocator that gives a region out as one block, once, for a size that is a multiple of 16. What comes back isn't given
-/// out again.
+/// An allocator that hands out a region as a single block, once, if the size is a multiple of 16. After deallocation it
+/// doesn't hand it out again.
 #[derive(Drop)]
 pub struct OneBlock {
     region: Cell<Option<Region>>,
 }
 
 impl OneBlock {
-    /// The region, not given out yet.
+    /// An allocator that still has its region.
     pub fn new(region: Region) -> OneBlock {
         OneBlock {
             region: Cell::new(Some(region)),
         }
     }
 
-    /// One that has no region, and refuses everything.
+    /// An allocator without a region; every allocation fails.
     pub fn empty() -> OneBlock {
         OneBlock {
             region: Cell::new(None),
         }
     }
 
-    // The region, if it is there and has so many bytes, which are whole units.
+    // Takes the region, if it is still there, has this many bytes, and they are whole units.
     fn take(&self, size: usize) -> Option<Region>
         ensures { IfSome result (λ region. (size < 2 ^ 63) × (size % 16 ≡ 0) × (size ≤ region.size)) }
     {

@@ -1,4 +1,4 @@
-//! Memory that its owner gives up.
+//! Memory that its owner provides.
 ghost use Rattle.std.specs.Prelude.{◌≡◌, ℕ, ◌/◌, ◌*◌, ◌^◌, ◌<◌, IfOk, IfSome};
 ghost use denote.RawPtr.{Ptr};
 ghost use Rattle.region_heap.specs.Memory.{room_within};
@@ -6,13 +6,14 @@ ghost use Rattle.region_heap.specs.Memory.{room_within};
 use std::alloc::{AllocError, Allocator};
 use std::marker::Model;
 
-// Memory is given up in units of so many bytes.
+// A region is used in units of this many bytes.
 pub(crate) const UNIT: usize = 16;
 
-/// `size` bytes of memory from `start` on, aligned to 16 bytes: `struct boruvka_memory`. Whoever has a region may use its
-/// bytes, and nobody else does. Those behind the last whole 16 stay unused.
+/// `size` bytes of memory from `start` on, aligned to 16 bytes: `struct boruvka_memory`. Only the owner of the region
+/// may use its bytes. Those after the last whole 16 stay unused.
 ///
-/// C makes it: see `include/boruvka.h`; in Rattle, [`Region::leaked`]. Dropping it does nothing to the memory.
+/// C code makes a region as `include/boruvka.h` says, and Rattle code with [`Region::leaked`]. Dropping a region does
+/// nothing to its memory.
 #[repr(C)]
 #[derive(Drop)]
 pub struct Region {
@@ -22,7 +23,7 @@ pub struct Region {
     ghost own: { (owner.start ≡ start) × (owner.size ≡ size) },
 }
 
-/// What owns the memory of a region. It takes no bytes itself.
+/// Owns the memory of a region. It takes no bytes itself.
 #[repr(C)]
 #[derive(Drop)]
 pub struct Owner {
@@ -35,8 +36,9 @@ impl Model for Owner {
 }
 
 impl Region {
-    /// A region of `size` bytes that an allocator gives up for good: they don't go back to it. The bytes behind the last
-    /// whole 16 are counted, but not asked for. The error is that the allocator refuses, or that no block has so many.
+    /// Takes a region of `size` bytes from an allocator for good; they are never deallocated. The bytes after the last
+    /// whole 16 are counted but not allocated. Returns an error if the allocator fails, or if no block can have this
+    /// size.
     pub fn leaked<A: Allocator>(alloc: &A, size: usize) -> Result<Region, AllocError>
         ensures { IfOk result (λ region. region.size ≡ size) }
     {
@@ -49,7 +51,7 @@ impl Region {
         }
     }
 
-    // The same, with the size of the whole units.
+    // Does the same, given the size of the whole units.
     fn leaked_units<A: Allocator>(alloc: &A, size: usize, whole: usize) -> Option<Region>
         requires { (size < 2 ^ 63) × (whole ≡ size / 16 * 16) }
         ensures { IfSome result (λ region. region.size ≡ size) }
@@ -64,7 +66,7 @@ impl Region {
         }
     }
 
-    /// How many bytes it has.
+    /// The number of bytes of the region.
     pub fn size(&self) -> usize
         ensures { result ≡ self.now.size }
     {

@@ -1,4 +1,4 @@
--- Neighbours in order are enough, since the order is transitive.
+-- It is enough that neighbours are in order, because the order is transitive.
 use Rattle.std.proofs.Common.{rules, arith, Bool, int_le}
 use Rattle.std.specs.Int.Signed.{◌≤ℤ◌}
 use Rattle.std.proofs.lemmas.Int.{ints}
@@ -7,7 +7,7 @@ use Rattle.links.proofs.Neighbours.{all_pairs_by_neighbours}
 use Rattle.caller_forests.specs.declared.given.GivenLink.{GivenLink}
 use Rattle.caller_forests.proofs.merges.none_descends.Goals as goal
 
--- the test for the order of two links
+-- the test for the order of two edges
 abbrev weighs_no_more : GivenLink → GivenLink → Bool
 weighs_no_more l m = int_le l.weight m.weight
 

@@ -1,4 +1,4 @@
--- the bytes so far are arc lines, and their links stand in front in the room
+-- the bytes so far are arc lines, and their edges are at the start of the buffer
 use Rattle.std.proofs.Common.{◌≡◌, ℕ, List, ◌+◌, ◌≤◌, ◌++◌, length, take}
 use Rattle.gr_text.specs.ArcLines.{AreArcLines}
 use Rattle.gr_text.proofs.arc_lines.read_arc_lines.Given as goal

@@ -1,4 +1,4 @@
--- The lines of the first links stand at the beginning of the room.
+-- The lines of the first edges are at the start of the buffer.
 use Rattle.std.proofs.Common.{◌≡◌, ◌-◌, ◌*◌, ◌≤◌, length, take}
 use Rattle.std.specs.List.{flat_map}
 use Rattle.gr_text.specs.ForestText.{link_line}

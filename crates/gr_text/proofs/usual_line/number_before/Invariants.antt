@@ -1,4 +1,4 @@
--- the bytes so far are digits, and write the number, of which the last 64 bits are kept
+-- the bytes so far are digits, and write the number, of which the last 64 bits are stored
 use Rattle.std.proofs.Common.{◌≡◌, ◌<◌, ◌^◌, ◌%◌, take}
 use Rattle.std.specs.List.{AllByRecursion}
 use Rattle.gr_text.specs.Fields.{IsDigit, number_written}

@@ -1,4 +1,4 @@
--- All went out but the lines of the links that are left.
+-- All lines were written except those of the edges that are left.
 use Rattle.std.proofs.Common.{length}
 use Rattle.gr_text.specs.ForestText.{forest_text}
 use Rattle.gr_text.proofs.ForestLines.{GoesOut}

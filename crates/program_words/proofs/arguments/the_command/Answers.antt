@@ -5,7 +5,7 @@ use Rattle.clap.specs.Words.{with_rule}
 use Rattle.program_words.specs.Arguments.{with_version}
 use Rattle.program_words.proofs.arguments.the_command.Goals as goal
 
--- each argument is one more rule; what the help says is none
+-- each argument is one more rule; the text of the help isn't a rule
 pub returns-clause-app : goal.returns-clause-app
 returns-clause-app c =
     let empty = ap app_of_fields c.after_help-command.ensures ∙ (ap app_of_fields c.about.ensures ∙ (ap app_of_fields c.version.ensures ∙ ap with_version c.new.ensures.app)) in

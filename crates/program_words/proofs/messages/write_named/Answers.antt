@@ -9,7 +9,7 @@ use Rattle.program_words.specs.Messages.{IsWritten, IsPartWritten, escaped_char}
 use Rattle.program_words.proofs.Writing.{part_then, part_hindered, part_more}
 use Rattle.program_words.proofs.messages.write_named.Goals as goal
 
--- a line that stands up to some character, with the rest of it
+-- a line that is written up to some character, and the rest of it
 line_split : (front end done cs : List ℕ) (n : ℕ) → done ≡ take n cs
     → (front ++ flat_map escaped_char done) ++ (flat_map escaped_char (drop n cs) ++ end) ≡ front ++ (flat_map escaped_char cs ++ end)
 line_split front end done cs n is =

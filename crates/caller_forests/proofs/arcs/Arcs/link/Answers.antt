@@ -9,7 +9,7 @@ use Rattle.links.specs.declared.links.Link.{Link}
 use Rattle.caller_forests.proofs.ArcPlaces.{arc_at, shown_len, shown_at, of_tails, of_heads}
 use Rattle.caller_forests.proofs.arcs.Arcs.link.Goals as goal
 
--- what there is exactly if two numbers differ
+-- there is an edge exactly if two numbers differ
 some_if : (found : Option Link) (a b : ℕ) → IsNone found ↔ (a ≡ b) → IsSome found ↔ IsTrue (not (a == b))
 some_if None a b is = let same : a ≡ b = is.0 refl in (λ never. absurd (false≢true never), λ differ. absurd (differs a b same differ))
   where
@@ -20,7 +20,7 @@ some_if (Some l) a b is = (λ yes. test a b (λ same. true≢false (is.1 same)),
     test : (x y : ℕ) → (x ≡ y → ⊥) → not (x == y) ≡ true
     test x y apart = grind (arith, nat_tests)
 
--- what holds of a link that there is
+-- what holds for an edge, if there is one
 for_some : (found : Option Link) (P Q : Link → Type 0) → ((l : Link) → P l → Q l) → IfSome found P → IfSome found Q
 for_some None P Q more had = had
 for_some (Some l) P Q more had = more l had
@@ -59,7 +59,7 @@ bounds-self-inside-place c =
     let len = shown_len c.args.n s.base s.tails.now s.heads.now s.weights.now c.self.invariant c.args.self.now c.self.view_is in
     omega (arith, len, c.requires.in_range, c.self.invariant.1)
 
--- the arc that the columns show there
+-- the arc that the columns show at this index
 module _ (c : goal.After-of_arc) where
   abbrev shown : Arc
   shown = arc_at c.self.inside.base c.self.inside.tails.now c.self.inside.heads.now c.self.inside.weights.now c.args.place

@@ -1,4 +1,4 @@
--- the bytes so far are kept, and have no line feed
+-- the bytes so far are stored, and have no line feed
 use Rattle.std.proofs.Common.{ℕ, List, ◌++◌, take}
 use Rattle.gr_text.specs.Lines.{IsLine}
 use Rattle.gr_text.specs.PartialLine.{IsKeptAs}

@@ -1,4 +1,4 @@
--- what stands is the text with what was taken of the piece
+-- the reader has read the text and what was taken of the piece
 use Rattle.std.proofs.Common.{◌≡◌, ℕ, List, ◌+◌, ◌≤◌, ◌++◌, length}
 use Rattle.gr_text.specs.LinesSoFar.{Swap}
 use Rattle.gr_text.specs.Reader.{Stands}

@@ -4,7 +4,7 @@ use Rattle.links.proofs.Covers.{cover_of_cover}
 use Rattle.plain_run.proofs.KeptLinks.{ends_of_cover}
 use Rattle.plain_run.proofs.keeper.KeeperKeep.keep.Goals as goal
 
--- what is left covers what came, so it ends within the vertices
+-- what is left covers what came, so its endpoints are vertices
 
 pub returns-then-len-long_list-clause-ends : goal.returns-then-len-long_list-clause-ends
 returns-then-len-long_list-clause-ends g c = ends_of_cover c.args.vertices c.args.links.now.items _ c.requires.ends c.drop_some.ensures.cover

@@ -1,4 +1,4 @@
--- It hands out the memory of the region that `take` gave as room for the type that was asked for. Assumes `Logic`.
+-- It hands out the memory of the region that `take` returned as space for the requested type. Assumes `Logic`.
 use Rattle.std.proofs.Common.{◌≡◌, ◌%◌, ◌^◌, ◌<◌, ◌≤◌, true, false, [], ◌∷◌, refl, lit<, w64, IfSome, Ok, Err}
 use Rattle.std.proofs.raw_atomic.Walks.{proved, leaves}
 use Rattle.std.proofs.alloc.Calls.{Answer, answer_val, Answer-typed, Answer-Ok, Answer-err}

@@ -1,4 +1,4 @@
--- It does nothing, and what was handed to it is let go. Assumes `Logic`.
+-- It does nothing, and drops what it was given. Assumes `Logic`.
 use Rattle.std.proofs.Common.{List, [], ◌∷◌, refl, w64}
 use Rattle.std.proofs.raw_atomic.Walks.{proved}
 use mir.Val.{Val, vunit}

@@ -1,4 +1,5 @@
--- It asks for whole units, and the block becomes the region's memory. The right to free it is let go. Assumes `Logic`.
+-- It allocates whole units, and the block becomes the region's memory. The right to free the block is dropped. Assumes
+-- `Logic`.
 use Rattle.std.proofs.Common.{◌≡◌, ◌*◌, ◌/◌, ◌^◌, ◌<◌, List, [], ◌∷◌, ◌++◌, refl, lit<, w64, Some, None}
 use mir.Syntax.{Ty, Fn, Args, a_type, dcons, dnil}
 use mir.Val.{Val, vint, vptr, vcons, vnil}
