@@ -198,7 +198,7 @@ pub const WORKED: [Worked; 9] = [
     TEXTBOOK,
 ];
 
-/// Returns the links of the arcs, in the order of the arcs. Loops are left out, and repeats are kept. Returns none if
+/// Returns the links of the arcs, in the order of the arcs. Loops are left out, and repeats are kept. Returns `None` if
 /// an endpoint of an arc isn't a vertex from 1 to n, or if n is more than [`MAX_VERTICES`] and there is an arc.
 ///
 /// The only error is out of memory. For m arcs it takes O(m) time and allocates 16 bytes per link.

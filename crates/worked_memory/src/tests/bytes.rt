@@ -216,7 +216,7 @@ const LISTS: [List; 5] = [
 ];
 
 // The bytes that the solver uses in addition to its list. At worst it goes over all links in one part. Sampling the
-// links takes up to 4096 bytes.
+// links uses up to 4096 bytes.
 fn to_solve(list: List, links: u64) -> u64 {
     let vertices = u64::from(list.n).wrapping_mul(12);
     links.wrapping_mul(13).wrapping_add(vertices).max(4_096)

@@ -133,7 +133,7 @@ fn places_of_loops_and_repeats(rt: HostRuntime) {
 
 // The number of vertices, an arc after the arc from 1 to 2, and the code. Too many vertices are reported before a bad
 // endpoint, and that before an output array that is too small. More than 2^30 arcs are an error too, but they would
-// take 16 GB.
+// need 16 GB.
 const REFUSED: [(u32, Row, i64); 4] = [
     (3, (0, 1, 5), -2),
     (3, (1, 4, 5), -2),
