@@ -1,4 +1,4 @@
-// What forests weigh.
+// Total weights of forests.
 use super::lists::links_between;
 use super::same::expect_same;
 use link_key::{Forest, Link, plain_forest};
