@@ -26,9 +26,9 @@
 //!   memory_of_graphs    what a reader, and a forest of distinct links, allocate
 //! ```
 //!
-//! A test shows a call on its happy path, with a value from outside. It also shows what no contract can see: which blocks
-//! are still allocated after a call, what is printed, and that calls of any size succeed if there is enough memory. And it
-//! shows what a call does if a stream or an allocator fails.
+//! A test shows a call on its happy path, with a value from outside. It also shows what no contract can see: printed
+//! texts, which blocks are still allocated after a call, and that a call of any size succeeds with enough memory. And
+//! it shows what a call does if a stream or an allocator fails.
 //!
 //! To test a new public call, add to the file of its subject. If the call may run out of memory, also add to `sizes` of
 //! that crate. The example graphs are in `worked_graphs`.

@@ -228,8 +228,8 @@ fn files_to_graphs(rt: HostRuntime) {
     }
 }
 
-// One read takes up to 65,536 bytes. The pieces of the source and of the text have a few bytes, about as many as a read,
-// and more.
+// One read takes up to 65,536 bytes. The pieces of the source and of the text have a few bytes, about as many as a
+// read, and more.
 #[test]
 fn files_in_pieces(rt: HostRuntime) {
     let n = 10_001;
