@@ -179,13 +179,13 @@ fn expect_session(
 // Sessions over whole streams, one that ends inside an ask, and one that ends at an unlawful shard. Each row is one of
 // these:
 //
-// - an ask of a stored shard; a torn ask; an ask of a shard that isn't stored; an ask with too few labels
-// - a hello, to which there is no reply
-// - weights past 32 bits, and a shard that replaces an earlier one
-// - a shard without links in the form for such weights, which is unlawful
-// - shards that are sent again and replace each other
-// - no links, and no labels
-// - two links of the triangle: enough labels, too few labels, and a shard that isn't stored
+// - an ask of a stored shard; a torn ask; an ask of a shard that isn't stored; an ask with too few labels.
+// - a hello, to which there is no reply.
+// - weights past 32 bits, and a shard that replaces an earlier one.
+// - a shard without links in the form for such weights, which is unlawful.
+// - shards that are sent again and replace each other.
+// - no links, and no labels.
+// - two links of the triangle: enough labels, too few labels, and a shard that isn't stored.
 #[test]
 fn sessions_over_the_triangle(rt: HostRuntime) {
     let torn = Err(ServeFault::Read(FrameFault::Torn));
