@@ -33,7 +33,7 @@ fn lane<'a, 'b>(
     Ok(Lane::new(memory, Wire::new(memory, line, cut, worker)))
 }
 
-// The forest and the counts of a run over two lanes. Where a worker or its wire wants memory it is given up.
+// The forest and the counts of a run over two lanes. If a worker or its wire runs out of memory, its line is closed.
 fn expect_solved<'a, 'b, R: Abort + Threads + Wait + Sync>(
     rt: &R,
     alloc: Global,
