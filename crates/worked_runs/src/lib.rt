@@ -8,13 +8,13 @@
 //!   same            compares a result with what is expected
 //!   solving         a solver's steps, rounds past the bound, whole runs by one thread
 //!   triangle        what the laws of rounds say about the triangle, by calls whose contracts state their premises
-//!   wire_asks       asks of a worker over a line that stops, or over stored bytes instead of a worker; an engine's line
-//!                   after its session has ended
+//!   wire_asks       asks of a worker over a line that stops, or over stored bytes instead of a worker; an engine's
+//!                   line after its session has ended
 //! ```
 //!
 //! Each call that may run out of memory is also made at its bounds: no vertex, one and two, no links, one shard and
-//! 4,096, a cut at no position and at 4,095, and more rounds than 14. A full shard of 16,777,216 links is too large for
-//! a test here, and so is the greatest allowed number of vertices, 67,108,864.
+//! 4,096. Cuts are at no position and at 4,095, and there are more than 14 rounds. A full shard of 16,777,216 links is
+//! too large for a test here, and so is the greatest allowed number of vertices, 67,108,864.
 //!
 //! Rounds 21 to 26 that merge components need more than a million vertices. Here a test opens a book of such a round,
 //! and tests/cases/workers.py has a run of 21 rounds.

@@ -1,5 +1,5 @@
-// The book of a round: what `judge` returns for answers about a triangle of equal weights, that the order of answers
-// changes nothing, and that several threads can read a book.
+// The book of a round. `judge` checks answers about a triangle of equal weights, the order of answers changes nothing,
+// and several threads can read a book.
 ghost use Rattle.std.specs.Prelude.{◌≡◌, ◌≤◌, ◌<◌, ◌↔◌, ◌^◌, ℕ, length, All, IsTrue};
 ghost use Rattle.links.specs.Cut.{links_at};
 ghost use Rattle.links.specs.Link.{EndsUpTo};
