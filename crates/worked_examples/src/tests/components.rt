@@ -10,7 +10,6 @@ use worked_graphs::{
     A_NEGATIVE_WEIGHT, A_PATH_OF_EIGHT, EQUAL_WEIGHTS, PARALLEL_ARCS, Row, SMALL_NET, WIDE_WEIGHTS,
 };
 
-// The links of these arcs between the vertices 1 to n give these labels, or `None`.
 pub(crate) fn expect_components(
     rt: &impl Abort,
     alloc: Global,

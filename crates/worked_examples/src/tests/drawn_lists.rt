@@ -27,7 +27,6 @@ pub(crate) fn slow_forest(rt: &impl Abort, alloc: Global, n: u32, links: &[Link]
     taken
 }
 
-// Replaces each label `from` by `to`.
 pub(crate) fn rename(labels: &mut [u32], from: u32, to: u32) {
     for label in labels.iter_mut() {
         if *label == from {

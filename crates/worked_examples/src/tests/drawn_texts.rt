@@ -88,7 +88,6 @@ fn drawn_weight(state: &mut u64) -> &'static [u8] {
     }
 }
 
-// Appends these bytes to the text.
 fn put(rt: &impl Abort, text: &mut Vec<u8>, bytes: &[u8]) {
     text.extend_from_slice(bytes).expect(rt, "memory");
 }
@@ -135,7 +134,6 @@ fn read_cut(
     (reader.line(), reader.finish())
 }
 
-// Whether both are the same graph, or the same error.
 fn is_same(one: &Result<Graph, ReadFault>, other: &Result<Graph, ReadFault>) -> bool {
     match (one, other) {
         (Ok(one), Ok(other)) => one.n() == other.n() && one.links() == other.links(),

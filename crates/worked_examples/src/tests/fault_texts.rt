@@ -71,7 +71,6 @@ fn of_each_refused_cut(rt: HostRuntime) {
     }
 }
 
-// Each number of a report follows its own name.
 #[test]
 fn of_a_report(rt: HostRuntime) {
     let report = Report {

@@ -26,7 +26,6 @@ const FORESTS: [&[u8]; 3] = [
     b"p sp 6 4\na 2 5 0\na 3 4 0\na 3 5 0\na 4 6 3\n",
 ];
 
-// Reads these files one after the other, and returns what is kept of them.
 fn joined<C: Crew>(
     rt: &impl Abort,
     crew: &C,
@@ -70,7 +69,6 @@ fn expect_each_way(
     }
 }
 
-// The report of a run over parts, with these counts and this total.
 fn counted(vertices: u32, links: u64, total: i128) -> Report {
     Report {
         vertices,

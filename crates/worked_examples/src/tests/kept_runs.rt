@@ -66,7 +66,6 @@ pub(super) fn rows(rt: &impl Abort, alloc: Global, n: u32, count: u32, weights: 
     arcs
 }
 
-// The report of a run.
 pub(super) fn report_of(vertices: u32, links: &[Link], forest: &[Link]) -> Report {
     let mut total = 0i128;
     for link in forest {
@@ -85,7 +84,6 @@ pub(super) fn report_of(vertices: u32, links: &[Link], forest: &[Link]) -> Repor
     }
 }
 
-// The text of a file with n vertices and these links.
 pub(super) fn text_of(rt: &impl Abort, alloc: Global, n: u32, links: &[Link]) -> Vec<u8> {
     let mut rows = Vec::new(alloc);
     for link in links {

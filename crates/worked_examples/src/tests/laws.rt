@@ -7,7 +7,6 @@ use std::alloc::Global;
 use std::process::Abort;
 use worked_graphs::{Row, TEXTBOOK, WORKED};
 
-// The rows of both lists.
 fn rows_of_both(rt: &impl Abort, alloc: Global, first: &[Row], second: &[Row]) -> Vec<Row> {
     let mut both = Vec::from_slice(alloc, first).expect(rt, "memory");
     both.extend_from_slice(second).expect(rt, "memory");
@@ -82,7 +81,6 @@ const FORESTS: [&[Row]; 2] = [
     &[(1, 2, 4), (1, 8, 8), (2, 3, 8)],
 ];
 
-// The solver finds the rows `forest` as the forest of the rows `arcs`.
 fn expect_rows(rt: &impl Abort, alloc: Global, arcs: &[Row], forest: &[Row]) {
     let wanted = links_between(rt, alloc, 9, forest);
     expect_forest(rt, alloc, 9, arcs, wanted.as_slice());
@@ -156,7 +154,6 @@ const SQUARES: [Row; 14] = [
 // The index in the book's list of each link of the forest.
 const PLACES: [usize; 8] = [6, 10, 5, 0, 12, 2, 7, 3];
 
-// The forest's links are at these indices of the list.
 fn expect_places(rt: &impl Abort, alloc: Global, arcs: &[Row]) {
     let links = links_between(rt, alloc, 9, arcs);
     let forest = plain_forest(alloc, 9, links.as_slice()).expect(rt, "memory");

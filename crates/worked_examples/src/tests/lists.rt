@@ -11,7 +11,6 @@ use std::alloc::Global;
 use std::process::Abort;
 use worked_graphs::{Row, WORKED, links_of};
 
-// The links of the arcs. Their endpoints are vertices from 1 to n.
 pub(crate) fn links_between(rt: &impl Abort, alloc: Global, n: u32, arcs: &[Row]) -> Vec<Link>
     ensures { EndsUpTo n result.items }
 {

@@ -17,7 +17,6 @@ fn merge(first: u32, second: u32, size: u32) -> Merge {
     }
 }
 
-// The links of these arcs between the vertices 1 to n make these merges, or `None`.
 fn expect_merges(rt: &impl Abort, alloc: Global, n: u32, arcs: &[Row], merges: Option<&[Merge]>) {
     let links = links_between(rt, alloc, n, arcs);
     assert!(rt; n <= MAX_VERTICES && links.len() <= MAX_ARCS as usize);

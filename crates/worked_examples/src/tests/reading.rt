@@ -29,7 +29,6 @@ fn expect_small_net(rt: &impl Abort, read: Result<Graph, ReadFault>) {
     expect_same(rt, found, (6, true));
 }
 
-// Whether the links have these lower endpoints, higher endpoints and weights.
 fn are_links(links: &[Link], expected: &[Row]) -> bool {
     links.len() == expected.len()
         && links

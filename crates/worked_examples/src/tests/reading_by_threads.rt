@@ -57,7 +57,6 @@ impl Drawn {
         }
     }
 
-    // Appends bytes to the text.
     fn put(&mut self, rt: &impl Abort, bytes: &[u8]) {
         self.text.extend_from_slice(bytes).expect(rt, "memory");
     }
@@ -103,7 +102,6 @@ fn expect_read<R: Abort + Threads + Sync>(rt: &R, alloc: Global, drawn: &Drawn, 
     }
 }
 
-// Each of these numbers of threads finds this error.
 fn expect_fault<R: Abort + Threads + Sync>(rt: &R, alloc: Global, text: &[u8], fault: ReadFault) {
     for threads in FEW_THREADS {
         let mut source = text;
@@ -242,7 +240,6 @@ fn tells_what_is_wrong_with_the_whole(rt: HostRuntime) {
     );
 }
 
-// A read that fails in the middle.
 #[test]
 fn tells_where_a_read_failed(rt: HostRuntime) {
     for threads in THREADS {

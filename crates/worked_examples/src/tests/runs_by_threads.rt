@@ -21,7 +21,6 @@ const SIZES: [u32; 9] = [
     0, 2, 16_384, 16_385, 16_386, 24_577, 32_770, 65_540, 300_001,
 ];
 
-// The path's forest and its text.
 fn path_forest(rt: &impl Abort, alloc: Global, n: u32) -> (Forest, Vec<u8>) {
     let arcs = path(rt, alloc, n);
     let links = links_between(rt, alloc, n, arcs.as_slice());

@@ -210,7 +210,6 @@ fn labels_and_offers(rt: HostRuntime) {
     }
 }
 
-// The graph has this many vertices and these links.
 fn expect_graph(rt: &impl Abort, graph: &Graph, n: u32, links: &[Link]) {
     expect_same(rt, (graph.n(), graph.links()), (n, links));
 }

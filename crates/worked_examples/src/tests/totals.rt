@@ -14,7 +14,6 @@ fn totals_of_the_worked_graphs(rt: HostRuntime) {
     }
 }
 
-// A hundred thousand times the least weight.
 #[test]
 fn a_total_of_many_links(rt: HostRuntime) {
     let mut links = Vec::new(rt.alloc());

@@ -24,14 +24,12 @@ const COARSER_ANSWER: [u8; 33] = [
     0, 2,
 ];
 
-/// The frames that a session gets, and the answers to its asks.
 #[derive(Clone, Copy)]
 struct Talk<'a> {
     heard: &'a [&'a [u8]],
     answers: &'a [&'a [u8]],
 }
 
-// The parts, one after the other.
 fn joined(rt: &impl Abort, alloc: Global, parts: &[&[u8]]) -> Vec<u8> {
     let mut bytes = Vec::new(alloc);
     for part in parts {

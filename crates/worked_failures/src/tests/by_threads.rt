@@ -11,7 +11,6 @@ use std::process::Abort;
 use std::thread::Threads;
 use worked_graphs::{Row, links_of};
 
-// The number of vertices of a path.
 const VERTICES: u32 = 20_000;
 
 // The arcs of a path, each as heavy as its first vertex. And the path as a file, which is also its forest's text.

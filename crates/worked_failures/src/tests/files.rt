@@ -14,7 +14,6 @@ use std::sync::Wait;
 use std::thread::Threads;
 use worked_graphs::{SMALL_NET, WIDE_WEIGHTS, Worked};
 
-/// A run by one thread, or over two workers.
 #[derive(Clone, Copy)]
 enum Way {
     OneThread,
@@ -53,7 +52,6 @@ fn fault_of(
     }
 }
 
-// The line of the byte after these.
 fn line_behind(bytes: &[u8]) -> u64 {
     let mut line = 1u64;
     for byte in bytes {

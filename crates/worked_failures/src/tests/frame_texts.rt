@@ -111,7 +111,6 @@ fn text_of<'a>(
     }
 }
 
-// The bytes of the frame that was read.
 fn again<'a>(
     rt: &impl Abort,
     memory: &'a Memory,
@@ -121,7 +120,6 @@ fn again<'a>(
     written(rt, memory, &frame)
 }
 
-// The bytes of a frame, which has to be lawful.
 pub(crate) fn written<'a, A: Allocator>(
     rt: &impl Abort,
     memory: &'a Memory,
@@ -143,7 +141,6 @@ fn decoded_again<'a>(
     again(rt, memory, decode_body(memory, head, body))
 }
 
-// An ask in which each vertex is by itself.
 fn ask_apart<'a>(
     rt: &impl Abort,
     alloc: Global,
@@ -153,7 +150,6 @@ fn ask_apart<'a>(
     encode_ask(memory, 1, 0, &labels)
 }
 
-// An ask with these labels is that one.
 fn expect_ask<'a>(
     rt: &impl Abort,
     memory: &'a Memory,
@@ -187,7 +183,6 @@ fn ask_spelled<'a>(rt: &impl Abort, memory: &'a Memory) -> Result<Vec<u8, &'a Me
     encode_ask(memory, 1, 0, &labels)
 }
 
-// A triangle's links as a shard.
 fn encode_triangle<'a>(
     rt: &impl Abort,
     alloc: Global,
@@ -202,7 +197,6 @@ fn encode_triangle<'a>(
     encode_shard(memory, &shard)
 }
 
-// An answer of three offers.
 fn encode_answer<'a>(
     rt: &impl Abort,
     alloc: Global,

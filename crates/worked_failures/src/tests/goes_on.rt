@@ -16,10 +16,8 @@ use test_memory::{Refusals, Refusing};
 use worked_graphs::{SMALL_NET, all_have_labels};
 use worker_engine::serve;
 
-// More allocations than the session makes.
 const MOST: u64 = 100;
 
-// The parts, one after the other.
 fn joined(rt: &impl Abort, alloc: Global, parts: &[&[u8]]) -> Vec<u8> {
     let mut bytes = Vec::new(alloc);
     for part in parts {

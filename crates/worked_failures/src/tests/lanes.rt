@@ -18,7 +18,6 @@ use worked_graphs::{SMALL_NET, WIDE_WEIGHTS, Worked, all_have_labels};
 /// A lane to a worker in memory.
 type Worker<'a, 'b> = Lane<Wire<'b, EngineLine<&'a Memory>, &'a Memory>, &'a Memory>;
 
-// A lane to the worker of this number.
 fn lane<'a, 'b>(
     memory: &'a Memory,
     cut: &'b Cut<'b, &'a Memory>,

@@ -30,13 +30,11 @@ pub(crate) fn few_links(rt: &impl Abort, alloc: Global, n: u32, arcs: &[Row]) ->
     links
 }
 
-// These are the links of the graph's forest.
 pub(crate) fn expect_forest(rt: &impl Abort, alloc: Global, found: &[Link], graph: &Worked) {
     let forest = few_links(rt, alloc, graph.n, graph.forest);
     expect_same(rt, found, forest.as_slice());
 }
 
-// An even cut of links between the vertices 1 to n into `count` shards.
 pub(crate) fn even_cut<'a>(
     rt: &impl Abort,
     memory: &'a Memory,
@@ -53,7 +51,6 @@ pub(crate) fn even_cut<'a>(
     Ok(cut)
 }
 
-// The shards of this cut have these sizes.
 fn expect_sizes(
     rt: &impl Abort,
     cut: Result<Cut<&Memory>, CutFault>,

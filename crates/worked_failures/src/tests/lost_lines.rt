@@ -22,7 +22,6 @@ use worked_graphs::{SMALL_NET, have_labels};
 // More allocations than any of these runs makes.
 const MOST: u64 = 100;
 
-// A list of this line.
 pub(crate) fn one_line<L: Line + Drop, A: Allocator>(
     memory: A,
     line: L,
@@ -69,7 +68,6 @@ fn expect_counts(rt: &impl Abort, report: &Report, closed: u64) {
     expect_same(rt, alone > 0, closed == 1);
 }
 
-// Whether an ask of the one shard is answered.
 fn is_answered<'a>(
     rt: &impl Abort,
     wire: &mut Wire<'_, EngineLine<&'a Memory>, &'a Memory>,
@@ -85,7 +83,6 @@ fn is_answered<'a>(
     wire.ask(round, 0, labels).is_ok()
 }
 
-// Labels in this memory.
 fn labels_of<'a>(rt: &impl Abort, memory: &'a Memory, list: [u32; 6]) -> Labels<&'a Memory> {
     let list = list.to_vec(memory).expect(rt, "memory");
     Labels::of_list(list).expect(rt, "labels")

@@ -19,7 +19,6 @@ use worked_graphs::{
 };
 use worker_engine::scan;
 
-// The seat of this number claims a shard.
 fn claim<'a>(
     board: &Board<&'a Memory>,
     seats: &mut Vec<Seat, &'a Memory>,
@@ -100,7 +99,6 @@ fn expect_claims_of_one(rt: &impl Abort, memory: &Memory) -> Result<(), AllocErr
     Ok(())
 }
 
-// A book of the first round over the cut.
 fn opened<'a, 'b>(
     rt: &impl Abort,
     memory: &'a Memory,
@@ -156,7 +154,6 @@ fn expect_taken<'a>(
     expect_same(rt, (taken, memory.asked()), (true, asked));
 }
 
-// The picks of the book's round if each shard's answer offers this.
 fn picks_of<'a>(
     rt: &impl Abort,
     memory: &'a Memory,
@@ -179,7 +176,6 @@ fn picks_of<'a>(
     Ok(book.close())
 }
 
-// The picks of a round over the cut if each shard's answer offers this.
 fn picks_over<'a>(
     rt: &impl Abort,
     memory: &'a Memory,
@@ -269,7 +265,6 @@ const STEPS: [(Turn, [u32; 6]); 3] = [
     (Turn::Done, [1; 6]),
 ];
 
-// These steps over the cut, and the graph's forest at the end.
 fn expect_solved<'a>(
     rt: &impl Abort,
     alloc: Global,
@@ -302,7 +297,6 @@ fn finished<'a>(
     }
 }
 
-// The labels after the first round over the cut.
 fn expect_relabelled<'a>(
     rt: &impl Abort,
     memory: &'a Memory,
@@ -413,7 +407,6 @@ const CALLS: [(Call, Worked, u32); 7] = [
     (Call::Lies, EQUAL_WEIGHTS, 1),
 ];
 
-// The call over the cut.
 fn make<'a>(
     rt: &impl Abort,
     alloc: Global,

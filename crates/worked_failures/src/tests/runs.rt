@@ -48,7 +48,6 @@ fn expect_ended(
     }
 }
 
-// A run by one thread.
 fn expect_plain(
     rt: &impl Abort,
     alloc: Global,
@@ -62,7 +61,6 @@ fn expect_plain(
     Ok(())
 }
 
-// New lines to two workers, each in memory.
 pub(crate) fn two_workers<A: Allocator + Copy>(
     alloc: A,
 ) -> Result<Vec<EngineLine<A>, A>, AllocError>
@@ -145,7 +143,6 @@ enum Script {
     PastBound,
 }
 
-// Its bytes, after the worker's hello.
 fn answers_of(script: Script) -> &'static [u8] {
     match script {
         Script::Stale => &[4, 0, 0, 0, 12, 0, 0, 0, 0, 0, 0, 0, 0, 0, 0, 0, 0],

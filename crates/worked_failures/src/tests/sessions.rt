@@ -9,7 +9,6 @@ use std::process::Abort;
 use std::thread::Threads;
 use worker_engine::{ServeFault, Served, serve};
 
-// How the session ends without a failure.
 const SERVED: Result<Served, ServeFault> = Ok(Served {
     frames: 2,
     answers: 1,
@@ -21,7 +20,6 @@ const GREETED: usize = 11;
 
 const ANSWERED: usize = 52;
 
-// Two texts, one after the other.
 pub(crate) fn joined(rt: &impl Abort, alloc: Global, first: &[u8], second: &[u8]) -> Vec<u8> {
     let mut bytes = Vec::from_slice(alloc, first).expect(rt, "memory");
     bytes.extend_from_slice(second).expect(rt, "memory");

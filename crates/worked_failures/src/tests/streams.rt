@@ -24,7 +24,6 @@ pub(crate) struct Place {
     pub(crate) piece: usize,
 }
 
-// A source of these bytes.
 pub(crate) fn source_of(bytes: Vec<u8>, place: Place) -> FusedSource
     requires piece { 1 ≤ place.piece }
     ensures can_read { (result.failures < 2 ^ 64 - 1) × (result.ends < 2 ^ 64 - 1) }
@@ -36,7 +35,6 @@ pub(crate) fn source_of(bytes: Vec<u8>, place: Place) -> FusedSource
     FusedSource::new(bytes, passes, place.piece)
 }
 
-// A sink that has taken nothing yet.
 pub(crate) fn sink_at(alloc: Global, place: Place) -> Result<FusedSink, AllocError>
     requires piece { 1 ≤ place.piece }
     ensures can_write { IfOk result (λ sink. sink.setbacks < 2 ^ 64 - 1) }

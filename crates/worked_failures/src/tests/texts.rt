@@ -162,7 +162,6 @@ const LAST_LINES: [(&[u8], Result<(), ReadFault>); 2] = [
     (b"p sp 2 1\na 1 2 3\n", Err(ReadFault::Memory)),
 ];
 
-// The text is read as a graph of this link.
 fn expect_link(rt: &impl Abort, read: Result<Graph<&Memory>, ReadFault>) -> Result<(), AllocError> {
     let graph = or_refused(rt, read, ReadFault::Memory)?;
     let link = Link::of_arc(1, 2, 3).expect(rt, "a link");
@@ -170,7 +169,6 @@ fn expect_link(rt: &impl Abort, read: Result<Graph<&Memory>, ReadFault>) -> Resu
     Ok(())
 }
 
-// Feeds the reader the text in these pieces.
 fn read_pieces<'a>(memory: &'a Memory, pieces: &[&[u8]]) -> Result<Graph<&'a Memory>, ReadFault> {
     let mut reader = GrReader::new(memory, MAX_BYTES);
     for piece in pieces {

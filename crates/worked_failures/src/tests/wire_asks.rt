@@ -66,7 +66,6 @@ fn expect_asked(
     expect_over_cut(rt, memory, &cut, asked)
 }
 
-// The same over the cut.
 fn expect_over_cut<'a>(
     rt: &impl Abort,
     memory: &'a Memory,

@@ -18,14 +18,12 @@ enum By {
     Threads,
 }
 
-/// Which call passes a frame to the engine.
 #[derive(Clone, Copy)]
 enum HearBy {
     Hear,
     HearPar,
 }
 
-// The offers of a scan of the links.
 fn offers<'a>(
     rt: &(impl Abort + Threads + Sync),
     memory: &'a Memory,
@@ -55,7 +53,6 @@ fn expect_offers(
     Ok(())
 }
 
-// The engine's reply to a frame.
 fn heard<'a>(
     rt: &(impl Abort + Threads + Sync),
     by: HearBy,

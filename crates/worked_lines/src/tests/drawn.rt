@@ -15,7 +15,6 @@ use std::thread::Threads;
 /// A worker in memory on a line that may stop.
 type Fused = FusedLine<EngineLine<Global>>;
 
-/// The numbers of a linear congruential generator.
 #[derive(Drop)]
 struct Draws {
     state: u64,
@@ -34,7 +33,6 @@ impl Draws {
         ((self.state >> 33) % u64::from(bound)) as u32
     }
 
-    // A vertex from 1 to n.
     fn vertex(&mut self, n: u32) -> u32
         requires some { 0 < n }
         requires few { n ≤ 200 }
@@ -99,7 +97,6 @@ fn drawn_line(alloc: Global, draws: &mut Draws, worker: u32) -> Result<Fused, Al
     })
 }
 
-// Up to five lines.
 fn drawn_lines(alloc: Global, draws: &mut Draws) -> Result<Vec<Fused>, AllocError>
     ensures few { IfOk result (λ lines. length lines.items ≤ 64) }
     ensures room { IfOk result (λ lines. All (λ line. HasRoom (with_stops (line_of line.line) line.stopped)) lines.items) }

@@ -83,7 +83,6 @@ fn is_of_shard(frame: &[u8], shard: u8) -> bool {
     frame.get(8) == Some(&shard)
 }
 
-// Whether the count reaches this number.
 fn reaches(count: &AtomicU64, least: u64) -> bool {
     for _ in 0..TURNS {
         if count.load(SeqCst) >= least {
@@ -147,7 +146,6 @@ fn nine_gates<'a>(alloc: Global, asked: &'a AtomicU64) -> Result<Vec<Gate<'a>>, 
     Ok(lines)
 }
 
-// Each waits for the other's first ask.
 #[test]
 fn lines_that_wait_for_each_other(rt: HostRuntime) {
     let alloc = rt.alloc();

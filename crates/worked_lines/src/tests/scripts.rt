@@ -32,7 +32,6 @@ pub(crate) fn script_line(alloc: Global, answers: &[Numbers]) -> Result<ScriptLi
     Ok(ScriptLine::new(bytes))
 }
 
-// A list of that line.
 fn script(alloc: Global, answers: &[Numbers]) -> Result<Vec<ScriptLine>, AllocError>
     ensures one { IfOk result (λ lines. length lines.items ≡ 1) }
     ensures room { IfOk result (λ lines. All (λ line. HasRoom (line_of_script line)) lines.items) }

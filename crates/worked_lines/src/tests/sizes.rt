@@ -15,7 +15,6 @@ fn weight(vertex: u32) -> u32 {
     vertex.trailing_zeros()
 }
 
-// Appends the arc from a vertex to the next.
 fn push_arc(rt: &impl Abort, alloc: Global, text: &mut Vec<u8>, vertex: u32) {
     let next = vertex.wrapping_add(1);
     let line = format!(in alloc; "a {vertex} {next} {}\n", weight(vertex)).expect(rt, "memory");

@@ -135,7 +135,6 @@ fn of_cut(rt: &impl Abort, memory: &Memory, call: Call, n: u32, links: &[Link]) 
     most_beside(memory, before)
 }
 
-// The peak of parsing the text of a graph with these arcs.
 fn of_text(rt: &impl Abort, alloc: Global, list: List) -> u64 {
     let arcs = arcs_in(rt, alloc, list);
     let head = format!(in alloc; "p sp {} {}\n", list.n, arcs.len()).expect(rt, "memory");
@@ -149,7 +148,6 @@ fn of_text(rt: &impl Abort, alloc: Global, list: List) -> u64 {
     memory.bytes().most
 }
 
-// The links of the minimum spanning forest of these links.
 fn tree_of(rt: &impl Abort, alloc: Global, n: u32, links: &[Link]) -> Vec<Link>
     requires vertices { n ≤ 2 ^ 26 }
     requires few { length links.now ≤ 2 ^ 24 }
@@ -268,7 +266,6 @@ fn bytes_of_vertices_and_links(rt: HostRuntime) {
     }
 }
 
-// A graph with one link and many vertices.
 #[test]
 fn bytes_of_one_link_between_a_million_vertices(rt: HostRuntime) {
     let list = List {

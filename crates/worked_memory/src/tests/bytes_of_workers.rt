@@ -44,7 +44,6 @@ fn of_scan(rt: &impl Abort, memory: &Memory, call: Call, n: u32, links: &[Link])
     most_beside(memory, before)
 }
 
-// The peak of writing a frame.
 fn of_writing(rt: &impl Abort, memory: &Memory, call: Call, n: u32, links: &[Link]) -> u64
     requires vertices { n ≤ 2 ^ 26 }
     requires few { length links.now ≤ 2 ^ 24 }
@@ -63,7 +62,6 @@ fn of_writing(rt: &impl Abort, memory: &Memory, call: Call, n: u32, links: &[Lin
     most_beside(memory, before)
 }
 
-// The peak of reading a frame.
 fn of_reading(
     rt: &impl Abort,
     alloc: Global,
@@ -87,7 +85,6 @@ fn of_reading(
     memory.bytes().most
 }
 
-// The peak of the call over these links of n vertices.
 fn taken(rt: &impl Abort, alloc: Global, call: Call, n: u32, links: &[Link]) -> u64
     requires vertices { n ≤ 2 ^ 26 }
     requires few { length links.now ≤ 2 ^ 24 }

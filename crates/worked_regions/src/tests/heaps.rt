@@ -123,7 +123,6 @@ const ORDERS: [([usize; 3], [usize; 3]); 6] = [
     ([0, 1, 2], [3936, 3936, 3984]),
 ];
 
-// The bytes that are left after each of three blocks was freed in this order.
 fn left_after_each(rt: &impl Abort, alloc: Global, order: [usize; 3]) -> [usize; 3] {
     let heap = heap_of(rt, alloc, PAGE);
     let mut blocks = [

@@ -5,7 +5,6 @@ use region_heap::{OneBlock, Region};
 use std::alloc::Global;
 use std::process::Abort;
 
-// The allocator over a region of `size` bytes.
 fn one_block(rt: &impl Abort, alloc: Global, size: usize) -> OneBlock {
     OneBlock::new(region_of(rt, alloc, size))
 }

@@ -11,7 +11,6 @@ use std::sync::atomic::{AtomicU64, Ordering};
 use std::thread;
 use std::thread::Threads;
 
-// The seat of this number claims a shard.
 fn claim(board: &Board<Global>, seats: &mut Vec<Seat>, number: usize, shard: u32) -> Claim
     requires seats { AreSeats board.now seats.old.items }
     requires number { number < board.now.seats }
@@ -54,7 +53,6 @@ fn a_shard_goes_from_seat_to_seat(rt: HostRuntime) {
     expect_same(&rt, found, (true, Some(1), None, None));
 }
 
-// Claims every shard in ascending order, and returns how many claims were won.
 fn claim_all(board: &Board<Global>, seat: &mut Seat) -> u64
     requires seat { seat.old.board ≡ board.now }
     requires shards { board.now.shards ≡ 4096 }
@@ -110,7 +108,6 @@ fn are_held(owners: &Owners<Global>, holders: &[Option<u32>]) -> bool {
     all
 }
 
-// The seat that holds each shard.
 fn holders(rt: &impl Abort, alloc: Global, seats: &[Seat]) -> Vec<Option<u32>> {
     let mut holders = Vec::with_capacity(alloc, MAX_SHARDS).expect(rt, "memory");
     for shard in 0..MAX_SHARDS as u32 {

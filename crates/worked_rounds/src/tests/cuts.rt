@@ -44,7 +44,6 @@ fn expect_joined(rt: &impl Abort, alloc: Global, cut: &Cut, links: &[Link]) {
     expect_same(rt, cut.links(), links);
 }
 
-// The cut has shards of these sizes.
 fn expect_sizes(
     rt: &impl Abort,
     alloc: Global,
@@ -138,7 +137,6 @@ fn as_many_shards_as_there_may_be(rt: HostRuntime) {
     }
 }
 
-// An even cut has this many shards, each of two or three links.
 fn expect_twos_and_threes(rt: &impl Abort, alloc: Global, links: &[Link], count: u32)
     requires { length links.now ≤ 2 ^ 30 }
 {

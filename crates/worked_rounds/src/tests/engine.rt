@@ -125,7 +125,6 @@ fn served(frames: u64, answers: u64, faults: u64) -> Result<Served, ServeFault> 
     })
 }
 
-// The bytes of these parts, one after the other.
 fn joined(rt: &impl Abort, alloc: Global, parts: &[&[u8]]) -> Vec<u8> {
     let mut bytes = Vec::new(alloc);
     for part in parts {
@@ -152,14 +151,12 @@ fn session(
     (end, sink)
 }
 
-/// How a session ends, and the parts of what it has written.
 #[derive(Clone, Copy)]
 struct Ended<'a> {
     end: Result<Served, ServeFault>,
     written: &'a [&'a [u8]],
 }
 
-// A session over these bytes ends like this.
 fn expect_session(
     rt: &(impl Abort + Threads + Sync),
     alloc: Global,
@@ -292,7 +289,6 @@ fn an_ask_under_coarser_labels_keeps_the_list(rt: HostRuntime) {
     expect_same(&rt, twice.wrapping_sub(once), 4);
 }
 
-// The worker's reply to the frame with these bytes, if there is one.
 fn replied(
     rt: &(impl Abort + Threads + Sync),
     alloc: Global,
@@ -307,7 +303,6 @@ fn replied(
     }
 }
 
-// The bytes of a frame, which has to be lawful.
 fn lawful_text(rt: &impl Abort, alloc: Global, frame: &Frame) -> Vec<u8> {
     assert!(rt; frame.is_lawful());
     encode(alloc, frame).expect(rt, "memory")
@@ -427,7 +422,6 @@ fn expect_answers(
     expect_session(rt, alloc, &parts, None, expected)
 }
 
-// The same for a session over many links.
 fn expect_answers_of_many(rt: &(impl Abort + Threads + Sync), alloc: Global) {
     let links = many_links(rt, alloc);
     let labels = many_labels(rt, alloc);
@@ -435,7 +429,7 @@ fn expect_answers_of_many(rt: &(impl Abort + Threads + Sync), alloc: Global) {
     expect_answers(rt, alloc, links.as_slice(), &labels, expected)
 }
 
-// The same for a session over `count` links that go round the path of n vertices.
+// The same for `count` links that go round the path of n vertices.
 fn expect_answers_of_falling(
     rt: &(impl Abort + Threads + Sync),
     alloc: Global,
@@ -500,13 +494,11 @@ fn labels_but(rt: &impl Abort, alloc: Global, vertex: u32) -> Labels {
     Labels::of_list(list).expect(rt, "labels")
 }
 
-// The bytes of a shard.
 fn shard_text(rt: &impl Abort, alloc: Global, shard: &Shard) -> Vec<u8> {
     assert!(rt; shard.number < 4096 && shard.links.len() <= 1 << 24);
     encode_shard(alloc, shard).expect(rt, "memory")
 }
 
-// The bytes of an answer of this round and shard, with these offers.
 fn answer_text(rt: &impl Abort, alloc: Global, round: u32, shard: u32, offers: Offers) -> Vec<u8> {
     let answer = Frame::Answer(Answer {
         round,
@@ -531,7 +523,6 @@ fn asked_and_answered(
     (ask, answer_text(rt, alloc, round, number, offers))
 }
 
-/// The frames that a session gets, and those that it writes.
 #[derive(Drop)]
 struct Texts {
     heard: Vec<u8>,

@@ -22,7 +22,6 @@ const ENDS: [(u32, u32); 3] = [(1, 0), (2, 0), (3, 2)];
 
 const JOINED: [(u32, u32); 2] = [(1, 2), (3, 2)];
 
-// A kept shard of these arcs.
 fn kept_arcs(rt: &impl Abort, alloc: Global, n: u32, arcs: &[Row]) -> KeptShard
     ensures { IsAllLive result }
 {

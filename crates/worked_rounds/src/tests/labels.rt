@@ -11,7 +11,6 @@ pub(crate) fn labels_of<A: Allocator>(rt: &impl Abort, alloc: A, list: &[u32]) -
     Labels::of_list(list).expect(rt, "labels")
 }
 
-// Whether each of these coarsens the labels.
 fn coarsen(all: [&Labels; 4], labels: &Labels) -> [bool; 4] {
     let [first, second, third, fourth] = all;
     [

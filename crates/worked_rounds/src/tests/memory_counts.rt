@@ -14,7 +14,6 @@ pub(crate) fn counts<A: Allocator>(memory: &Refusing<A>) -> [u64; 4] {
     ]
 }
 
-// Whether the next allocation fails.
 pub(crate) fn refuses<A: Allocator>(memory: &Refusing<A>) -> bool {
     Box::new(memory, 8u8).is_err()
 }
@@ -126,7 +125,6 @@ fn a_growth_is_refused(rt: HostRuntime) {
     expect_same(&rt, counts(&memory), [2, 1, 1, 0]);
 }
 
-// The numbers below 10,000.
 fn ten_thousand<A: Allocator>(rt: &impl Abort, alloc: A) -> Vec<u32, A> {
     let mut numbers = Vec::new(alloc);
     for number in 0..10_000u32 {

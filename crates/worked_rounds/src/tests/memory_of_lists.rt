@@ -5,7 +5,6 @@ use std::alloc::Global;
 use std::process::Abort;
 use test_memory::{Refusals, Refusing};
 
-// How many blocks were allocated in all, and how many still are.
 type Blocks = (u64, u64);
 
 /// What happens to a list that is the only block: the blocks before the call, and whether the call makes something of

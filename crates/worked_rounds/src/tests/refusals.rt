@@ -7,11 +7,9 @@ use test_memory::{Found, Refusals, Refusing, refuse_each};
 /// Work with an allocator that may fail.
 #[derive(Clone, Copy, Debug, PartialEq)]
 enum Work {
-    /// Allocates nothing.
     Nothing,
-    /// Allocates two boxes.
     TwoBoxes,
-    /// The same, but ignores a failed allocation of the second box.
+    /// Allocates two boxes, and ignores it if the second allocation fails.
     PassesOver,
     /// Allocates a box, and then fails although no allocation failed.
     Fails,

@@ -33,14 +33,12 @@ pub(crate) fn scanned(
     offers
 }
 
-/// How an engine scans: by one thread, or by threads.
 #[derive(Clone, Copy)]
 pub(crate) enum By {
     OneThread,
     Threads,
 }
 
-/// A worker's engine, and how it scans.
 #[derive(Drop)]
 pub(crate) struct Worker<A: Allocator = Global> {
     engine: Engine<A>,
@@ -55,7 +53,7 @@ impl<A: Allocator + Copy + Send + Sync> Worker<A> {
         }
     }
 
-    // Its reply to a frame, which has to be lawful.
+    // The worker's reply to a frame. Both have to be lawful.
     pub(crate) fn reply(
         &mut self,
         rt: &(impl Abort + Threads + Sync),
@@ -71,7 +69,7 @@ impl<A: Allocator + Copy + Send + Sync> Worker<A> {
         heard.expect(rt, "memory")
     }
 
-    // It gets a shard with these links, and doesn't reply.
+    // The worker gets a shard with these links, and doesn't reply.
     pub(crate) fn keep(
         &mut self,
         rt: &(impl Abort + Threads + Sync),
@@ -86,7 +84,7 @@ impl<A: Allocator + Copy + Send + Sync> Worker<A> {
         expect_same(rt, reply.is_none(), true);
     }
 
-    // The offers of its answer to an ask of this shard with these labels.
+    // The offers of the worker's answer to an ask of this shard with these labels.
     pub(crate) fn answered(
         &mut self,
         rt: &(impl Abort + Threads + Sync),
@@ -104,7 +102,6 @@ impl<A: Allocator + Copy + Send + Sync> Worker<A> {
         }
     }
 
-    // It answers such an ask with these offers.
     pub(crate) fn expect_answer(
         &mut self,
         rt: &(impl Abort + Threads + Sync),
@@ -117,7 +114,6 @@ impl<A: Allocator + Copy + Send + Sync> Worker<A> {
     }
 }
 
-// The offers are these.
 pub(crate) fn expect_offers<A: Allocator>(
     rt: &impl Abort,
     offers: &Offers<A>,
@@ -126,12 +122,10 @@ pub(crate) fn expect_offers<A: Allocator>(
     expect_same(rt, offers.pairs(), expected);
 }
 
-// A scan has enough memory, and gives these offers.
 fn expect_given(rt: &impl Abort, given: Result<Offers, AllocError>, expected: &[(u32, u32)]) {
     expect_offers(rt, &given.expect(rt, "memory"), expected);
 }
 
-// The links of arcs whose endpoints are vertices from 1 to n.
 pub(crate) fn links_between(rt: &impl Abort, alloc: Global, n: u32, arcs: &[Row]) -> Vec<Link> {
     let links = links_of(alloc, n, arcs).expect(rt, "memory");
     links.expect(rt, "arcs")
@@ -172,7 +166,6 @@ fn ascending(rt: &impl Abort, alloc: Global, from: u32, links: &[Link]) -> Vec<(
     sorted
 }
 
-// The label of a vertex, if it has one.
 fn label_of(labels: &[u32], vertex: u32) -> Option<u32> {
     labels.get((vertex as usize).checked_sub(1)?).copied()
 }
@@ -575,7 +568,6 @@ fn links_of_labels_that_lie_far_apart(rt: HostRuntime) {
     }
 }
 
-// The worker answers an ask of its only shard under these labels with these offers.
 fn expect_under(
     rt: &(impl Abort + Threads + Sync),
     alloc: Global,
@@ -611,7 +603,6 @@ fn expect_live_again(rt: &(impl Abort + Threads + Sync), alloc: Global, worker: 
     expect_each(rt, alloc, worker, &asked)
 }
 
-// It answers each ask like this.
 fn expect_each(
     rt: &(impl Abort + Threads + Sync),
     alloc: Global,
@@ -663,7 +654,6 @@ const UNDER: [(&[u32], &[(u32, u32)]); 9] = [
     ),
 ];
 
-// A scan of the whole list with these labels gives these offers.
 fn expect_scan(
     rt: &(impl Abort + Threads + Sync),
     alloc: Global,

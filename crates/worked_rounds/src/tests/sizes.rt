@@ -12,7 +12,6 @@ use std::process::Abort;
 use std::thread::Threads;
 use worker_engine::Scanner;
 
-/// The numbers of vertices and links.
 type Size = (u32, u32);
 
 // 131,072 links are scanned in two parts, 262,144 in four parts on four processors, and 524,288 in eight on eight. But
@@ -84,7 +83,6 @@ pub(crate) fn falling_offers(
     plain_offers(rt, alloc, from, last.as_slice(), labels)
 }
 
-// The labels of n vertices, each by itself.
 pub(crate) fn apart(rt: &impl Abort, alloc: Global, n: u32) -> Labels {
     neighbours(rt, alloc, n, 1)
 }
@@ -158,13 +156,11 @@ fn engines_of_each_size(rt: HostRuntime) {
     }
 }
 
-// The greatest allowed number of links of a shard.
 #[test]
 fn an_engine_keeps_the_longest_shard(rt: HostRuntime) {
     expect_answers(&rt, rt.alloc(), By::Threads, (3, 1 << 24))
 }
 
-// A worker keeps a shard of one link, and gets an ask for it.
 fn expect_shard(
     rt: &(impl Abort + Threads + Sync),
     alloc: Global,

@@ -127,7 +127,6 @@ fn expect_least_under<R: Abort + Threads + Sync>(
     expect_picks(rt, alloc, &beside, n, counts)
 }
 
-// The picks of n vertices are the least offered links.
 fn expect_picks(rt: &impl Abort, alloc: Global, picks: &Picks, n: u32, counts: &[u32])
     requires few { n < 2 ^ 20 }
     requires each_vertex { length picks.now ≡ n }
@@ -203,7 +202,6 @@ fn answers_of_unequal_length(rt: HostRuntime) {
     expect_least(&rt, rt.alloc(), 70_001, &counts, &[4, 3, 2, 1, 0])
 }
 
-// One answer has all offers.
 #[test]
 fn one_answer(rt: HostRuntime) {
     expect_least(&rt, rt.alloc(), 140_001, &[140_000], &[0])

@@ -17,7 +17,6 @@ use worked_graphs::{Row, SMALL_NET, WIDE_WEIGHTS, all_have_labels};
 /// A lane to a worker in memory.
 type Worker<'a> = Lane<Wire<'a, EngineLine<Global>, Global>, Global>;
 
-// A lane to the worker of this number.
 fn lane<'a>(alloc: Global, cut: &'a Cut<'a>, worker: u32) -> Result<Worker<'a>, AllocError>
     requires { worker < 64 }
     ensures cut { IfOk result (λ lane. lane.port.client.cut ≡ cut.now) }
@@ -28,7 +27,6 @@ fn lane<'a>(alloc: Global, cut: &'a Cut<'a>, worker: u32) -> Result<Worker<'a>, 
     Ok(Lane::new(alloc, Wire::new(alloc, line, cut, worker)))
 }
 
-// Lanes to `count` workers, numbered from 0.
 fn lanes<'a>(alloc: Global, cut: &'a Cut<'a>, count: u32) -> Result<Vec<Worker<'a>>, AllocError>
     requires { count ≤ 64 }
     ensures count { IfOk result (λ lanes. length lanes.items ≡ count) }

@@ -16,7 +16,6 @@ const MANY: u32 = 10_000;
 /// it.
 type Round<'a> = (&'a [u32], &'a [Row], &'a [(u32, u32)], &'a [u32]);
 
-// The round makes these labels.
 fn expect_relabelled(rt: &impl Abort, alloc: Global, round: Round) {
     let (before, arcs, pairs, behind) = round;
     let labels = Labels::of_list(before.to_vec(alloc).expect(rt, "memory")).expect(rt, "labels");

@@ -26,7 +26,6 @@ fn answer(rt: &impl Abort, alloc: Global, round: u32, shard: u32, pairs: &[(u32,
     }
 }
 
-// The links of the arcs, few enough for any cut.
 pub(crate) fn links_to_cut(rt: &impl Abort, alloc: Global, n: u32, arcs: &[Row]) -> Vec<Link>
     ensures few { length result.items ≤ 2 ^ 30 }
 {
@@ -37,7 +36,6 @@ pub(crate) fn links_to_cut(rt: &impl Abort, alloc: Global, n: u32, arcs: &[Row])
     links
 }
 
-// A book over the cut for the round of this number.
 pub(crate) fn opened<'a>(
     rt: &impl Abort,
     alloc: Global,
@@ -111,7 +109,6 @@ fn judged(
     book.judge(0, &answer)
 }
 
-// `judge` returns these results for these answers, one after the other.
 fn expect_judged(
     rt: &impl Abort,
     alloc: Global,
@@ -262,7 +259,6 @@ fn the_last_vertex_is_joined(rt: HostRuntime) {
     expect_same(&rt, are_of_two(&picks), true);
 }
 
-// The error is displayed as this text.
 pub(crate) fn expect_text(rt: &impl Abort, alloc: Global, fault: &impl Display, text: &str) {
     let shown = format!(in alloc; "{fault}").expect(rt, "memory");
     expect_same(rt, shown.as_str(), text);

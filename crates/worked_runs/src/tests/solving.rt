@@ -116,7 +116,6 @@ fn expect_same_steps(rt: &impl Abort, alloc: Global, n: u32) {
     expect_same(rt, found.links() == alone.links(), true);
 }
 
-// Few vertices and many.
 #[test]
 fn steps_in_place(rt: HostRuntime) {
     for n in [40, 140_001] {
@@ -140,7 +139,6 @@ fn taken(rt: &impl Abort, alloc: Global, n: u32, cut: &Cut, steps: &[Step]) -> S
     solver
 }
 
-// The rounds are as expected and give the forest.
 fn expect_rounds(rt: &(impl Abort + Threads + Sync), alloc: Global, rounds: Rounds) {
     let n = rounds.n;
     let links = links_to_cut(rt, alloc, n, rounds.arcs);
@@ -153,7 +151,6 @@ fn expect_rounds(rt: &(impl Abort + Threads + Sync), alloc: Global, rounds: Roun
     expect_same(rt, by_threads.links() == found.links(), true);
 }
 
-// The forest has the links of these arcs.
 pub(crate) fn expect_links(rt: &impl Abort, alloc: Global, found: &Forest, n: u32, arcs: &[Row]) {
     let links = links_of(alloc, n, arcs)
         .expect(rt, "memory")
@@ -161,7 +158,6 @@ pub(crate) fn expect_links(rt: &impl Abort, alloc: Global, found: &Forest, n: u3
     expect_same(rt, found.links() == links.as_slice(), true);
 }
 
-// The shards of a cut in their order.
 fn ascending(rt: &impl Abort, alloc: Global, count: u32) -> Vec<u32> {
     let mut order = Vec::new(alloc);
     for shard in 0..count {
@@ -267,7 +263,6 @@ fn steps_at_both_limits_of_weights(rt: HostRuntime) {
     }
 }
 
-// A round whose only answer has these offers.
 fn offer(
     rt: &impl Abort,
     alloc: Global,
@@ -301,7 +296,7 @@ fn a_round_past_the_bound(rt: HostRuntime) {
     expect_missed_by_threads(&rt, solver, &cut, Link::of_arc(2, 3, 5));
 }
 
-// The same if threads search for the link.
+// The solver misses this link of the cut, if threads search for it.
 fn expect_missed_by_threads(
     rt: &(impl Abort + Threads + Sync),
     solver: Solver,
@@ -403,7 +398,6 @@ fn picks_at_both_limits_of_weights(rt: HostRuntime) {
     }
 }
 
-// The links that the solver took miss this link of the cut.
 fn expect_missed(rt: &impl Abort, solver: &Solver, cut: &Cut, expected: Option<Link>) {
     assert!(rt; all_have_labels(cut, solver.labels().n()));
     let missed = solver.finish(cut).err();
@@ -420,7 +414,6 @@ fn is_missed(fault: Option<SolveFault>, expected: Option<Link>) -> bool {
 /// The number of vertices, the arcs, the number of even shards, the forest, and the number of merging rounds.
 type Alone<'a> = (u32, &'a [Row], u32, &'a [Row], u32);
 
-// One thread finds the forest in this many merging rounds.
 fn expect_alone(rt: &impl Abort, alloc: Global, run: Alone) {
     let (n, arcs, shards, forest, merging) = run;
     let links = links_to_cut(rt, alloc, n, arcs);

@@ -18,7 +18,6 @@ const PLACES: [usize; 1] = [2];
 // In the first shard, 1 and 2 have the link between them, and 3 has the link to 2. In the second shard, 2 has no link.
 const OFFERS: [&[(u32, u32)]; 2] = [&[(1, 0), (2, 0), (3, 1)], &[(1, 0), (3, 0)]];
 
-// Each shard has one list of light offers.
 #[test]
 fn light_offers_of_the_shards(rt: HostRuntime) {
     let alloc = rt.alloc();

@@ -179,7 +179,6 @@ fn a_wire_that_was_shut(rt: HostRuntime) {
     expect_transcript(&rt, alloc, client, line, 0);
 }
 
-// The bytes of these parts, one after the other.
 fn script(rt: &impl Abort, alloc: Global, parts: &[&[u8]]) -> Vec<u8> {
     let mut bytes = Vec::new(alloc);
     for part in parts {
@@ -259,7 +258,6 @@ fn kept_line<L: Line>(alloc: Global, line: L) -> Keeping<L>
 /// A frame: its kind, and the numbers of its body, four bytes each.
 type Numbers<'a> = (u8, &'a [u32]);
 
-// The bytes of these frames.
 fn text_of(rt: &impl Abort, alloc: Global, frames: &[Numbers]) -> Vec<u8> {
     let mut text = Vec::new(alloc);
     for (kind, numbers) in frames {

@@ -17,7 +17,6 @@ fn listen(rt: &impl Net<Listener = TcpListener, Stream = TcpStream>) -> io::Resu
     TcpListener::bind(rt, (Ipv4Addr::LOCALHOST, 0))
 }
 
-// The line gets this byte.
 fn expect_byte(rt: &impl Abort, line: &mut TcpLine, byte: u8)
     requires { HasRoom (line_of line.old) }
     ensures { HasRoom (line_of line.new) }

@@ -17,7 +17,6 @@ fn number_at(place: u32) -> usize
     3 + 2 * place as usize
 }
 
-// The frame is the answer of round 5 and shard 6 with these offers.
 fn expect_offers(rt: &impl Abort, frame: Frame, expected: &[(u32, u32)]) {
     match frame {
         Frame::Answer(answer) => {
@@ -117,7 +116,6 @@ fn components_that_do_not_ascend(rt: HostRuntime) {
     }
 }
 
-// An answer of 9,000 offers whose count is another number.
 fn expect_bad_count(rt: &impl Abort, alloc: Global, count: u32) {
     let (_, numbers) = answer_of(rt, alloc, 9_000);
     let mut numbers = numbers;

@@ -60,7 +60,6 @@ fn expect_text(rt: &impl Abort, alloc: Global, frame: &Frame, bytes: &[u8]) {
     expect_same(rt, source, [77].as_slice());
 }
 
-// The frame is a hello of this version and worker.
 pub(crate) fn expect_hello(rt: &impl Abort, frame: Frame, fields: (u16, u32)) {
     match frame {
         Frame::Hello { version, worker } => expect_same(rt, (version, worker), fields),
@@ -68,7 +67,6 @@ pub(crate) fn expect_hello(rt: &impl Abort, frame: Frame, fields: (u16, u32)) {
     }
 }
 
-// The frame is this shard.
 pub(crate) fn expect_shard(rt: &impl Abort, frame: Frame, of: u32, expected: &[Link]) {
     match frame {
         Frame::Shard { number, links } => {
@@ -79,7 +77,6 @@ pub(crate) fn expect_shard(rt: &impl Abort, frame: Frame, of: u32, expected: &[L
     }
 }
 
-// The frame is an ask of this round and shard with these labels.
 fn expect_ask(rt: &impl Abort, frame: Frame, of: (u32, u32), expected: &[u32]) {
     match frame {
         Frame::Ask {
@@ -95,7 +92,6 @@ fn expect_ask(rt: &impl Abort, frame: Frame, of: (u32, u32), expected: &[u32]) {
     }
 }
 
-// The frame is the answer of this round and shard with these offers.
 fn expect_answer(rt: &impl Abort, frame: Frame, of: (u32, u32), pairs: &[(u32, u32)]) {
     match frame {
         Frame::Answer(answer) => {
@@ -106,7 +102,6 @@ fn expect_answer(rt: &impl Abort, frame: Frame, of: (u32, u32), pairs: &[(u32, u
     }
 }
 
-// The frame is a fault with these fields.
 fn expect_fault(rt: &impl Abort, frame: Frame, fields: (u32, u32, u8)) {
     match frame {
         Frame::Fault { round, shard, code } => expect_same(rt, (round, shard, code), fields),
@@ -338,7 +333,6 @@ fn answer_of_three_offers(rt: HostRuntime) {
     expect_answer(&rt, read, (1, 0), &pairs);
 }
 
-// The head of an answer, and the bytes of its offers.
 #[test]
 fn parts_of_an_answer(rt: HostRuntime) {
     let pairs = Vec::from_slice(rt.alloc(), &[(1, 0), (2, 0), (3, 2)]).expect(&rt, "memory");

@@ -56,7 +56,6 @@ fn labels_but(rt: &impl Abort, alloc: Global, vertex: u32) -> Labels {
     Labels::of_list(list).expect(rt, "labels")
 }
 
-// An ask of shard 7 in round 5.
 fn ask(rt: &impl Abort, alloc: Global, labels: &Labels) -> Vec<u8> {
     encode_ask(alloc, 5, 7, labels).expect(rt, "memory")
 }

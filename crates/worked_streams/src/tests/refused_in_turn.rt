@@ -18,7 +18,6 @@ enum Flaw {
     KeepsTheFirst,
 }
 
-// Allocates two blocks and frees them.
 fn pair(memory: &Refusing<Global>, flaw: Flaw) -> Result<(), AllocError> {
     let first = Box::new(memory, 7u8)?;
     if Box::new(memory, 8u8).is_ok() {

@@ -10,7 +10,6 @@ pub(crate) fn expect_same<T: PartialEq + Debug + Drop>(rt: &impl Abort, found: T
     assert_eq!(rt; found, expected);
 }
 
-// The error is displayed as this text.
 pub(crate) fn expect_text(rt: &impl Abort, alloc: Global, fault: &impl Display, text: &str) {
     let shown = format!(in alloc; "{fault}").expect(rt, "memory");
     expect_same(rt, shown.as_str(), text);

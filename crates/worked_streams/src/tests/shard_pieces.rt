@@ -31,7 +31,6 @@ fn number_at(weights: Weights, place: u32) -> usize
     }
 }
 
-// Reads a frame from a source that gives `piece` bytes at a time.
 pub(super) fn read_by(
     rt: &impl Abort,
     alloc: Global,
@@ -47,7 +46,6 @@ pub(super) fn read_by(
     read_frame(alloc, &mut { source })
 }
 
-// The frame is this shard.
 fn expect_links(rt: &impl Abort, frame: Frame, of: u32, expected: &[Link]) {
     match frame {
         Frame::Shard { number, links } => {
@@ -160,7 +158,6 @@ fn bad_links(rt: HostRuntime) {
     }
 }
 
-// A shard whose number or count isn't lawful.
 fn expect_bad_fields(rt: &impl Abort, alloc: Global, weights: Weights, number: u32, count: u32) {
     let (_, numbers) = path(rt, alloc, weights, 7, 6_000);
     let mut numbers = numbers;

@@ -66,10 +66,8 @@ fn expect_encoded(rt: &impl Abort, alloc: Global, frame: &Frame, bytes: &[u8]) {
     expect_same(rt, (count, text.as_slice() == bytes), (count, true));
 }
 
-// How many numbers have 32 bits.
 const HALF: u64 = 1 << 32;
 
-// How many bits the weights of a shard have.
 #[derive(Clone, Copy)]
 pub(super) enum Weights {
     Of32,
@@ -155,7 +153,6 @@ fn shards_of_so_many_links(rt: HostRuntime) {
     }
 }
 
-// Each vertex has its own label.
 fn apart(rt: &impl Abort, alloc: Global, count: u32) -> Labels {
     assert!(rt; count <= 1 << 26);
     Labels::apart(alloc, count).expect(rt, "memory")
