@@ -323,10 +323,10 @@ const LISTED: [Asked; 3] = [
     ),
 ];
 
-// The first scan lists the live links, in one block, and numbers them. That takes one block for the marks and one for
-// the table, which are used again, and one for the names. Each later ask allocates one for the names and one for what
-// becomes of them. If only some links are laid aside, it allocates a smaller one for the list. Each answer with offers
-// allocates one.
+// Before the first scan the live links are listed, in one block, and numbered. That takes one block for the marks and
+// one for the table, which are used again, and one for the names. Each later ask allocates one for the names and one
+// for what becomes of them. If only some links are laid aside, it allocates a smaller one for the list. Each answer
+// with offers allocates one.
 #[test]
 fn live_links_are_listed_once(rt: HostRuntime) {
     for by in [By::OneThread, By::Threads] {
