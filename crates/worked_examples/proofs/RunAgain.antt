@@ -11,7 +11,7 @@ use Rattle.plain_run.specs.PlainRun.{RanPlain, WritesAgain}
 use Rattle.plain_run.specs.declared.report.Report.{Report}
 use Rattle.worked_examples.specs.Again.{IsWrittenAgain}
 
--- where a source had the text of a file's forest and an empty sink took what a run wrote, that text went out again
+-- if the source had the text of a file's forest and the sink was empty, a run writes that text again
 pub written_again : (bytes text out : List ℕ) (report : Report) (s t : SourceState) (a b : SinkState)
     → IsForestTextOf bytes text → s.left ≡ Some text → HadNoFailure s t → a.held ≡ Some [] → b.held ≡ Some out
     → RanPlain (Ok report) (streams s a) (streams t b) → WritesAgain report (streams s a) (streams t b) → IsWrittenAgain bytes out report

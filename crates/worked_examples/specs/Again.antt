@@ -1,4 +1,4 @@
--- A forest's text that was run again.
+-- A forest's text that a second run reads and writes again.
 use Rattle.std.specs.Prelude.{◌≡◌, ℕ, List, length}
 use Rattle.links.specs.Least.{sum_of_weights}
 use Rattle.links.specs.declared.links.Link.{Link}
@@ -7,7 +7,8 @@ use Rattle.gr_text.specs.ForestText.{forest_text}
 use Rattle.plain_run.specs.Files.{HasForest}
 use Rattle.plain_run.specs.declared.report.Report.{Report}
 
--- the text is that of the forest that these bytes give; the run that wrote it counted the forest's links, and no others, and their total
+-- `text` is that of the forest of these bytes; the run that wrote it counted exactly the forest's links, and their
+-- total
 pub record IsWrittenAgain (bytes text : List ℕ) (report : Report) : Type 0 where
   pub graph : GraphValue
   pub forest : List Link

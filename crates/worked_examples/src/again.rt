@@ -1,15 +1,15 @@
-//! A forest's text that is run again: it means just its links, so a run over it writes it again.
+//! Runs a forest's text again. The text describes only the forest's links, so the second run writes the same text.
 ghost use Rattle.std.specs.Prelude.{IfOk};
 ghost use Rattle.worked_examples.specs.Again.{IsWrittenAgain};
 
 use forest_run::{Report, RunFault, plain_text, run_plain};
 use std::alloc::Allocator;
 
-/// The text of the forest of a file whose bytes are in memory, as a second run wrote it whose file was the first one's
-/// text; and what that second run reported.
+/// Finds the forest of a file whose bytes are in memory, and runs its text again. Returns the text that the second run
+/// wrote, and its report.
 ///
-/// It shows that the premise can be met under which [`run_plain`] promises to write a text again. A growth of a text that
-/// is refused is a failed write.
+/// This shows that the premise of a promise can be met: [`run_plain`] promises to write a forest's text again. If the
+/// buffer of a text can't grow, that is a failed write.
 pub fn text_again<A: Allocator + Copy>(
     alloc: A,
     bytes: &[u8],

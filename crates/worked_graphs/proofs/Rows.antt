@@ -1,4 +1,4 @@
--- The links of rows, one row after the other.
+-- How the links grow with the rows, one row after the other.
 use Rattle.std.proofs.Common.{◌≡◌, ℕ, ◌+◌, ◌≤◌, ◌<◌, List, [], ◌∷◌, ◌++◌, map, filter, cond, get_or, take, length, max, All, true, false, refl, sym, ap, ◌∙◌, subst, arith, append-nil}
 use Rattle.std.proofs.lemmas.Bool.Decides.{nat_tests}
 use Rattle.std.proofs.Math.Nat.{max-le}
@@ -9,7 +9,7 @@ use Rattle.links.specs.declared.links.Link.{Link}
 use Rattle.links.specs.Link.{Key, key_of, arc_key, is_no_loop, AreLinksOf, EndsUpTo}
 use Rattle.worked_graphs.specs.Rows.{Row, arc_of, IsArcUpTo}
 
--- rows whose ends are all vertices, and their links
+-- the endpoints of the rows are vertices, and `links` are the links of the rows
 pub record Made (n : ℕ) (rows : List Row) (links : List Link) : Type 0 where
   pub lawful : All (IsArcUpTo n) rows
   pub are : AreLinksOf (map arc_of rows) links

@@ -1,10 +1,11 @@
-//! The worked graphs, each once: as a file, as arcs, and as the links and the text of its forest.
+//! Example graphs for the tests of several crates. Each graph is given as a file, as arcs, and as the edges and the
+//! text of its minimum spanning forest.
 //!
-//! The examples of several crates compare with them. What a forest is comes from outside: each was made by hand, and
-//! none by the program. [`links_of`] makes links of the rows in which graphs are written here.
+//! The forests come from outside: each was worked out by hand, and none by the program. [`links_of`] turns rows, the
+//! form in which graphs are written here, into links.
 //!
-//! Where to start a change: a new worked graph gets a constant and a place in [`WORKED`], and each example that goes
-//! over all of them runs over it too.
+//! To add a graph, write a constant and list it in [`WORKED`]. Each test that goes over all graphs then runs over it
+//! too.
 #![tactic(auto)]
 
 ghost use Rattle.std.specs.Prelude.{◌≡◌, ◌↔◌, ◌≤◌, All, map, IsTrue, IsSome, IsNone, IfOk, IfSome};
@@ -15,27 +16,27 @@ use limits::MAX_VERTICES;
 use link_key::{Cut, Link};
 use std::alloc::{AllocError, Allocator};
 
-/// An arc, or a link: two ends and a weight.
+/// An arc, or a link (an edge): two endpoints and a weight.
 pub type Row = (u32, u32, i64);
 
-/// A graph with its forest.
+/// A graph with its minimum spanning forest.
 #[derive(Clone, Copy)]
 pub struct Worked {
     /// The vertices are 1 to n.
     pub n: u32,
     /// The graph in the `.gr` format.
     pub file: &'static [u8],
-    /// What its arc lines say, in order.
+    /// Its arc lines, in order.
     pub arcs: &'static [Row],
-    /// The links of its minimum spanning forest, in key order.
+    /// The links of its minimum spanning forest, in the order of their keys: by weight, then by endpoints.
     pub forest: &'static [Row],
-    /// The forest's text.
+    /// The forest in the `.gr` format.
     pub text: &'static [u8],
-    /// What the forest weighs, added up by hand.
+    /// The total weight of the forest, added up by hand.
     pub total: i128,
 }
 
-/// Six vertices and eight arcs, with comments between them.
+/// Six vertices and eight arcs, with comment lines in the file.
 pub const SMALL_NET: Worked = Worked {
     n: 6,
     file: b"c a small net\np sp 6 8\na 1 2 17\nc the usual shape\na 1 3 10\na 2 4 2\na 3 5 0\na 4 3 0\na 4 6 3\na 5 2 0\na 5 6 20\n",
@@ -81,7 +82,7 @@ pub const PARALLEL_ARCS: Worked = Worked {
     total: 4,
 };
 
-/// A triangle whose links differ in their ends alone.
+/// A triangle whose links differ only in their endpoints.
 pub const EQUAL_WEIGHTS: Worked = Worked {
     n: 3,
     file: b"p sp 3 3\na 1 2 5\na 2 3 5\na 1 3 5\n",
@@ -91,7 +92,7 @@ pub const EQUAL_WEIGHTS: Worked = Worked {
     total: 10,
 };
 
-// A path's links are its forest, here in the order of their keys.
+// The links of a path are its forest. Here they are in the order of their keys.
 const PATH: &[Row] = &[
     (1, 2, 1),
     (3, 4, 1),
@@ -102,7 +103,7 @@ const PATH: &[Row] = &[
     (4, 5, 3),
 ];
 
-/// Its components are pairs after one round, fours after two, and one after three.
+/// The components are pairs after one round and groups of four after two. After three rounds there is one component.
 pub const A_PATH_OF_EIGHT: Worked = Worked {
     n: 8,
     file: b"p sp 8 7\na 1 2 1\na 3 4 1\na 5 6 1\na 7 8 1\na 2 3 2\na 6 7 2\na 4 5 3\n",
@@ -112,7 +113,7 @@ pub const A_PATH_OF_EIGHT: Worked = Worked {
     total: 11,
 };
 
-/// Two components.
+/// A graph with two components.
 pub const A_NEGATIVE_WEIGHT: Worked = Worked {
     n: 4,
     file: b"p sp 4 2\na 1 2 -3\na 3 4 0\n",
@@ -122,8 +123,8 @@ pub const A_NEGATIVE_WEIGHT: Worked = Worked {
     total: -3,
 };
 
-/// The small net with weights past 32 bits on three of its last four arcs, both limits among them: its forest's links are
-/// the same, and the first half of its arcs fits 32 bits.
+/// The small net with weights past 32 bits on three of its last four arcs. Both limits of a weight are among them. The
+/// edges of the forest are the same, and the weights of the first half of the arcs fit 32 bits.
 pub const WIDE_WEIGHTS: Worked = Worked {
     n: 6,
     file: b"p sp 6 8\na 1 2 17\na 1 3 10\na 2 4 2\na 3 5 0\na 4 3 0\na 4 6 2147483648\na 5 2 -9223372036854775808\na 5 6 9223372036854775807\n",
@@ -149,7 +150,8 @@ pub const WIDE_WEIGHTS: Worked = Worked {
 };
 
 /// The graph of the chapter on minimum spanning trees in "Introduction to Algorithms" by Cormen, Leiserson, Rivest and
-/// Stein: its vertices a to i are 1 to 9. Of two links of weight 8 either would do; the one with the lesser ends is taken.
+/// Stein. Its vertices a to i are numbered 1 to 9. Either of two edges of weight 8 would do; the forest has the one
+/// with the lesser endpoints.
 pub const TEXTBOOK: Worked = Worked {
     n: 9,
     file: b"p sp 9 14\na 1 2 4\na 2 3 8\na 3 4 7\na 4 5 9\na 5 6 10\na 6 7 2\na 7 8 1\na 8 1 8\na 2 8 11\na 8 9 7\na 9 3 2\na 9 7 6\na 3 6 4\na 4 6 14\n",
@@ -183,7 +185,7 @@ pub const TEXTBOOK: Worked = Worked {
     total: 37,
 };
 
-/// All of them.
+/// All graphs of this crate.
 pub const WORKED: [Worked; 9] = [
     SMALL_NET,
     NO_VERTICES,
@@ -196,10 +198,10 @@ pub const WORKED: [Worked; 9] = [
     TEXTBOOK,
 ];
 
-/// The links of the arcs, loops left out and repeats kept, in the arcs' order; none where an end of an arc is no
-/// vertex from 1 to n, or n is more than [`MAX_VERTICES`] and there is an arc.
+/// Returns the links of the arcs, in the order of the arcs. Loops are left out, and repeats are kept. Returns `None` if
+/// an endpoint of an arc isn't a vertex from 1 to n, or if n is more than [`MAX_VERTICES`] and there is an arc.
 ///
-/// The only error is want of memory. For m arcs O(m) time, and 16 bytes for each link.
+/// The only error is out of memory. For m arcs it takes O(m) time and allocates 16 bytes per link.
 pub fn links_of<A: Allocator>(
     alloc: A,
     n: u32,
@@ -221,14 +223,14 @@ pub fn links_of<A: Allocator>(
     Ok(Some(links))
 }
 
-/// Whether each end of the links has one of n labels.
+/// Returns whether every endpoint of the links has one of n labels.
 pub fn have_labels(links: &[Link], n: u32) -> bool
     ensures { IsTrue result ↔ EndsUpTo n links.now }
 {
     links.iter().all(|link| link.high <= n)
 }
 
-/// Whether each end of each shard's links has one of n labels.
+/// Returns whether every endpoint of the links of every shard has one of n labels.
 pub fn all_have_labels<A: Allocator>(cut: &Cut<A>, n: u32) -> bool
     ensures { IsTrue result → All (EndsUpTo n) cut.now }
 {
@@ -240,14 +242,12 @@ pub fn all_have_labels<A: Allocator>(cut: &Cut<A>, n: u32) -> bool
     true
 }
 
-// Whether both are vertices of a graph with the vertices 1 to n.
 fn is_arc(n: u32, u: u32, v: u32) -> bool
     ensures { IsTrue result ↔ AreEnds n u v }
 {
     n <= MAX_VERTICES && 1 <= u && u <= n && 1 <= v && v <= n
 }
 
-// The link of an arc; none for a loop.
 fn link_of(n: u32, row: Row) -> Option<Link>
     requires { IsArcUpTo n row }
     ensures none_for_a_loop { IsNone result ↔ (row.0 ≡ row.1) }

@@ -20,7 +20,7 @@ use Rattle.plain_run.specs.declared.fault.RunFault.TheVariants as fault
 abbrev pub AreEngines : List EngineLineState → Type 0
 AreEngines lines = AreServed engine_line lines
 
--- of a line to an engine all bytes are known, and one more stands for the worker of the next number
+-- all bytes of a line to an engine are known; so one more such line stands for the worker of the next number
 pub engine_more : (lines : List EngineLineState) (line : EngineLineState) (number : ℕ) → number ≡ length lines → AreEngines lines → IsEngineLine number line → IsFresh (line_of line)
     → AreEngines (lines ++ line ∷ [])
 engine_more lines line number at served is fresh = (
@@ -34,7 +34,7 @@ engine_more lines line number at served is fresh = (
   ],
 )
 
--- where a source had these bytes and an empty sink took the forest's text, that is the text of their forest
+-- if a source had these bytes and an empty sink took the forest's text, the sink has the text of the bytes' forest
 pub text_is : (says : GraphValue → List Link → Type 0) (bytes text : List ℕ) (s t : SourceState) (a b : SinkState)
     → s.left ≡ Some bytes → a.held ≡ Some [] → b.held ≡ Some text → IsDone IsLeast says (streams s a) (streams t b) → IsForestTextOf bytes text
 text_is says bytes text s t a b known empty held ran =
@@ -42,7 +42,7 @@ text_is says bytes text s t a b known empty held ran =
     let out = took_known 0 [] (forest_text ran.graph.vertices ran.forest) a b empty ran.written in
     (ran.graph, ran.forest, record { file = subst (λ (xs : List ℕ). IsFileOf xs ran.graph) same ran.file; least = ran.found_is }, cc)
 
--- a fault that fits a run into a sink whose bytes alone are known fits one into a sink of which nothing is known
+-- an error that fits a run into a sink of which only the bytes are known fits one into a sink of which nothing is known
 pub unhindered : (why : RunFault) (a b : SinkState) → IsUnhindered {X = Unit {0}} (Err why) a b → IsUnhindered {X = Unit {0}} (Err why) (only_held None) (only_held None)
 unhindered (fault.Read why) a b is = is
 unhindered (fault.Cut why) a b is = is

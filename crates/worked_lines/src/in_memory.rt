@@ -1,5 +1,5 @@
-//! A run over workers in memory: lines of which the promise of a run over lines speaks, and a source and a
-//! sink whose bytes are known.
+//! A run over workers in memory: lines about which the promise of a run over lines speaks, and a source and a sink
+//! whose bytes the contracts see.
 ghost use Rattle.std.specs.Prelude.{◌≡◌, ◌≤◌, None, length, All, IfOk};
 ghost use Rattle.limits.specs.declared.TheConstants.{MAX_WORKERS};
 ghost use Rattle.byte_streams.specs.Streams.{only_held};
@@ -15,7 +15,7 @@ use std::alloc::{AllocError, Allocator};
 use std::sync::Wait;
 use std::thread::Threads;
 
-// New lines to so many workers in memory, numbered from 0.
+// New lines to `count` workers in memory, numbered from 0.
 pub(crate) fn engines<A: Allocator + Copy>(
     alloc: A,
     count: u32,
@@ -32,10 +32,11 @@ pub(crate) fn engines<A: Allocator + Copy>(
     Ok(lines)
 }
 
-/// The text of the forest of a file whose bytes are in memory, found over so many workers in memory.
+/// Finds the text of the forest of a file whose bytes are in memory, over `workers` workers in memory.
 ///
-/// It shows that the premise can be met under which [`run_lines`] promises the minimum spanning forest: the lines that
-/// `engines` makes are new, and each carries its worker's session. A growth of the text that is refused is a failed write.
+/// This shows that the premise can be met under which [`run_lines`] promises the minimum spanning forest. The lines
+/// that `engines` makes are new, and each carries its worker's session. If the buffer of the text can't grow, that is a
+/// failed write.
 pub fn text_over_workers<A: Allocator + Copy + Send + Sync, R: Threads + Wait + Sync>(
     rt: &R,
     alloc: A,
@@ -45,10 +46,10 @@ pub fn text_over_workers<A: Allocator + Copy + Send + Sync, R: Threads + Wait + 
 ) -> Result<Vec<u8, A>, RunFault>
     requires few { workers ≤ MAX_WORKERS }
 
-    // By definitions alone, and in which rounds and over which workers it was found doesn't matter.
+    // The file's bytes alone define the text. In which rounds and over which workers it was found doesn't matter.
     ensures text { IfOk result (λ text. IsForestTextOf bytes.now text.items) }
 
-    // Where the cut of the file's graph is allowed, want of memory alone can hinder it.
+    // If the file is valid and its cut is allowed, the only errors are out of memory and a failed write.
     ensures ends_well { MeansGraphToCut cutting.entry bytes.now
         → IsUnhindered result (only_held None) (only_held None) }
 {

@@ -1,15 +1,15 @@
-//! Worked examples of memory: how many bytes calls take at most at once, beside what they are given. Each is held to what
-//! its documentation names for a vertex, a link, an offer, a shard or a seat, over few and over many.
+//! Tests of memory: the most bytes that a call uses at one time, not counting its arguments. The bounds are those that
+//! the documentation of the call names per vertex, link, offer, shard or seat. The inputs are small and large.
 //!
 //! ```text
 //!   bytes             lists, solvers by one thread, and readers
-//!   bytes_of_rounds   a solver's steps and its end, books, boards, scans by threads
+//!   bytes_of_rounds   the steps and the end of a solver, books, boards, scans by threads
 //!   bytes_of_workers  scans, frames, engines and wires
-//!   same              what is found beside what is expected
+//!   same              compares a result with what is expected
 //! ```
 //!
-//! Where to start a change: a call whose documentation names bytes gets its row in the file of its subject. What an example
-//! is for, and which crate has those of other subjects, stands at the head of `worked_examples`.
+//! To test a call whose documentation names bytes, add a row to the file of its subject. The head of `worked_examples`
+//! explains what a test is for, and which crate has the tests of other subjects.
 #![tactic(auto)]
 
 #[cfg(test)]

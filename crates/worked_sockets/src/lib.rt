@@ -1,13 +1,13 @@
-//! Worked examples of workers over real sockets of this machine, each a test that needs public calls alone.
+//! Tests of workers over real sockets of this machine. Each is a test that needs only public calls.
 //!
 //! ```text
-//!   same            what is found beside what is expected
-//!   streams         the two ends of a connection, strangers, what a line counts
-//!   workers         asks and whole runs over workers in threads, and over a worker that is gone
+//!   same            compares a result with what is expected
+//!   streams         both sides of a connection, strangers, and lines that fail
+//!   workers         asks and whole runs over workers in threads, and over a worker that has hung up
 //! ```
 //!
-//! Where to start a change: a new public call of `tcp_lines` gets its example in the file of its subject. What an example
-//! is for, and which crate has those of other subjects, stands at the head of `worked_examples`.
+//! To test a public call of `tcp_lines`, add to the file of its subject. The head of `worked_examples` explains what a
+//! test is for, and which crate has the tests of other subjects.
 #![tactic(auto)]
 
 #[cfg(test)]

@@ -1,5 +1,5 @@
-// The components that links join, in any order of the links: each vertex's label is the least vertex of its own. There
-// are none where the links close a cycle.
+// The components that links connect, in any order of the links. The label of a vertex is the least vertex of its
+// component. If the links close a cycle, there are no labels.
 use super::lists::links_between;
 use super::same::expect_same;
 use limits::{MAX_ARCS, MAX_VERTICES};
@@ -10,7 +10,6 @@ use worked_graphs::{
     A_NEGATIVE_WEIGHT, A_PATH_OF_EIGHT, EQUAL_WEIGHTS, PARALLEL_ARCS, Row, SMALL_NET, WIDE_WEIGHTS,
 };
 
-// The links of these arcs between the vertices 1 to n give these labels, or none.
 pub(crate) fn expect_components(
     rt: &impl Abort,
     alloc: Global,
@@ -48,7 +47,8 @@ fn components_of_forests(rt: HostRuntime) {
     }
 }
 
-// A cycle of three links, one beside a component without, one among many links, and of two links between the same ends.
+// A cycle of three links, a cycle next to a component without one, a cycle among many links, and a cycle of two links
+// with the same endpoints.
 #[test]
 fn cycles_have_none(rt: HostRuntime) {
     let rows: [(u32, &[Row]); 4] = [
@@ -62,7 +62,7 @@ fn cycles_have_none(rt: HostRuntime) {
     }
 }
 
-// A link that stands twice: side by side, and with another between; its ends are given either way.
+// A link that is listed twice, in a row and with another link between, and with its endpoints in either order.
 #[test]
 fn doubled_links_have_none(rt: HostRuntime) {
     let rows: [(u32, &[Row]); 3] = [

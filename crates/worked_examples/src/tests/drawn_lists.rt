@@ -1,4 +1,4 @@
-// The solver beside a simple program, over drawn lists of arcs.
+// The solver, compared with a simple program on random lists of arcs.
 ghost use Rattle.std.specs.Prelude.{◌≤◌, ◌<◌, ◌^◌};
 
 use super::lists::links_between;
@@ -8,8 +8,8 @@ use std::alloc::Global;
 use std::process::Abort;
 use worked_graphs::Row;
 
-// The links whose ends aren't joined by smaller ones, by the simple program: where two labels become one, each vertex
-// is looked at.
+// Returns the links whose endpoints smaller links don't connect. This is the simple program: to merge two labels, it
+// goes over all vertices.
 pub(crate) fn slow_forest(rt: &impl Abort, alloc: Global, n: u32, links: &[Link]) -> Vec<Link> {
     let mut sorted = Vec::from_slice(alloc, links).expect(rt, "memory");
     sorted.as_mut_slice().sort_unstable();
@@ -27,7 +27,6 @@ pub(crate) fn slow_forest(rt: &impl Abort, alloc: Global, n: u32, links: &[Link]
     taken
 }
 
-// Gives what has the label `from` the label `to`.
 pub(crate) fn rename(labels: &mut [u32], from: u32, to: u32) {
     for label in labels.iter_mut() {
         if *label == from {
@@ -47,7 +46,8 @@ pub(crate) fn draw(state: &mut u64, bound: u32) -> u32
     ((*state >> 33) % u64::from(bound)) as u32
 }
 
-// So many arcs between the vertices 1 to n, loops and repeats among them, each of one of these weights.
+// Returns `count` random arcs between the vertices 1 to n. Loops and repeats are among them, and each arc has one of
+// these weights.
 fn drawn_arcs(
     rt: &impl Abort,
     alloc: Global,
@@ -70,8 +70,8 @@ fn drawn_arcs(
     arcs
 }
 
-// The solver, on a copy, in the list itself and for who goes on with the list, gives just these links as the forest of the
-// arcs.
+// Three calls give exactly these links as the forest of the arcs: on a copy, in the list itself, and in a list that the
+// caller keeps.
 pub(crate) fn expect_forest(rt: &impl Abort, alloc: Global, n: u32, arcs: &[Row], wanted: &[Link]) {
     assert!(rt; n <= 1 << 26);
     let links = links_between(rt, alloc, n, arcs);
@@ -84,7 +84,7 @@ pub(crate) fn expect_forest(rt: &impl Abort, alloc: Global, n: u32, arcs: &[Row]
     expect_same(rt, kept.as_slice(), wanted);
 }
 
-// The solver and the simple program give one forest of a drawn list, which is returned.
+// The solver and the simple program find the same forest of a list, which is returned.
 pub(crate) fn expect_one_forest(rt: &impl Abort, alloc: Global, n: u32, arcs: &[Row]) -> Vec<Link> {
     let links = links_between(rt, alloc, n, arcs);
     let slow = slow_forest(rt, alloc, n, links.as_slice());
@@ -92,7 +92,7 @@ pub(crate) fn expect_one_forest(rt: &impl Abort, alloc: Global, n: u32, arcs: &[
     slow
 }
 
-// The same of 300 drawn lists of sixty arcs with these weights.
+// The same for 300 random lists of sixty arcs with these weights.
 fn expect_forests(rt: &impl Abort, alloc: Global, weights: &[i64; 5]) {
     for seed in 0..300u32 {
         let n = seed % 39 + 2;
@@ -120,8 +120,8 @@ fn drawn_lists_of_extreme_weights(rt: HostRuntime) {
     );
 }
 
-// Lists of many sizes: few vertices, so that most links close a cycle, and many, so that there are many components.
-// Each arc stands twice, one behind the other, as the two directions in a road file do.
+// Lists of many sizes. With few vertices most links close a cycle; with many vertices there are many components. Each
+// arc is followed by its reverse, as in a file of roads.
 #[test]
 fn drawn_lists_of_many_sizes(rt: HostRuntime) {
     for count in [0u32, 1, 17, 1_000, 10_000] {

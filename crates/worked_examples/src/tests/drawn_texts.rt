@@ -1,4 +1,5 @@
-// Drawn texts: what is read of one doesn't depend on how it is cut. Fed byte by byte, no line is ever read at once.
+// Random texts. What is read doesn't depend on how a text is split. If it is fed byte by byte, no piece has a whole
+// line.
 ghost use Rattle.std.specs.Prelude.{◌<◌};
 
 use super::drawn_lists::draw;
@@ -7,16 +8,16 @@ use gr_text::{GrReader, Graph, MAX_BYTES, ReadFault};
 use std::alloc::Global;
 use std::process::Abort;
 
-// What stands between two fields, mostly one space.
+// What separates two fields; most often it is one space.
 const GAPS: [&[u8]; 6] = [b"  ", b"\t", b" \t", b"\r", b"\n", b""];
 
-// What begins a line, mostly the letter of an arc.
+// What begins a line; most often it is the letter of an arc.
 const LETTERS: [&[u8]; 5] = [b"c", b"aa", b" a", b"p", b"x"];
 
-// What ends a line, mostly a line feed.
+// What ends a line; most often it is a line feed.
 const ENDINGS: [&[u8]; 6] = [b"\r\n", b" \n", b"\n\n", b" 1\n", b"\nc a 1 2 3\n", b""];
 
-// The problem line of a text, mostly of 5 vertices and 3 arc lines.
+// The problem line of a text; most often it has 5 vertices and 3 arc lines.
 const PROBLEMS: [&[u8]; 5] = [
     b"",
     b"p sp 5 2\n",
@@ -25,7 +26,7 @@ const PROBLEMS: [&[u8]; 5] = [
     b"p\tsp 5 3\r\n",
 ];
 
-// One of the rare ones, each with one chance in so many, or else the usual one.
+// Returns one of the rare texts, each with a chance of one in `chances`, or otherwise the usual one.
 fn drawn<'a>(state: &mut u64, chances: u32, rare: &[&'a [u8]], usual: &'a [u8]) -> &'a [u8]
     requires { 0 < chances }
 {
@@ -37,7 +38,7 @@ fn drawn<'a>(state: &mut u64, chances: u32, rare: &[&'a [u8]], usual: &'a [u8]) 
     }
 }
 
-// An end of an arc, mostly a vertex of 5.
+// An endpoint of an arc, most often one of 5 vertices.
 fn drawn_end(state: &mut u64) -> &'static [u8] {
     match draw(state, 240) {
         0 => b"0",
@@ -60,7 +61,7 @@ fn drawn_end(state: &mut u64) -> &'static [u8] {
     }
 }
 
-// A weight, mostly one of 64 bits.
+// A weight, most often one that fits 64 bits.
 fn drawn_weight(state: &mut u64) -> &'static [u8] {
     match draw(state, 240) {
         0 => b"9223372036854775808",
@@ -87,12 +88,11 @@ fn drawn_weight(state: &mut u64) -> &'static [u8] {
     }
 }
 
-// Puts these bytes behind the text.
 fn put(rt: &impl Abort, text: &mut Vec<u8>, bytes: &[u8]) {
     text.extend_from_slice(bytes).expect(rt, "memory");
 }
 
-// A problem line and mostly three arc lines.
+// A problem line, most often followed by three arc lines.
 fn drawn_text(rt: &impl Abort, alloc: Global, state: &mut u64) -> Vec<u8> {
     let mut text = Vec::new(alloc);
     put(rt, &mut text, drawn(state, 32, &PROBLEMS, b"p sp 5 3\n"));
@@ -114,7 +114,7 @@ fn drawn_text(rt: &impl Abort, alloc: Global, state: &mut u64) -> Vec<u8> {
     text
 }
 
-// What is read of a text that is fed in pieces of drawn lengths, 1 to `most`, and the line that the reader was at.
+// Reads a text that is fed in pieces of random lengths, 1 to `most`. Returns the reader's line and the outcome.
 fn read_cut(
     alloc: Global,
     text: &[u8],
@@ -134,7 +134,6 @@ fn read_cut(
     (reader.line(), reader.finish())
 }
 
-// Whether both are one graph, or one fault.
 fn is_same(one: &Result<Graph, ReadFault>, other: &Result<Graph, ReadFault>) -> bool {
     match (one, other) {
         (Ok(one), Ok(other)) => one.n() == other.n() && one.links() == other.links(),

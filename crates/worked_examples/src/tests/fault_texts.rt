@@ -1,4 +1,4 @@
-// The texts of the faults of files and of a run.
+// The texts of the errors of files and of runs.
 use super::same::expect_same;
 use forest_run::{Report, RunFault};
 use gr_text::{GrFault, GrKind, ReadFault, WriteFault};
@@ -71,7 +71,6 @@ fn of_each_refused_cut(rt: HostRuntime) {
     }
 }
 
-// Each number of a report stands behind its own name.
 #[test]
 fn of_a_report(rt: HostRuntime) {
     let report = Report {

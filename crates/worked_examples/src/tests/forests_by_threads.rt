@@ -1,4 +1,5 @@
-// The solver by threads, over graphs with more links than one thread goes over alone, beside Kruskal's algorithm.
+// The solver with threads, on graphs with more links than one thread goes over alone, compared with Kruskal's
+// algorithm.
 use super::drawn_lists::draw;
 use super::lists::links_between;
 use super::same::expect_same;
@@ -9,13 +10,14 @@ use std::thread::Threads;
 use test_memory::{Found, Refusing, refuse_each};
 use worked_graphs::{Row, SMALL_NET, have_labels};
 
-// How many arcs a drawn graph has, loops and repeats among them.
+// The number of arcs of a random graph, with loops and repeats among them.
 const ARCS: u32 = 300_000;
 
-// How many threads there may be at once.
+// The most threads that may run at once.
 const THREADS: [usize; 7] = [0, 1, 2, 3, 4, 7, 64];
 
-// The root of the tree that v is in; each vertex has its parent there, and a root itself. The way to it gets shorter.
+// Returns the root of the tree that v is in, and shortens the path to it. Each vertex has a parent, and a root is its
+// own parent.
 fn root_of(rt: &impl Abort, parents: &mut [u32], v: u32) -> u32 {
     let mut at = v;
     for _ in 0..parents.len() {
@@ -32,8 +34,8 @@ fn root_of(rt: &impl Abort, parents: &mut [u32], v: u32) -> u32 {
     at
 }
 
-// The links of the forest, by Kruskal's algorithm (1956): of the links in the order of their keys each one that joins
-// two trees.
+// Returns the links of the forest, by Kruskal's algorithm (1956). It goes over the links in the order of their keys,
+// and takes each one that joins two trees.
 fn kruskal(rt: &impl Abort, alloc: Global, n: u32, links: &[Link]) -> Vec<Link> {
     let mut sorted = Vec::from_slice(alloc, links).expect(rt, "memory");
     sorted.as_mut_slice().sort_unstable();
@@ -51,8 +53,8 @@ fn kruskal(rt: &impl Abort, alloc: Global, n: u32, links: &[Link]) -> Vec<Link> 
     taken
 }
 
-// Arcs between three times so many vertices, of a thousand weights. Those between vertices whose numbers leave the same
-// rest by three are all there are, so there are three components or more.
+// Arcs between 3 `third` vertices, with up to `weights` weights. An arc joins only vertices whose numbers have the same
+// remainder modulo 3, so there are at least three components.
 fn drawn_arcs(rt: &impl Abort, alloc: Global, third: u32, weights: u32) -> Vec<Row> {
     assert!(rt; 0 < third && third <= 1 << 24 && 0 < weights);
     let mut state = u64::from(third);
@@ -67,7 +69,7 @@ fn drawn_arcs(rt: &impl Abort, alloc: Global, third: u32, weights: u32) -> Vec<R
     arcs
 }
 
-// By each number of threads the links have just this forest.
+// For each number of threads, the links have exactly this forest.
 fn expect_by_threads(
     rt: &(impl Abort + Threads + Sync),
     alloc: Global,
@@ -92,7 +94,7 @@ fn a_small_net_by_threads(rt: HostRuntime) {
     expect_by_threads(&rt, alloc, 6, &[], &[]);
 }
 
-// Many links a vertex, some, and about one; many of one weight, and few.
+// Graphs with many links per vertex, with fewer, and with about one. Many links have the same weight, or few do.
 #[test]
 fn drawn_graphs_by_threads(rt: HostRuntime) {
     let alloc = rt.alloc();
@@ -111,7 +113,7 @@ fn drawn_graphs_by_threads(rt: HostRuntime) {
     }
 }
 
-// By three threads in this memory, the links have just this forest.
+// With three threads and this allocator, the links have exactly this forest.
 fn solve_in(
     rt: &(impl Abort + Threads + Sync),
     memory: &Refusing<Global>,
@@ -125,7 +127,7 @@ fn solve_in(
     Ok(())
 }
 
-// Each of its allocations is refused in turn.
+// Each of the allocations fails in turn.
 #[test]
 fn memory_by_threads(rt: HostRuntime) {
     let arcs = drawn_arcs(&rt, rt.alloc(), 20_000, 1_000);

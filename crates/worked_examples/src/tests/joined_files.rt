@@ -1,4 +1,4 @@
-// Several files as parts of one graph: the text is that of the forest of all their arcs.
+// Several files as parts of one graph. The text is that of the forest of all their arcs.
 use super::drawn_lists::slow_forest;
 use super::kept_runs::{Weights, report_of, rows, text_of};
 use super::lists::links_between;
@@ -12,21 +12,20 @@ use std::process::Abort;
 use std::thread::Threads;
 use worked_graphs::SMALL_NET;
 
-// The arcs of SMALL_NET, dealt over three files, one of which has none.
+// The arcs of SMALL_NET, distributed over three files. One of them has no arc.
 const DEALT: [&[u8]; 3] = [
     b"p sp 6 3\na 1 2 17\na 1 3 10\na 2 4 2\n",
     b"c none\np sp 6 0\n",
     b"c the others\np sp 6 5\na 3 5 0\na 4 3 0\na 4 6 3\na 5 2 0\na 5 6 20\n",
 ];
 
-// The forests of these files, by hand.
+// The forests of these files, worked out by hand.
 const FORESTS: [&[u8]; 3] = [
     b"p sp 6 3\na 2 4 2\na 1 3 10\na 1 2 17\n",
     b"p sp 6 0\n",
     b"p sp 6 4\na 2 5 0\na 3 4 0\na 3 5 0\na 4 6 3\n",
 ];
 
-// What is kept of these files, read one after the other.
 fn joined<C: Crew>(
     rt: &impl Abort,
     crew: &C,
@@ -47,7 +46,7 @@ fn joined<C: Crew>(
     Ok(parts)
 }
 
-// The files together give this text and report, by one thread, by one of several that may be, and by three.
+// The files together give this text and report with one thread, with at most one thread, and with at most three.
 fn expect_each_way(
     rt: &(impl Abort + Threads + Sync),
     alloc: Global,
@@ -70,7 +69,6 @@ fn expect_each_way(
     }
 }
 
-// What is reported of so many vertices and links, and of the total.
 fn counted(vertices: u32, links: u64, total: i128) -> Report {
     Report {
         vertices,
@@ -93,7 +91,7 @@ fn a_graph_in_parts(rt: HostRuntime) {
     expect_each_way(&rt, alloc, &[], b"p sp 0 0\n", counted(0, 0, 0));
 }
 
-// The forests of parts have the forest of all, and a file given twice has its own.
+// The forests of the parts have the same forest as the whole graph. A file that is given twice has its own forest.
 #[test]
 fn forests_of_parts(rt: HostRuntime) {
     let (alloc, text) = (rt.alloc(), SMALL_NET.text);
@@ -104,7 +102,8 @@ fn forests_of_parts(rt: HostRuntime) {
     expect_each_way(&rt, alloc, &many, text, counted(6, 1500, 13));
 }
 
-// A file that is refused ends it with its own fault, and so does one of another number of vertices, the first of all aside.
+// The first file that is malformed ends the run with its own error. So does the first file whose number of vertices
+// differs from that of the first file.
 #[test]
 fn files_that_are_refused(rt: HostRuntime) {
     let missing = PartFault::Read(ReadFault::Gr(GrFault {
@@ -131,7 +130,7 @@ fn files_that_are_refused(rt: HostRuntime) {
     expect_same(&rt, missing.text().as_str(), "line 3: MissingArcs");
 }
 
-// A sink that fails after some bytes holds just these.
+// A sink that fails has exactly the bytes that it took before.
 #[test]
 fn texts_that_are_broken_off(rt: HostRuntime) {
     for passes in [0, 8, 30] {
@@ -146,7 +145,7 @@ fn texts_that_are_broken_off(rt: HostRuntime) {
     }
 }
 
-// Files of so many arcs each that links are dropped while they are read, and again when they come together.
+// Files with so many arcs that links are dropped while each file is read, and again when the parts are joined.
 #[test]
 fn files_of_many_arcs(rt: HostRuntime) {
     for (n, count, each) in [(300, 90_000, 70_000), (2_000, 36_000, 19_000)] {

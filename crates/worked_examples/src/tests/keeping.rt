@@ -1,4 +1,5 @@
-// Links that are replaced while they are read: when a keeper is asked, what it leaves, and what its refusal is.
+// Links that a keeper replaces while a file is read: when the keeper is called, what it leaves, and what follows if it
+// fails.
 ghost use Rattle.std.specs.Prelude.{◌≡◌, ◌↔◌, ⊤, All, IsTrue};
 
 use super::same::expect_same;
@@ -7,7 +8,7 @@ use links::Link;
 use std::alloc::{AllocError, Allocator, Global};
 use std::process::Abort;
 
-// One arc line, and the link of its arc.
+// An arc line, and the link of its arc.
 const LINE: &[u8] = b"a 2 1 5\n";
 
 const LINK: Link = Link {
@@ -16,7 +17,7 @@ const LINK: Link = Link {
     high: 2,
 };
 
-// Keeps one link where all are one.
+// A keeper that keeps one link if all are equal.
 #[derive(Drop)]
 struct KeepOne {
     asked: u64,
@@ -47,14 +48,13 @@ impl<A: Allocator> Keep<A> for KeepOne {
     }
 }
 
-// Whether all links are this one.
 fn are_all(links: &[Link], link: Link) -> bool
     ensures { IsTrue result ↔ All (λ l. l ≡ link) links.now }
 {
     links.iter().all(|other| *other == link)
 }
 
-// Has no memory.
+// A keeper that is always out of memory.
 #[derive(Drop)]
 struct Refuses;
 
@@ -73,7 +73,7 @@ impl<A: Allocator> Keep<A> for Refuses {
     }
 }
 
-// A file of so many arc lines, all one.
+// A file whose arc lines are all equal.
 fn text_of(rt: &impl Abort, alloc: Global, head: &[u8], lines: usize) -> Vec<u8> {
     let mut text = Vec::from_slice(alloc, head).expect(rt, "memory");
     for _ in 0..lines {
@@ -82,7 +82,7 @@ fn text_of(rt: &impl Abort, alloc: Global, head: &[u8], lines: usize) -> Vec<u8>
     text
 }
 
-// 80,013 bytes: a piece of 65,536 and one of the others.
+// 80,013 bytes: one piece of 65,536 bytes and one with the rest.
 #[test]
 fn asks_after_each_piece(rt: HostRuntime) {
     let text = text_of(&rt, rt.alloc(), b"p sp 2 10000\n", 10_000);
@@ -97,7 +97,7 @@ fn asks_after_each_piece(rt: HostRuntime) {
     expect_same(&rt, (keeper.asked, keeper.dropped), (2, 9_999));
 }
 
-// 1,600,014 bytes: 16 pieces make the first MiB, and one has the others.
+// 1,600,014 bytes: the first MiB is read in 16 pieces, and the rest in one.
 #[test]
 fn asks_after_each_piece_by_threads(rt: HostRuntime) {
     let text = text_of(&rt, rt.alloc(), b"p sp 2 200000\n", 200_000);
@@ -113,7 +113,7 @@ fn asks_after_each_piece_by_threads(rt: HostRuntime) {
     expect_same(&rt, (keeper.asked, keeper.dropped), (17, 199_999));
 }
 
-// A comment fills the first piece, so that the problem line comes in the second.
+// A comment fills the first piece, so the problem line is in the second.
 #[test]
 fn asks_once_the_problem_line_has_come(rt: HostRuntime) {
     let mut text = Vec::new(rt.alloc());

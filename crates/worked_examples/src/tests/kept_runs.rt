@@ -1,5 +1,5 @@
-// Runs over files with so many arcs that of the links that were read only a forest is kept: the text is that of a simple
-// program's forest over all links, and all links are counted.
+// Runs over files with so many arcs that only a forest of the links read so far is kept. The text is that of the forest
+// that a simple program finds for all links, and all links are counted.
 ghost use Rattle.std.specs.Prelude.{◌<◌};
 
 use super::drawn_lists::{draw, slow_forest};
@@ -15,8 +15,8 @@ use std::process::Abort;
 use std::thread::Threads;
 use worked_graphs::Row;
 
-// So many vertices and arcs. All links are kept of up to 65,536 arcs, and of up to 15 a vertex. Of more arcs 32,768 links
-// or 10 a vertex are a long list, whichever is more.
+// Numbers of vertices and arcs. A run keeps all links of up to 65,536 arcs, or of up to 15 arcs per vertex. Otherwise,
+// a list is long once it has 32,768 links or 10 per vertex, whichever is more.
 const SIZES: [(u32, u32); 8] = [
     (2, 65_537),
     (300, 32_768),
@@ -28,7 +28,7 @@ const SIZES: [(u32, u32); 8] = [
     (5_000, 170_000),
 ];
 
-/// How the weights of a file go on.
+/// How the weights of a file continue.
 #[derive(Clone, Copy)]
 pub(super) enum Weights {
     Equal,
@@ -48,7 +48,8 @@ fn weight_of(weights: Weights, place: u32, drawn: u32) -> i64 {
     }
 }
 
-// So many arcs between the vertices 1 to n, row by row: each row is one vertex's, with loops and repeats among them.
+// Returns `count` arcs between the vertices 1 to n, with loops and repeats among them. Their tails go round the
+// vertices.
 pub(super) fn rows(rt: &impl Abort, alloc: Global, n: u32, count: u32, weights: Weights) -> Vec<Row>
     requires { 0 < n }
 {
@@ -65,7 +66,6 @@ pub(super) fn rows(rt: &impl Abort, alloc: Global, n: u32, count: u32, weights: 
     arcs
 }
 
-// What the run reports.
 pub(super) fn report_of(vertices: u32, links: &[Link], forest: &[Link]) -> Report {
     let mut total = 0i128;
     for link in forest {
@@ -84,7 +84,6 @@ pub(super) fn report_of(vertices: u32, links: &[Link], forest: &[Link]) -> Repor
     }
 }
 
-// The text of a file of n vertices with these links.
 pub(super) fn text_of(rt: &impl Abort, alloc: Global, n: u32, links: &[Link]) -> Vec<u8> {
     let mut rows = Vec::new(alloc);
     for link in links {
@@ -94,7 +93,7 @@ pub(super) fn text_of(rt: &impl Abort, alloc: Global, n: u32, links: &[Link]) ->
     path_text(rt, alloc, n, rows.as_slice())
 }
 
-// The run over this file writes the text of the simple program's forest, and counts all links, however the source cuts it.
+// The run writes the text of the simple program's forest and counts all links, for any lengths of the source's pieces.
 fn expect_run(rt: &(impl Abort + Threads + Sync), alloc: Global, n: u32, arcs: &[Row]) {
     let file = path_text(rt, alloc, n, arcs);
     let links = links_between(rt, alloc, n, arcs);
@@ -139,7 +138,8 @@ fn files_of_all_kinds_of_weights(rt: HostRuntime) {
     }
 }
 
-// Each edge stands in both directions side by side, some three times: links that repeat the one before them are dropped.
+// Each edge is listed in both directions in a row, and some edges three times. Links that repeat the one before are
+// dropped.
 #[test]
 fn files_of_edges_in_both_directions(rt: HostRuntime) {
     for (n, count) in [(300, 1_000), (5_000, 12_000), (5_000, 40_000)] {
@@ -155,7 +155,7 @@ fn files_of_edges_in_both_directions(rt: HostRuntime) {
     }
 }
 
-// Loops alone give no link, and one arc given again and again gives one.
+// If all arcs are loops, there is no link. If all arcs are equal, there is one in the forest.
 #[test]
 fn files_of_loops_and_repeats(rt: HostRuntime) {
     for head in [5, 6] {
@@ -167,7 +167,7 @@ fn files_of_loops_and_repeats(rt: HostRuntime) {
     }
 }
 
-// A fault behind links that were dropped has its own line, and nothing is written.
+// An error after dropped links is reported with its own line, and nothing is written.
 #[test]
 fn faults_behind_many_arcs(rt: HostRuntime) {
     let arcs = rows(&rt, rt.alloc(), 300, 70_000, Weights::Many);

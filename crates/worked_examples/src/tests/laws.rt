@@ -1,4 +1,4 @@
-// What the laws of `links` say, on a textbook's graph: the values are the book's, or were found by hand.
+// What the laws of `links` say, on a textbook's graph. The values are from the book, or were worked out by hand.
 use super::drawn_lists::{expect_forest, rename};
 use super::lists::links_between;
 use super::same::expect_same;
@@ -7,14 +7,13 @@ use std::alloc::Global;
 use std::process::Abort;
 use worked_graphs::{Row, TEXTBOOK, WORKED};
 
-// The rows of both lists.
 fn rows_of_both(rt: &impl Abort, alloc: Global, first: &[Row], second: &[Row]) -> Vec<Row> {
     let mut both = Vec::from_slice(alloc, first).expect(rt, "memory");
     both.extend_from_slice(second).expect(rt, "memory");
     both
 }
 
-// The least vertex of each one's component by the links up to a weight. A simple program: it renames the greater of two
+// The least vertex of each component, by the links up to a weight. This simple program replaces the greater of two
 // labels.
 fn slow_labels(rt: &impl Abort, alloc: Global, links: &[Link], weight: i64) -> Vec<u32> {
     let mut labels: Vec<u32> = (0..10).collect(alloc).expect(rt, "memory");
@@ -29,7 +28,8 @@ fn slow_labels(rt: &impl Abort, alloc: Global, links: &[Link], weight: i64) -> V
     labels
 }
 
-// What Kruskal's steps in the book have joined after the links up to each weight. The first label is of no vertex.
+// What Kruskal's algorithm has joined in the book after the links up to each weight. The first label belongs to no
+// vertex.
 const JOINED: [(i64, [u32; 10]); 7] = [
     (0, [0, 1, 2, 3, 4, 5, 6, 7, 8, 9]),
     (1, [0, 1, 2, 3, 4, 5, 6, 7, 7, 9]),
@@ -52,7 +52,7 @@ fn links_up_to_a_weight(rt: HostRuntime) {
     }
 }
 
-// The links between c, d, e, f, g, h and i, and the others; and the forests of both.
+// The links between c, d, e, f, g, h and i, then the other links, and the forests of both.
 const PARTS: [&[Row]; 2] = [
     &[
         (3, 4, 7),
@@ -81,13 +81,12 @@ const FORESTS: [&[Row]; 2] = [
     &[(1, 2, 4), (1, 8, 8), (2, 3, 8)],
 ];
 
-// The solver gives the second rows as the forest of the first.
 fn expect_rows(rt: &impl Abort, alloc: Global, arcs: &[Row], forest: &[Row]) {
     let wanted = links_between(rt, alloc, 9, forest);
     expect_forest(rt, alloc, 9, arcs, wanted.as_slice());
 }
 
-// The forest of the parts' forests, and of the one's forest and the other part, is that of all links.
+// The forest of all links is also the forest of the parts' forests, and of one part's forest with the other part.
 #[test]
 fn forests_of_parts(rt: HostRuntime) {
     for (part, forest) in PARTS.into_iter().zip(FORESTS) {
@@ -99,7 +98,7 @@ fn forests_of_parts(rt: HostRuntime) {
     expect_rows(&rt, rt.alloc(), added.as_slice(), TEXTBOOK.forest);
 }
 
-// Each row in both directions, one behind the other, as in a road file.
+// Each row is followed by its reverse, as in a file of roads.
 fn rows_both_ways(rt: &impl Abort, alloc: Global, rows: &[Row]) -> Vec<Row> {
     let mut both = Vec::new(alloc);
     for row in rows {
@@ -120,7 +119,7 @@ fn order_and_repeats(rt: HostRuntime) {
     expect_rows(&rt, rt.alloc(), more.as_slice(), TEXTBOOK.forest);
 }
 
-// The components of each worked graph, counted by hand.
+// The number of components of each example graph, counted by hand.
 const COMPONENTS: [usize; 9] = [1, 0, 1, 1, 1, 1, 2, 1, 1];
 
 #[test]
@@ -134,7 +133,7 @@ fn links_and_components(rt: HostRuntime) {
     }
 }
 
-// The book's graph with each weight replaced by its square less 50, so that some are negative.
+// The book's graph with each weight replaced by its square less 50, so that some weights are negative.
 const SQUARES: [Row; 14] = [
     (1, 2, -34),
     (2, 3, 14),
@@ -152,10 +151,9 @@ const SQUARES: [Row; 14] = [
     (4, 6, 146),
 ];
 
-// The places of the forest's links among the book's, link by link.
+// The index in the book's list of each link of the forest.
 const PLACES: [usize; 8] = [6, 10, 5, 0, 12, 2, 7, 3];
 
-// The forest's links stand at these places of the list.
 fn expect_places(rt: &impl Abort, alloc: Global, arcs: &[Row]) {
     let links = links_between(rt, alloc, 9, arcs);
     let forest = plain_forest(alloc, 9, links.as_slice()).expect(rt, "memory");

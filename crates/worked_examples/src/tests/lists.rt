@@ -1,4 +1,4 @@
-// Links of arcs, labels, offers and forests, and the forests of the worked graphs.
+// Links of arcs, labels, offers and forests, and the forests of the example graphs.
 ghost use Rattle.std.specs.Prelude.{IsTrue};
 ghost use Rattle.links.specs.Least.{AreDistinct};
 ghost use Rattle.links.specs.Link.{EndsUpTo};
@@ -11,7 +11,6 @@ use std::alloc::Global;
 use std::process::Abort;
 use worked_graphs::{Row, WORKED, links_of};
 
-// The links of the arcs, whose ends are vertices from 1 to n.
 pub(crate) fn links_between(rt: &impl Abort, alloc: Global, n: u32, arcs: &[Row]) -> Vec<Link>
     ensures { EndsUpTo n result.items }
 {
@@ -20,14 +19,14 @@ pub(crate) fn links_between(rt: &impl Abort, alloc: Global, n: u32, arcs: &[Row]
         .expect(rt, "arcs")
 }
 
-// Whether the lower ends of the links ascend, so that no two links are one.
+// Whether the lower endpoints of the links ascend, so that the links are distinct.
 pub(crate) fn have_lows_ascending(links: &[Link]) -> bool
     ensures { IsTrue result → AreDistinct links.now }
 {
     links.is_sorted_by(|earlier, later| earlier.low < later.low)
 }
 
-// The simple program finds them too.
+// The solver and the simple program find the forest that was worked out by hand.
 #[test]
 fn forests_of_the_worked_graphs(rt: HostRuntime) {
     for graph in WORKED {
@@ -64,7 +63,7 @@ fn ascending_lists(rt: HostRuntime) {
     expect_same(&rt, Forest::of_list(repeated).is_none(), true);
 }
 
-// Links of the vertices 1 to 4 in the order of their lower ends.
+// Links of the vertices 1 to 4 in the order of their lower endpoints.
 #[test]
 fn distinct_lists(rt: HostRuntime) {
     let links = links_between(&rt, rt.alloc(), 4, &[(1, 4, 0), (3, 2, 5), (3, 4, -7)]);
@@ -104,7 +103,7 @@ fn offers_that_are_known(rt: HostRuntime) {
     expect_same(&rt, again.pairs(), [(1, 0), (3, 2)].as_slice());
 }
 
-// Of these rows' links from an index on, those of other rows are left once repeats that stand side by side are dropped.
+// Drops repeats from the links of `arcs`, from an index on. The links of `wanted` are left.
 fn expect_once(rt: &impl Abort, alloc: Global, arcs: &[Row], from: usize, wanted: &[Row]) {
     let mut links = links_between(rt, alloc, 70, arcs);
     assert!(rt; from <= links.len());
@@ -113,7 +112,7 @@ fn expect_once(rt: &impl Abort, alloc: Global, arcs: &[Row], from: usize, wanted
     expect_same(rt, (from, links.as_slice()), (from, wanted.as_slice()));
 }
 
-// Two edges in both directions, and the first one again.
+// Two edges in both directions, and then the first one again.
 const BOTH_WAYS: [Row; 6] = [
     (1, 2, 7),
     (2, 1, 7),
@@ -135,7 +134,7 @@ fn repeats_side_by_side(rt: HostRuntime) {
     expect_once(&rt, rt.alloc(), &[], 0, &[]);
 }
 
-// The second of two equal links is the 64th, which is looked at, or the 65th, which isn't.
+// The second of two equal links is the 64th, which is among those that are checked first, or the 65th, which isn't.
 #[test]
 fn repeats_past_the_sample(rt: HostRuntime) {
     for first in [64, 65] {

@@ -1,5 +1,5 @@
-// The memory that a reader asks for: that of the arcs that came, whatever its problem line states. And what a forest of
-// distinct links asks for beside their list.
+// The memory that a reader allocates: it depends on the arcs that were read, whatever the problem line states. And the
+// memory that a forest of distinct links allocates in addition to their list.
 use super::lists::have_lows_ascending;
 use super::same::expect_same;
 use gr_text::{GrFault, GrKind, GrReader, MAX_BYTES, ReadFault, parse, read_graph};
@@ -8,10 +8,10 @@ use std::alloc::Global;
 use std::process::Abort;
 use test_memory::{Refusals, Refusing};
 
-// The first line of a text of as many arc lines as there may be.
+// The first line of a text with the greatest allowed number of arc lines.
 const PROBLEM: &[u8] = b"p sp 2 1073741824\n";
 
-// The fault of a text that states 2^30 arc lines and ends before this line.
+// The error of a text that states 2^30 arc lines and ends before this line.
 fn lacks_arcs(line: u64) -> Option<ReadFault> {
     Some(ReadFault::Gr(GrFault {
         line,
@@ -19,7 +19,7 @@ fn lacks_arcs(line: u64) -> Option<ReadFault> {
     }))
 }
 
-// Three readers of the text end with this fault while these allocations are refused. Returns how many they asked for.
+// Three readers of the text return this error while these allocations fail. Returns how many allocations they tried.
 fn expect_fault(
     rt: &impl Abort,
     alloc: Global,
@@ -39,7 +39,7 @@ fn expect_fault(
     memory.asked()
 }
 
-// Each allocation is refused, the first alone, or none: the line takes no memory, with its line feed and without.
+// All allocations fail, or only the first, or none. The problem line allocates nothing, with or without its line feed.
 #[test]
 fn a_problem_line_takes_none(rt: HostRuntime) {
     for refusals in [Refusals::since(1), Refusals::only(1), Refusals::none()] {
@@ -50,7 +50,8 @@ fn a_problem_line_takes_none(rt: HostRuntime) {
     }
 }
 
-// A list that grows as the arcs come asks for a block at each growth, and one with room for all that are stated once.
+// A list that grows with the arcs allocates a block at each growth. A list with a capacity for all stated arcs would
+// allocate once.
 #[test]
 fn arcs_take_it_as_they_come(rt: HostRuntime) {
     let mut text = Vec::from_slice(rt.alloc(), PROBLEM).expect(&rt, "memory");
@@ -65,7 +66,7 @@ fn arcs_take_it_as_they_come(rt: HostRuntime) {
     expect_same(&rt, asked > 6, true);
 }
 
-// A thousand distinct links are put in the order of their keys in their list, with no block beside it.
+// A thousand distinct links are sorted by their keys within their list. No other block is allocated.
 #[test]
 fn distinct_links_take_none(rt: HostRuntime) {
     let memory = Refusing::new(rt.alloc(), Refusals::none());

@@ -1,4 +1,5 @@
-// The merges that links make, in the order in which they come: SciPy's linkage matrices, and others by hand or by a rule.
+// The merges of links in the order in which they are listed. They are SciPy's linkage matrices, or were worked out by
+// hand or by a rule.
 use super::lists::links_between;
 use super::same::expect_same;
 use limits::{MAX_ARCS, MAX_VERTICES};
@@ -7,7 +8,7 @@ use std::alloc::Global;
 use std::process::Abort;
 use worked_graphs::{EQUAL_WEIGHTS, Row, SMALL_NET};
 
-// Two clusters, the lower one first, and the size of what they become.
+// Two clusters, the lower one first, and the size of the cluster that they become.
 fn merge(first: u32, second: u32, size: u32) -> Merge {
     Merge {
         first,
@@ -16,7 +17,6 @@ fn merge(first: u32, second: u32, size: u32) -> Merge {
     }
 }
 
-// The links of these arcs between the vertices 1 to n make these merges, or none.
 fn expect_merges(rt: &impl Abort, alloc: Global, n: u32, arcs: &[Row], merges: Option<&[Merge]>) {
     let links = links_between(rt, alloc, n, arcs);
     assert!(rt; n <= MAX_VERTICES && links.len() <= MAX_ARCS as usize);
@@ -25,7 +25,7 @@ fn expect_merges(rt: &impl Abort, alloc: Global, n: u32, arcs: &[Row], merges: O
     expect_same(rt, (n, found), (n, merges));
 }
 
-// The points 2, 8, 0, 4, 1, 9, 9 and 0 on a line, the example of `linkage` in SciPy's manual.
+// The points 2, 8, 0, 4, 1, 9, 9 and 0 on a line, which are the example of `linkage` in SciPy's manual.
 const ON_A_LINE: [Row; 7] = [
     (3, 8, 0),
     (6, 7, 0),
@@ -50,7 +50,8 @@ fn points_on_a_line(rt: HostRuntime) {
     expect_merges(&rt, rt.alloc(), 8, &ON_A_LINE, Some(&merges));
 }
 
-// The points of each cluster that the merges of eight points make, as bits. Two clusters have none in common.
+// The points of each cluster that the merges of eight points make, as bits. Two clusters that are merged share no
+// point.
 #[test]
 fn clusters_of_points_on_a_line(rt: HostRuntime) {
     let links = links_between(&rt, rt.alloc(), 8, &ON_A_LINE);
@@ -88,7 +89,7 @@ fn clusters_of_points_on_a_line(rt: HostRuntime) {
     expect_same(&rt, clusters.as_slice().get(8..), Some(made.as_slice()));
 }
 
-// Of three points at each corner of a square, the example of `single` in SciPy's manual.
+// Three points at each corner of a square, which are the example of `single` in SciPy's manual.
 #[test]
 fn points_at_corners(rt: HostRuntime) {
     let arcs = [
@@ -120,7 +121,8 @@ fn points_at_corners(rt: HostRuntime) {
     expect_merges(&rt, rt.alloc(), 12, &arcs, Some(&merges));
 }
 
-// None, one and two points, and trees with points that no link reaches; in an order that isn't that of weights, too.
+// No point, one and two points, and trees with points that no link reaches. In one case, the links aren't sorted by
+// weight.
 #[test]
 fn small_forests(rt: HostRuntime) {
     let rows: [(u32, &[Row], &[Merge]); 5] = [
@@ -145,7 +147,7 @@ fn small_forests(rt: HostRuntime) {
     }
 }
 
-// A cycle of three links, one that is closed last, one among many, and a link that stands twice.
+// A cycle of three links, a cycle that the last link closes, a cycle among many links, and a link that is listed twice.
 #[test]
 fn cycles_have_no_merges(rt: HostRuntime) {
     let rows: [(u32, &[Row]); 5] = [
@@ -160,7 +162,7 @@ fn cycles_have_no_merges(rt: HostRuntime) {
     }
 }
 
-// Of n vertices, link by link along a path and from a hub: one cluster grows, a point at a time.
+// The links of a path in order, and those of a star. One cluster grows by one point at a time.
 #[test]
 fn one_cluster_grows(rt: HostRuntime) {
     let n = 300u32;
@@ -182,7 +184,7 @@ fn one_cluster_grows(rt: HostRuntime) {
     }
 }
 
-// Of 256 vertices pairs become fours, then eights, and so on: link i joins the clusters 2 i and 2 i + 1.
+// 256 vertices become pairs, then groups of four, then of eight, and so on: link i joins the clusters 2 i and 2 i + 1.
 #[test]
 fn pairs_of_pairs(rt: HostRuntime) {
     let mut arcs: Vec<Row> = Vec::new(rt.alloc());

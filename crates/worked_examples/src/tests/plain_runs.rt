@@ -8,8 +8,8 @@ use std::alloc::Global;
 use std::process::Abort;
 use worked_graphs::{SMALL_NET, WORKED, Worked};
 
-// The run over this file ends well with the forest's text, and counts vertices, links and what the forest weighs, and
-// nothing else.
+// The run over this file succeeds and writes the forest's text. The report has the numbers of vertices and links and
+// the total, and 0 in all other fields.
 fn expect_text(rt: &impl Abort, alloc: Global, file: &[u8], graph: Worked, links: u64) {
     let mut source = file;
     let mut sink = Vec::new(alloc);
@@ -30,7 +30,7 @@ fn expect_text(rt: &impl Abort, alloc: Global, file: &[u8], graph: Worked, links
     expect_same(rt, source.is_empty(), true);
 }
 
-// Their links, repeats counted and loops left out.
+// The number of links of each example graph, with repeats and without loops.
 const LINKS: [u64; 9] = [8, 0, 0, 3, 3, 7, 2, 8, 14];
 
 #[test]
@@ -53,7 +53,7 @@ fn texts_of_forests_are_written_again(rt: HostRuntime) {
     }
 }
 
-// The same by the call whose contract says by definitions which text it is, and what is reported.
+// The same by the call whose contract defines the text and the report.
 #[test]
 fn texts_that_are_run_again(rt: HostRuntime) {
     for graph in WORKED {
@@ -64,7 +64,7 @@ fn texts_that_are_run_again(rt: HostRuntime) {
     }
 }
 
-// A sink that fails, or takes nothing more, after ten bytes holds just these.
+// A sink that fails or stops after ten bytes has exactly these bytes.
 #[test]
 fn a_sink_that_stops(rt: HostRuntime) {
     let fault = RunFault::Write { written: 10 };
@@ -80,7 +80,7 @@ fn a_sink_that_stops(rt: HostRuntime) {
     expect_same(&rt, stopping.held(), b"p sp 6 5\na".as_slice());
 }
 
-// Nothing is written of a file that is refused, nor of one whose source fails.
+// If a file is malformed or its source fails, nothing is written.
 #[test]
 fn a_file_that_is_not_read(rt: HostRuntime) {
     let file = b"p sp 2 2\na 1 2 5";

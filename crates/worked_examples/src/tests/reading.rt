@@ -1,4 +1,4 @@
-// Texts in the `.gr` format: what they mean, their faults, pieces and limits.
+// Texts in the `.gr` format: the graphs that they describe, their errors, pieces and limits.
 use super::same::expect_same;
 use gr_text::{
     FusedSource, GrFault, GrKind, GrReader, Graph, MAX_BYTES, ReadFault, parse, read_graph,
@@ -12,7 +12,7 @@ fn fault(line: u64, kind: GrKind) -> ReadFault {
     ReadFault::Gr(GrFault { line, kind })
 }
 
-// What was read is the graph that the small net's file means.
+// What was read is the graph that the small net's file describes.
 fn expect_small_net(rt: &impl Abort, read: Result<Graph, ReadFault>) {
     let graph = read.ok().expect(rt, "a graph");
     let links = [
@@ -29,7 +29,6 @@ fn expect_small_net(rt: &impl Abort, read: Result<Graph, ReadFault>) {
     expect_same(rt, found, (6, true));
 }
 
-// Whether the links have these lower ends, higher ends and weights.
 fn are_links(links: &[Link], expected: &[Row]) -> bool {
     links.len() == expected.len()
         && links
@@ -147,7 +146,7 @@ fn reads_two_pieces_cut_anywhere(rt: HostRuntime) {
     }
 }
 
-// As some systems write it: a carriage return is a blank, and doesn't end a line alone.
+// Lines as some systems write them. A carriage return is a blank, and doesn't end a line by itself.
 #[test]
 fn reads_lines_that_end_in_carriage_return_and_line_feed(rt: HostRuntime) {
     let text =
@@ -169,8 +168,8 @@ fn reads_lines_that_end_in_carriage_return_and_line_feed(rt: HostRuntime) {
     }
 }
 
-// Nine bytes are too few for ten and ten are enough, wherever the text is cut: also where a piece begins at the limit.
-// The line feed, the ninth byte, ends the first line.
+// A limit of nine bytes is too small for ten bytes and a limit of ten is enough, wherever the text is split. A piece
+// may begin exactly at the limit. The line feed, the ninth byte, ends the first line.
 #[test]
 fn takes_no_more_than_its_limit(rt: HostRuntime) {
     let text = b"p sp 0 0\nc";
@@ -228,7 +227,7 @@ fn reads_sources_that_fail(rt: HostRuntime) {
     expect_same(&rt, found, Some(fault(1, GrKind::UnknownLine)));
 }
 
-// In pieces of each length, so that some begin just at the limit.
+// Pieces of each length, so that some begin exactly at the limit.
 #[test]
 fn reads_a_source_up_to_a_limit(rt: HostRuntime) {
     for piece in 1..12usize {

@@ -1,5 +1,5 @@
-// Files read by threads: the graphs and the faults that one thread reads, wherever the cuts are. What is expected is
-// drawn together with the text.
+// Files read by threads give the same graphs and errors as with one thread, wherever the text is split. The expected
+// links are made together with the text.
 ghost use Rattle.std.specs.Prelude.{◌<◌, ◌≤◌};
 
 use super::drawn_lists::draw;
@@ -11,22 +11,22 @@ use std::process::Abort;
 use std::thread::Threads;
 use test_memory::{Refusals, Refusing};
 
-// How many arc lines a text has: about 400 KB of them, behind the first MiB.
+// The number of arc lines of a text. They have about 400 KB, and come after the first MiB.
 const LINES: u32 = 20_000;
 
-// How long a comment is, in which one thread is still when it has read a MiB or more; threads share what is behind it.
+// The length of a comment. One thread reads the first MiB or more, which ends within the comment, and threads share the
+// rest.
 const COMMENT: usize = (1 << 20) + 65_536;
 
-// How many vertices.
 const VERTICES: u32 = 30_000;
 
-// How many threads may read. 0 and 1 are the caller's alone.
+// The most threads that may read. With 0 and 1 only the caller's thread reads.
 const THREADS: [usize; 6] = [0, 1, 2, 3, 7, 64];
 
-// As many as find each of many faults.
+// The numbers of threads for tests of many errors.
 const FEW_THREADS: [usize; 3] = [1, 3, 64];
 
-// A problem line of vertices and arc lines, and a comment of so many bytes behind it.
+// A problem line with these numbers of vertices and arc lines, and then the comment.
 fn first_lines(rt: &impl Abort, alloc: Global, vertices: u32, lines: u32) -> Vec<u8> {
     let first = format!(in alloc; "p sp {vertices:08} {lines:08}\nc").expect(rt, "memory");
     let mut text = Vec::from_slice(alloc, first.as_bytes()).expect(rt, "memory");
@@ -36,12 +36,12 @@ fn first_lines(rt: &impl Abort, alloc: Global, vertices: u32, lines: u32) -> Vec
     text
 }
 
-// How many bytes these lines have, and those of the problem line alone.
+// The bytes of these lines, and of the problem line by itself.
 const BEFORE: usize = 23 + COMMENT;
 
 const PROBLEM: usize = 23;
 
-// A text and the links that it gives.
+// A text, and the links of its arcs.
 #[derive(Drop)]
 struct Drawn {
     text: Vec<u8>,
@@ -49,7 +49,7 @@ struct Drawn {
 }
 
 impl Drawn {
-    // A text of the first lines alone, of so many arc lines.
+    // A text with only the first lines, which state this many arc lines.
     fn begun(rt: &impl Abort, alloc: Global, lines: u32) -> Drawn {
         Drawn {
             text: first_lines(rt, alloc, VERTICES, lines),
@@ -57,13 +57,12 @@ impl Drawn {
         }
     }
 
-    // Puts bytes behind the text.
     fn put(&mut self, rt: &impl Abort, bytes: &[u8]) {
         self.text.extend_from_slice(bytes).expect(rt, "memory");
     }
 
-    // Puts so many drawn arc lines behind the text, which end so. Every seventh is a loop, and every third weight has a
-    // minus.
+    // Appends `count` random arc lines that end like this to the text. Every seventh arc is a loop, and every third
+    // weight has a minus sign.
     fn put_arcs(&mut self, rt: &impl Abort, alloc: Global, count: u32, ending: &str) {
         let mut state = 17;
         for number in 0..count {
@@ -90,7 +89,7 @@ impl Drawn {
     }
 }
 
-// Each number of threads reads this graph, from reads of at most so many bytes.
+// Each number of threads reads this graph, if a read returns at most `piece` bytes.
 fn expect_read<R: Abort + Threads + Sync>(rt: &R, alloc: Global, drawn: &Drawn, piece: usize)
     requires { 1 ≤ piece }
 {
@@ -103,7 +102,6 @@ fn expect_read<R: Abort + Threads + Sync>(rt: &R, alloc: Global, drawn: &Drawn, 
     }
 }
 
-// Each of these numbers of threads finds this fault.
 fn expect_fault<R: Abort + Threads + Sync>(rt: &R, alloc: Global, text: &[u8], fault: ReadFault) {
     for threads in FEW_THREADS {
         let mut source = text;
@@ -121,7 +119,7 @@ fn reads_what_was_drawn(rt: HostRuntime) {
     }
 }
 
-// With carriage returns, and with a last line that lacks its line feed.
+// Lines with carriage returns, and a last line without its line feed.
 #[test]
 fn reads_other_ends_of_lines(rt: HostRuntime) {
     let mut drawn = Drawn::begun(&rt, rt.alloc(), LINES + 1);
@@ -130,7 +128,7 @@ fn reads_other_ends_of_lines(rt: HostRuntime) {
     expect_read(&rt, rt.alloc(), &drawn, 1 << 20);
 }
 
-// Comments and lines of other forms in the middle: one thread reads these pieces.
+// Comments and lines of other forms in the middle. One thread reads the pieces that have them.
 #[test]
 fn reads_other_lines_in_the_middle(rt: HostRuntime) {
     for other in [
@@ -152,7 +150,7 @@ fn reads_other_lines_in_the_middle(rt: HostRuntime) {
     }
 }
 
-// Lines of the least length, so that the links take the whole room for them, over more than one read.
+// Lines of the least length, so that the links fill their buffer, over more than one read.
 #[test]
 fn reads_lines_of_the_least_length(rt: HostRuntime) {
     let count = 300_000;
@@ -173,7 +171,8 @@ fn fault(line: u64, kind: GrKind) -> ReadFault {
     ReadFault::Gr(GrFault { line, kind })
 }
 
-// First lines that state so many arc lines, and so many of these, all of one length, so that the place of each is known.
+// First lines that state this many arc lines, and then `count` arc lines. All have the same length, so the position of
+// each is easy to compute.
 fn even_lines(rt: &impl Abort, alloc: Global, stated: u32, count: u32) -> Vec<u8> {
     let mut text = first_lines(rt, alloc, 99, stated);
     for _ in 0..count {
@@ -183,7 +182,8 @@ fn even_lines(rt: &impl Abort, alloc: Global, stated: u32, count: u32) -> Vec<u8
     text
 }
 
-// Each kind of fault in the first arc line, in the last, in those about the cuts, and in two of them: the first is told.
+// Each kind of error in the first arc line, in the last, in those near a split, and in two lines. The first error is
+// reported.
 #[test]
 fn tells_the_first_fault(rt: HostRuntime) {
     let count = 12_000u32;
@@ -219,7 +219,7 @@ fn tells_the_first_fault(rt: HostRuntime) {
     }
 }
 
-// One arc line more than are stated, one less, a weight past the range in the middle, and no problem line.
+// One arc line more than stated, one less, no problem line, and a weight past the range in the middle.
 #[test]
 fn tells_what_is_wrong_with_the_whole(rt: HostRuntime) {
     let text = even_lines(&rt, rt.alloc(), 19_999, 20_000);
@@ -240,7 +240,6 @@ fn tells_what_is_wrong_with_the_whole(rt: HostRuntime) {
     );
 }
 
-// A read that fails in the middle.
 #[test]
 fn tells_where_a_read_failed(rt: HostRuntime) {
     for threads in THREADS {
@@ -251,8 +250,8 @@ fn tells_where_a_read_failed(rt: HostRuntime) {
     }
 }
 
-// Each allocation refused: alone, where one thread reads in place of several or the list grows by less; and all from it
-// on, where no memory is left for the links.
+// Each allocation fails. If only one does, one thread reads instead of several, or the list grows by less. If all from
+// that one on fail, there is no memory for the links.
 #[test]
 fn goes_on_without_memory_to_spare(rt: HostRuntime) {
     let text = even_lines(&rt, rt.alloc(), 20_000, 20_000);

@@ -1,4 +1,5 @@
-// Texts of forests, and whole runs, by several threads: the same as by one, up to far past what each thread has at a time.
+// Texts of forests and whole runs with several threads. They are the same as with one thread, for sizes far above what
+// a thread works on at a time.
 use super::lists::links_between;
 use super::same::expect_same;
 use super::sizes::{path, path_text};
@@ -11,15 +12,15 @@ use std::process::Abort;
 use std::thread::Threads;
 use worked_graphs::{SMALL_NET, WORKED};
 
-// One and few, a prime, and as many as can be asked for.
+// One thread, a few threads, and as many as a caller may ask for.
 const THREADS: [usize; 5] = [1, 2, 3, 7, 64];
 
-// How many vertices a path has, which has a link less: a thread has 8,192 links at a time, and two threads begin with 16,384.
+// The number of vertices of a path, which has one link less. A thread works on 8,192 links at a time, and two threads
+// begin at 16,384.
 const SIZES: [u32; 9] = [
     0, 2, 16_384, 16_385, 16_386, 24_577, 32_770, 65_540, 300_001,
 ];
 
-// The path's forest.
 fn path_forest(rt: &impl Abort, alloc: Global, n: u32) -> (Forest, Vec<u8>) {
     let arcs = path(rt, alloc, n);
     let links = links_between(rt, alloc, n, arcs.as_slice());
@@ -40,8 +41,8 @@ fn forests_to_texts(rt: HostRuntime) {
     }
 }
 
-// A sink that fails after `passes` bytes, some thousand of which it takes at a time, holds just these. One that takes
-// nothing more has the whole text where it has room for it.
+// A sink that takes 5000 bytes at a time and fails after `passes` bytes has exactly these bytes. A sink that stops
+// instead has the whole text if it has capacity for it.
 fn expect_part(
     rt: &(impl Abort + Threads + Sync),
     alloc: Global,
@@ -95,7 +96,7 @@ fn files_to_texts(rt: HostRuntime) {
     }
 }
 
-// Their links, repeats counted and loops left out.
+// The number of links of each example graph, with repeats and without loops.
 const LINKS: [u64; 9] = [8, 0, 0, 3, 3, 7, 2, 8, 14];
 
 #[test]
@@ -122,7 +123,7 @@ fn texts_of_the_worked_graphs(rt: HostRuntime) {
     }
 }
 
-// Nothing is written of a file that is refused, and a failed write counts the bytes before it.
+// If a file is malformed, nothing is written. A failed write reports the number of bytes before it.
 #[test]
 fn files_and_sinks_that_fail(rt: HostRuntime) {
     let missing = RunFault::Read(ReadFault::Gr(GrFault {

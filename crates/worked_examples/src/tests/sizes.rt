@@ -1,6 +1,6 @@
-// Calls that may answer want of memory, each with ample memory at each size of a table: none and few, the pieces that a
-// call works in, less one, themselves and one more, and far past them. A body that gives up at some size is proved as
-// well as one that doesn't. What is expected is written by a formula, here.
+// Calls that may run out of memory, each with enough memory and at each size of a table. The sizes are none and few,
+// those of internal buffers, one less and one more, and far above them. The proofs allow a call to give up at some
+// size, so only these tests show that it doesn't. Formulas here give the expected results.
 use super::components::expect_components;
 use super::drawn_lists::expect_forest;
 use super::lists::{have_lows_ascending, links_between};
@@ -15,20 +15,21 @@ use std::process::Abort;
 use std::thread::Threads;
 use worked_graphs::Row;
 
-// How many vertices a path has. A sample has 256 links; a path has a link less than vertices, and with weights from the
-// least to the greatest there are two more.
+// The number of vertices of a path. A sample has 256 links. A path has one link less than vertices; the test of weights
+// far apart adds links to it.
 const SIZES: [u32; 19] = [
     0, 1, 2, 3, 4, 5, 6, 254, 255, 256, 257, 10_001, 65_533, 65_534, 65_535, 65_536, 65_537,
     65_538, 200_003,
 ];
 
-// The vertex that the lightest links of lists with weights so far apart lead to.
+// The vertex at which the lightest links end if weights are far apart.
 const LAST: u32 = 1 << 20;
 
-// As many vertices as there may be.
+// The greatest allowed number of vertices.
 const MOST: u32 = 1 << 26;
 
-// Adds the arcs of a path from vertex 1 to n, each as heavy as its first vertex: in key order, and each one in the forest.
+// Adds the arcs of a path from vertex 1 to n. Each weighs as much as its first vertex, so they are in the order of
+// their keys and all in the forest.
 fn put_path(rt: &impl Abort, arcs: &mut Vec<Row>, n: u32) {
     for v in 1..n {
         arcs.push((v, v.wrapping_add(1), i64::from(v)))
@@ -53,8 +54,8 @@ pub(crate) fn path_text(rt: &impl Abort, alloc: Global, n: u32, arcs: &[Row]) ->
     text
 }
 
-// The arcs in another order, each beside others from far off. Every place is taken by the steps of 7,919, since that is
-// a prime that doesn't divide their number.
+// The arcs in another order, in which neighbours come from far apart. Steps of 7,919 reach every index, since this is a
+// prime that doesn't divide the number of arcs.
 fn scattered(rt: &impl Abort, alloc: Global, arcs: &[Row]) -> Vec<Row> {
     let mut list = Vec::new(alloc);
     let mut place = 0;
@@ -67,7 +68,7 @@ fn scattered(rt: &impl Abort, alloc: Global, arcs: &[Row]) -> Vec<Row> {
     list
 }
 
-// The forest of the arcs in another order has just these links, in key order.
+// The forest of the arcs in another order has exactly these links, in the order of their keys.
 fn expect_links(rt: &impl Abort, alloc: Global, n: u32, arcs: &[Row], wanted: &[Row]) {
     let links = links_between(rt, alloc, n, wanted);
     let mixed = scattered(rt, alloc, arcs);
@@ -82,8 +83,8 @@ fn forests_of_paths(rt: HostRuntime) {
     }
 }
 
-// Weights from the least to the greatest: beside the path there are two of the lightest links, and the heaviest beside
-// one of them, which closes a cycle.
+// Weights from the least to the greatest. In addition to the path there are two of the lightest links. The heaviest
+// link repeats the endpoints of one of them, and so closes a cycle.
 #[test]
 fn forests_of_links_with_weights_far_apart(rt: HostRuntime) {
     for n in SIZES {
@@ -99,8 +100,8 @@ fn forests_of_links_with_weights_far_apart(rt: HostRuntime) {
     }
 }
 
-// The links of a path of 2^`rounds` vertices in key order. Every second one is lighter than the others, every second of
-// these lighter than the rest, and so on, so that each round leaves half of the components.
+// The links of a path of 2^`rounds` vertices in the order of their keys. Every second link has the least weight, every
+// second of the others the next weight, and so on. So each round halves the number of components.
 fn halving_path(rt: &impl Abort, alloc: Global, rounds: u32) -> Vec<Row> {
     let mut arcs = Vec::new(alloc);
     for weight in 0..rounds {
@@ -124,7 +125,8 @@ fn forests_of_up_to_eighteen_rounds(rt: HostRuntime) {
     }
 }
 
-// The arcs of a tree whose vertices come after their parents, each lighter than the one before: against key order.
+// The arcs of a tree whose vertices come after their parents. Each is lighter than the one before, so they are in the
+// opposite order of their keys.
 fn tree(rt: &impl Abort, alloc: Global, n: u32) -> Vec<Row> {
     let mut arcs = Vec::new(alloc);
     for v in 1..n {
@@ -135,8 +137,8 @@ fn tree(rt: &impl Abort, alloc: Global, n: u32) -> Vec<Row> {
     arcs
 }
 
-// All of these links are the forest. With one link more to the last vertex, which closes a cycle where there are three
-// vertices or more, the forest is the same.
+// All links of the tree are in its forest. One more link to the last vertex closes a cycle if there are at least three
+// vertices, and the forest stays the same.
 #[test]
 fn forests_of_trees_in_order(rt: HostRuntime) {
     for n in SIZES {
@@ -152,8 +154,8 @@ fn forests_of_trees_in_order(rt: HostRuntime) {
     }
 }
 
-// The links of the vertices 1 to n that are two apart: a path of the odd vertices and one of the even ones, whose links
-// weigh this.
+// The links between vertices of 1 to n whose numbers differ by 2. The odd vertices and the even ones each form a path,
+// and the links of the even ones have this weight.
 fn two_paths(rt: &impl Abort, alloc: Global, n: u32, even: i64) -> Vec<Row> {
     let mut arcs = Vec::new(alloc);
     for v in 3..n.wrapping_add(1) {
@@ -164,8 +166,8 @@ fn two_paths(rt: &impl Abort, alloc: Global, n: u32, even: i64) -> Vec<Row> {
     arcs
 }
 
-// Two components, whose least vertices are 1 and 2. With the greatest weight there is, keys don't fit 64 bits. There is none
-// once a link joins the ends of a path that has two links or more, or once a link stands twice.
+// Two components, whose least vertices are 1 and 2. If a link has the greatest weight, keys don't fit 64 bits. There
+// are no labels if a link joins the endpoints of a path of at least two links, or if a link is listed twice.
 #[test]
 fn components_of_paths(rt: HostRuntime) {
     for n in SIZES {
@@ -186,7 +188,7 @@ fn components_of_paths(rt: HostRuntime) {
     }
 }
 
-// Each of the vertices 1 to n by itself, by each call that labels them, and as offers.
+// Each of the vertices 1 to n by itself, by each call that makes labels, and as offers.
 fn expect_numbers(rt: &impl Abort, alloc: Global, n: u32) {
     assert!(rt; n <= MOST);
     let numbers: Vec<u32> = (1..n + 1).collect(alloc).expect(rt, "memory");
@@ -208,7 +210,6 @@ fn labels_and_offers(rt: HostRuntime) {
     }
 }
 
-// The graph has so many vertices and these links.
 fn expect_graph(rt: &impl Abort, graph: &Graph, n: u32, links: &[Link]) {
     expect_same(rt, (graph.n(), graph.links()), (n, links));
 }
@@ -226,7 +227,8 @@ fn files_to_graphs(rt: HostRuntime) {
     }
 }
 
-// What is read at once has 49,152 bytes; a piece of a source or of a text has a byte, or about so many as that.
+// One read takes up to 65,536 bytes. The pieces of the source and of the text have a few bytes, about as many as a
+// read, and more.
 #[test]
 fn files_in_pieces(rt: HostRuntime) {
     let n = 10_001;
@@ -249,8 +251,7 @@ fn files_in_pieces(rt: HostRuntime) {
     }
 }
 
-// A path whose weights are drawn from so many, the least being the least weight there is; as a forest it is what std's
-// sort gives.
+// A path with at most `weights` weights, from the least weight on. Its forest is what the sort of std gives.
 fn expect_distinct(rt: &(impl Abort + Threads + Sync), alloc: Global, n: u32, weights: u64) {
     let mut arcs = Vec::new(alloc);
     let mut weight = 0u64;
@@ -278,7 +279,7 @@ fn expect_distinct(rt: &(impl Abort + Threads + Sync), alloc: Global, n: u32, we
     expect_same(rt, by_threads.links(), wanted.as_slice());
 }
 
-// Weights of three digits, of all 64 binary ones, and of 41.
+// Weights that differ by up to three digits, by all 64 bits, and by 41 bits.
 #[test]
 fn distinct_links(rt: HostRuntime) {
     for n in SIZES {
@@ -318,7 +319,7 @@ fn files_to_texts(rt: HostRuntime) {
     }
 }
 
-// Tables of 268 MB each.
+// The tables have 268 MB each.
 #[test]
 fn as_many_vertices_as_there_may_be(rt: HostRuntime) {
     let arcs = [(1, MOST, -7), (1, 2, 5), (MOST - 1, MOST, 5)];

@@ -1,4 +1,4 @@
-// What forests weigh.
+// Total weights of forests.
 use super::lists::links_between;
 use super::same::expect_same;
 use link_key::{Forest, Link, plain_forest};
@@ -14,7 +14,6 @@ fn totals_of_the_worked_graphs(rt: HostRuntime) {
     }
 }
 
-// A hundred thousand times the least weight.
 #[test]
 fn a_total_of_many_links(rt: HostRuntime) {
     let mut links = Vec::new(rt.alloc());

@@ -1,4 +1,4 @@
-// The texts of forests, how a sink is called, and how much of a text went out.
+// The texts of forests, how a sink is called, and how much of a text was written.
 use super::lists::links_between;
 use super::same::expect_same;
 use byte_streams::{BufferedSink, Failed, Sink};
@@ -8,13 +8,13 @@ use std::alloc::Global;
 use std::process::Abort;
 use worked_graphs::{Row, SMALL_NET};
 
-// The forest of these links, which have to ascend.
+// The forest of these links, which have to be in the order of their keys.
 fn forest_of(rt: &impl Abort, alloc: Global, rows: &[Row]) -> Forest {
     let links = links_between(rt, alloc, 1 << 26, rows);
     Forest::of_list(links).expect(rt, "ascending")
 }
 
-// A sink that counts its writes, its flushes, and the writes that come behind the first flush.
+// A sink that counts its writes, its flushes, and the writes after the first flush.
 #[derive(Drop)]
 struct Counted {
     bytes: Vec<u8>,
@@ -50,9 +50,9 @@ impl Sink for Counted {
     }
 }
 
-// The forest has this text. It is flushed once, behind its last byte, so no byte of it waits then. The first line is a write
-// of its own, and the others are written in pieces of 8 KiB, each of which but the last has no room for one more line of 64
-// bytes.
+// The forest has this text. The sink is flushed once, after the last byte, so that no byte is left in a buffer. The
+// first line is a write of its own. The other lines are written in pieces of up to 8 KiB. Every piece but the last is
+// too full for one more line of 64 bytes.
 fn expect_text(rt: &impl Abort, alloc: Global, n: u32, forest: &Forest, text: &[u8]) {
     let mut sink = Counted::new(alloc);
     let written = write_forest(&mut sink, n, forest);
@@ -94,8 +94,8 @@ fn writes_small_forests(rt: HostRuntime) {
     }
 }
 
-// A sink that fails after `passes` bytes holds just these, also one that is full at the last byte and fails at the
-// flush; one that takes nothing more, and then is flushed, has the whole text.
+// A sink that fails after `passes` bytes has exactly these bytes. That includes one that is full at the last byte and
+// fails at the flush. A sink that stops at the last byte and is then flushed has the whole text.
 #[test]
 fn counts_the_bytes_that_went_out(rt: HostRuntime) {
     let forest = forest_of(&rt, rt.alloc(), SMALL_NET.forest);
@@ -113,7 +113,7 @@ fn counts_the_bytes_that_went_out(rt: HostRuntime) {
     }
 }
 
-// 2000 links whose lines have 11 bytes each, which is more than two pieces hold.
+// 2000 links whose lines have 11 bytes each, which is more than two pieces.
 #[test]
 fn writes_many_pieces(rt: HostRuntime) {
     let mut rows = Vec::new(rt.alloc());

@@ -1,6 +1,6 @@
-// Sessions that hear one ask after another: under the labels of the one before, under some that coarsen these, and under
-// some that don't; and a shard that is sent again. Each reply is the ask's answer, or tells of want of memory, and no block
-// is left behind.
+// Sessions with one ask after another: with the labels of the previous ask, with labels that coarsen these, and with
+// others. A shard is also sent again. Each reply is the answer to the ask or reports that the worker is out of memory.
+// No block is left.
 use super::frame_texts::{ANSWER, ASK, HELLO, NO_MEMORY, SHARD, SHARD64};
 use super::in_turn::{Memory, expect_any, was_refused};
 use super::same::expect_same;
@@ -13,8 +13,8 @@ use test_memory::{Refusals, Refusing};
 use worked_graphs::have_labels;
 use worker_engine::{ServeFault, scan, serve};
 
-// The ask of round 1 where vertex 2 has joined 1, and its answer: of either triangle the link of 1 and 3 is the lightest
-// that leaves a component.
+// The ask of round 1 after vertex 2 has joined 1, and its answer. In either triangle the link between 1 and 3 is the
+// lightest that leaves a component.
 const COARSER_ASK: [u8; 29] = [
     3, 0, 0, 0, 24, 0, 0, 0, 1, 0, 0, 0, 0, 0, 0, 0, 3, 0, 0, 0, 1, 0, 0, 0, 1, 0, 0, 0, 3,
 ];
@@ -24,14 +24,12 @@ const COARSER_ANSWER: [u8; 33] = [
     0, 2,
 ];
 
-/// The frames that a session hears, and the answers to its asks.
 #[derive(Clone, Copy)]
 struct Talk<'a> {
     heard: &'a [&'a [u8]],
     answers: &'a [&'a [u8]],
 }
 
-// The parts, one behind the other.
 fn joined(rt: &impl Abort, alloc: Global, parts: &[&[u8]]) -> Vec<u8> {
     let mut bytes = Vec::new(alloc);
     for part in parts {
@@ -40,7 +38,8 @@ fn joined(rt: &impl Abort, alloc: Global, parts: &[&[u8]]) -> Vec<u8> {
     bytes
 }
 
-// How many asks were replied to by an answer, and how many by want of memory, where these are the replies in turn.
+// Returns how many replies are answers, and how many report that the worker is out of memory. Together they are all
+// that was written.
 fn replies_in(rt: &impl Abort, written: &[u8], answers: &[&[u8]]) -> (u64, u64) {
     let mut rest = written;
     let mut counts = (0u64, 0u64);
@@ -57,8 +56,8 @@ fn replies_in(rt: &impl Abort, written: &[u8], answers: &[&[u8]]) -> (u64, u64) 
     counts
 }
 
-// The session replies to each ask, or it wants memory and replied to the first ones. Where no allocation is refused, each
-// reply is an answer.
+// The session replies to each ask, or runs out of memory after it replied to the first ones. If no allocation failed,
+// each reply is an answer.
 fn expect_talk(
     rt: &(impl Abort + Threads + Sync),
     alloc: Global,
@@ -121,12 +120,12 @@ fn asks_of_two_triangles_in_turn(rt: HostRuntime) {
     );
 }
 
-// So many links of a path between so many more vertices that they are numbered, and the names of the numbers kept by gaps.
+// The links of a path, and so many more vertices that the links' labels are numbered. The names of the numbers are
+// stored by gaps.
 const LINKS: u32 = 4_200;
 
 const VERTICES: u32 = 10_000;
 
-// The path.
 fn path(rt: &impl Abort, alloc: Global) -> Vec<Link> {
     let mut links = Vec::new(alloc);
     for low in 1..LINKS + 1 {
@@ -136,7 +135,7 @@ fn path(rt: &impl Abort, alloc: Global) -> Vec<Link> {
     links
 }
 
-// Each vertex has its own label, but this one, which has that of the vertex before; vertex 0 is none.
+// Each vertex has its own label, but this one has the label of the vertex before it. If it is 0, all have their own.
 fn labels_but(rt: &impl Abort, alloc: Global, vertex: u32) -> Labels {
     let mut list = Vec::new(alloc);
     for before in 0..VERTICES {
@@ -147,7 +146,7 @@ fn labels_but(rt: &impl Abort, alloc: Global, vertex: u32) -> Labels {
     Labels::of_list(list).expect(rt, "labels")
 }
 
-// An ask of round 1 for the links under labels, and its answer, by a scan of its own.
+// An ask of round 1 for the links with these labels, and its answer by a scan of all links.
 fn ask_and_answer(
     rt: &impl Abort,
     alloc: Global,

@@ -1,4 +1,5 @@
-// The text of a forest, and a run over it, by three threads, with each allocation refused. Two of them have a part each.
+// The text of a forest, and a run over it, by three threads, with each allocation failing. Two of the threads have a
+// part each.
 use super::in_turn::{Memory, expect_any, was_refused};
 use super::runs::wants_memory;
 use super::same::expect_same;
@@ -10,10 +11,9 @@ use std::process::Abort;
 use std::thread::Threads;
 use worked_graphs::{Row, links_of};
 
-// How many vertices a path has.
 const VERTICES: u32 = 20_000;
 
-// The arcs of a path, each as heavy as its first vertex, and the path as a file, which is also its forest's text.
+// The arcs of a path, each as heavy as its first vertex. And the path as a file, which is also its forest's text.
 fn path(rt: &impl Abort, alloc: Global) -> (Vec<Row>, Vec<u8>) {
     let mut arcs = Vec::new(alloc);
     let mut text = Vec::from_slice(alloc, b"p sp 20000 19999\n").expect(rt, "memory");
@@ -26,7 +26,7 @@ fn path(rt: &impl Abort, alloc: Global) -> (Vec<Row>, Vec<u8>) {
     (arcs, text)
 }
 
-// The forest is written whole, also where the memory for the threads' parts is refused.
+// The whole forest is written, even if there is no memory for the threads' parts.
 fn expect_text(
     rt: &(impl Abort + Threads + Sync),
     alloc: Global,
@@ -55,7 +55,7 @@ fn texts_of_forests(rt: HostRuntime) {
     );
 }
 
-// A run that ends well wrote the forest's text; one that doesn't wanted memory, and wrote nothing.
+// A run that succeeds has written the forest's text. A run that fails was out of memory, and wrote nothing.
 fn expect_run(
     rt: &(impl Abort + Threads + Sync),
     alloc: Global,

@@ -1,11 +1,11 @@
-// A reader and a writer of std that fail: each kind of failure is answered as a failure, and none as an end or as a write that
-// took nothing.
+// A reader and a writer of std that fail. Each kind of error is returned as a failure, never as an end or as a write of
+// no bytes.
 use super::same::expect_same;
 use byte_streams::{Failed, Sink, Source, Uncounted};
 use std::io;
 use std::io::{ErrorKind, Read, Write};
 
-// Each call fails by this kind.
+// Each call fails with this kind of error.
 #[derive(Drop)]
 struct Failing {
     kind: ErrorKind,

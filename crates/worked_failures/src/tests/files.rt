@@ -1,5 +1,5 @@
-// Runs over the small net, also with weights past 32 bits, whose source fails at each byte, and whose sink fails, or takes
-// nothing more, at each byte of the forest's text.
+// Runs over the small net, also with weights past 32 bits. The source fails at each byte of the file. The sink fails or
+// stops at each byte of the forest's text.
 ghost use Rattle.std.specs.Prelude.{◌<◌, ◌≤◌, ◌-◌, ◌^◌};
 
 use super::runs::{run_over, two_workers};
@@ -14,14 +14,13 @@ use std::sync::Wait;
 use std::thread::Threads;
 use worked_graphs::{SMALL_NET, WIDE_WEIGHTS, Worked};
 
-/// By one thread, or over two workers.
 #[derive(Clone, Copy)]
 enum Way {
     OneThread,
     TwoWorkers,
 }
 
-// Each way, over streams that give and take so many bytes at a time.
+// Each kind of run, with streams that pass one byte at a time, or seven.
 const RUNS: [(Way, usize); 4] = [
     (Way::OneThread, 1),
     (Way::OneThread, 7),
@@ -29,10 +28,10 @@ const RUNS: [(Way, usize); 4] = [
     (Way::TwoWorkers, 7),
 ];
 
-// How long the files are, and their forests' texts.
+// The lengths of the files and of their forests' texts.
 const LENGTHS: [(Worked, usize, usize); 2] = [(SMALL_NET, 108, 50), (WIDE_WEIGHTS, 121, 78)];
 
-// Why a run ends, if it doesn't end well.
+// Why a run failed, if it did.
 fn fault_of(
     rt: &(impl Threads + Wait + Sync + Abort),
     alloc: Global,
@@ -53,7 +52,6 @@ fn fault_of(
     }
 }
 
-// The line of the byte behind these.
 fn line_behind(bytes: &[u8]) -> u64 {
     let mut line = 1u64;
     for byte in bytes {
@@ -64,10 +62,11 @@ fn line_behind(bytes: &[u8]) -> u64 {
     line
 }
 
-// Why a run ends, if it doesn't end well, and what it wrote. Where the source fails the fault names the line of the next
-// byte, and nothing is written; one that passes more bytes than there are gives the end. Where the sink has a setback it
-// has what it had room for, and the fault counts these bytes. Room for just the text isn't enough for a sink
-// that fails, since the flush fails; it is for one that takes nothing more.
+// Why a run fails, if it does, and what it wrote. If the source fails, the error names the line of the next byte, and
+// nothing is written. A source that passes more bytes than the file has gives the end.
+//
+// If the sink fails or stops, it has as many bytes as it passes, and the error counts them. A capacity for exactly the
+// text is too small for a sink that fails, since the flush fails. It is enough for a sink that stops.
 fn end_of(graph: &Worked, place: Place) -> (Option<RunFault>, &'static [u8]) {
     let (file, text, passes) = (graph.file, graph.text, place.passes);
     let written = passes as u64;
@@ -86,7 +85,7 @@ fn end_of(graph: &Worked, place: Place) -> (Option<RunFault>, &'static [u8]) {
     }
 }
 
-// A run of the graph over streams of which one has a setback ends as it should.
+// A run of the graph, with one stream that fails or stops, ends as it should.
 fn expect_end<R: Threads + Wait + Sync + Abort>(
     rt: &R,
     alloc: Global,
@@ -107,7 +106,7 @@ fn expect_end<R: Threads + Wait + Sync + Abort>(
     );
 }
 
-// The same wherever the setback comes, up to behind the last byte.
+// The same for each position at which the stream can fail or stop, up to after the last byte.
 fn expect_each_end<R: Threads + Wait + Sync + Abort>(rt: &R, alloc: Global, setback: Setback) {
     for (graph, file, text) in LENGTHS {
         expect_same(rt, (graph.file.len(), graph.text.len()), (file, text));

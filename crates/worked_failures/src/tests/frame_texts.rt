@@ -1,4 +1,4 @@
-// Frames that are written and read. A fault's bytes are made without memory.
+// Frames that are written and read. The bytes of a fault are made without allocations.
 use super::in_turn::{Memory, expect_each, or_refused, was_refused};
 use super::lists::few_links;
 use super::same::expect_same;
@@ -20,7 +20,8 @@ pub(crate) const SHARD: [u8; 49] = [
     0, 3, 0, 0, 0, 5, 0, 0, 0, 1, 0, 0, 0, 3, 0, 0, 0, 5,
 ];
 
-// The triangle with weights past 32 bits, both limits among them, and it as shard 0. Its answer is that of equal weights.
+// The triangle with weights past 32 bits, both limits among them, and the same as shard 0. The answer is that of equal
+// weights.
 pub(crate) const WIDE_ARCS: [Row; 3] = [
     (1, 2, -9223372036854775808),
     (2, 3, 9223372036854775807),
@@ -33,20 +34,20 @@ pub(crate) const SHARD64: [u8; 61] = [
     128, 0, 0, 0,
 ];
 
-// A shard of one link whose weight fits 32 bits, as if it didn't.
+// A shard of one link whose weight fits 32 bits, in the form for greater weights.
 const NEEDLESS: [u8; 29] = [
     6, 0, 0, 0, 24, 0, 0, 0, 0, 0, 0, 0, 1, 0, 0, 0, 1, 0, 0, 0, 2, 0, 0, 0, 0, 0, 0, 0, 5,
 ];
 
-// A shard of no links, as if one had a weight past 32 bits.
+// A shard without links, in the form for weights past 32 bits.
 const EMPTY_SHARD64: [u8; 13] = [6, 0, 0, 0, 8, 0, 0, 0, 0, 0, 0, 0, 0];
 
-// The ask of round 1 for it, each vertex a component by itself.
+// The ask of round 1 for shard 0. Each vertex is a component by itself.
 pub(crate) const ASK: [u8; 29] = [
     3, 0, 0, 0, 24, 0, 0, 0, 1, 0, 0, 0, 0, 0, 0, 0, 3, 0, 0, 0, 1, 0, 0, 0, 2, 0, 0, 0, 3,
 ];
 
-// Its answer.
+// The answer to that ask.
 pub(crate) const ANSWER: [u8; 41] = [
     4, 0, 0, 0, 36, 0, 0, 0, 1, 0, 0, 0, 0, 0, 0, 0, 3, 0, 0, 0, 1, 0, 0, 0, 0, 0, 0, 0, 2, 0, 0,
     0, 0, 0, 0, 0, 3, 0, 0, 0, 2,
@@ -66,7 +67,8 @@ enum Call {
     EncodeAnswer,
 }
 
-// What is read of a frame's bytes is written as these bytes again, and what is written is these bytes.
+// If a call reads a frame, it reads these bytes, and they are written again. If a call writes a frame, it writes these
+// bytes.
 const CALLS: [(Call, &[u8]); 17] = [
     (Call::ReadFrame, &HELLO),
     (Call::ReadFrame, &SHARD),
@@ -87,7 +89,7 @@ const CALLS: [(Call, &[u8]); 17] = [
     (Call::EncodeAnswer, &ANSWER),
 ];
 
-// What the call writes: of these bytes, where it reads them.
+// The bytes that the call writes. A call that reads a frame reads `bytes`.
 fn text_of<'a>(
     rt: &impl Abort,
     alloc: Global,
@@ -109,7 +111,6 @@ fn text_of<'a>(
     }
 }
 
-// The frame that was read, as bytes again.
 fn again<'a>(
     rt: &impl Abort,
     memory: &'a Memory,
@@ -119,7 +120,6 @@ fn again<'a>(
     written(rt, memory, &frame)
 }
 
-// A lawful frame's bytes.
 pub(crate) fn written<'a, A: Allocator>(
     rt: &impl Abort,
     memory: &'a Memory,
@@ -129,7 +129,7 @@ pub(crate) fn written<'a, A: Allocator>(
     encode(memory, frame)
 }
 
-// The head and the body of a frame, each read by itself.
+// Reads the head and the body of a frame separately.
 fn decoded_again<'a>(
     rt: &impl Abort,
     memory: &'a Memory,
@@ -141,7 +141,6 @@ fn decoded_again<'a>(
     again(rt, memory, decode_body(memory, head, body))
 }
 
-// An ask for each vertex by itself.
 fn ask_apart<'a>(
     rt: &impl Abort,
     alloc: Global,
@@ -151,7 +150,6 @@ fn ask_apart<'a>(
     encode_ask(memory, 1, 0, &labels)
 }
 
-// An ask under these labels is this one.
 fn expect_ask<'a>(
     rt: &impl Abort,
     memory: &'a Memory,
@@ -163,9 +161,11 @@ fn expect_ask<'a>(
     Ok(())
 }
 
-// Labels that keep their bytes, so that an ask is parts of which the second is theirs; where they find no memory for them,
-// they are as before. An ask under them is the same before and behind, and its parts take no memory, nor does it to keep
-// the bytes again.
+// Labels that store their encoded bytes, so that an ask has two parts, of which the second is these bytes. If there is
+// no memory for the bytes, the labels stay as they were.
+//
+// An ask with the labels is the same before and after. Making its parts allocates nothing, and neither does storing the
+// bytes again.
 fn ask_spelled<'a>(rt: &impl Abort, memory: &'a Memory) -> Result<Vec<u8, &'a Memory>, AllocError> {
     let mut labels = Labels::apart(memory, 3)?;
     expect_ask(rt, memory, &labels)?;
@@ -183,7 +183,6 @@ fn ask_spelled<'a>(rt: &impl Abort, memory: &'a Memory) -> Result<Vec<u8, &'a Me
     encode_ask(memory, 1, 0, &labels)
 }
 
-// A triangle's links as a shard.
 fn encode_triangle<'a>(
     rt: &impl Abort,
     alloc: Global,
@@ -198,7 +197,6 @@ fn encode_triangle<'a>(
     encode_shard(memory, &shard)
 }
 
-// An answer of three offers.
 fn encode_answer<'a>(
     rt: &impl Abort,
     alloc: Global,
@@ -229,7 +227,7 @@ fn frames_that_are_read_and_written(rt: HostRuntime) {
     expect_same(&rt, fault_bytes(1, 0, 1), NO_MEMORY);
 }
 
-// The bytes are refused so, or for want of memory.
+// The bytes are rejected with this error, or with out of memory.
 fn expect_refused(rt: &impl Abort, memory: Memory, bytes: &[u8], fault: FrameFault) {
     let mut source = bytes;
     let found = read_frame(&memory, &mut source).err();
@@ -238,8 +236,8 @@ fn expect_refused(rt: &impl Abort, memory: Memory, bytes: &[u8], fault: FrameFau
     expect_same(rt, memory.live(), 0);
 }
 
-// A frame that is no lawful one is refused for its own reason, or for want of memory: labels, a kind, a version, a worker,
-// components that descend, a code, and 64 bits that no weight needs; and frames that are torn.
+// An unlawful frame is rejected for its own reason, or with out of memory. The reasons are labels, a kind, a version, a
+// worker, components that descend, a code, and 64 bits that no weight needs. Others are torn frames.
 #[test]
 fn frames_that_are_refused(rt: HostRuntime) {
     let mut cut = ASK;

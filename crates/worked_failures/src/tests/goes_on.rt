@@ -1,5 +1,5 @@
-// What goes on behind a refusal: a session behind an ask that finds no memory, of which it tells; and a round behind an answer
-// that is refused, of which nothing is kept.
+// What continues after a failure. A session continues after an ask for which it had no memory, and reports that. A
+// round continues after a rejected answer, of which nothing is kept.
 use super::frame_texts::{ANSWER, ASK, HELLO, NO_MEMORY, SHARD};
 use super::in_turn::{Memory, was_refused};
 use super::lists::{even_cut, few_links};
@@ -16,10 +16,8 @@ use test_memory::{Refusals, Refusing};
 use worked_graphs::{SMALL_NET, all_have_labels};
 use worker_engine::serve;
 
-// More allocations than the session makes.
 const MOST: u64 = 100;
 
-// The parts, one behind the other.
 fn joined(rt: &impl Abort, alloc: Global, parts: &[&[u8]]) -> Vec<u8> {
     let mut bytes = Vec::new(alloc);
     for part in parts {
@@ -28,8 +26,8 @@ fn joined(rt: &impl Abort, alloc: Global, parts: &[&[u8]]) -> Vec<u8> {
     bytes
 }
 
-// What a session writes over a shard and two asks for it that is refused this allocation alone, if it ends well; none where
-// it ends ill, or makes fewer.
+// A session gets a shard and two asks for it, and this one allocation fails. Returns what the session writes. Returns
+// `None` if it fails, or makes fewer allocations.
 fn written(rt: &(impl Abort + Threads + Sync), alloc: Global, number: u64) -> Option<Vec<u8>> {
     let heard = joined(rt, alloc, &[&SHARD, &ASK, &ASK]);
     let memory = Refusing::new(alloc, Refusals::only(number));
@@ -45,7 +43,7 @@ fn written(rt: &(impl Abort + Threads + Sync), alloc: Global, number: u64) -> Op
     }
 }
 
-// Some allocation is one of the first ask alone, and some is one of the second.
+// Some allocation affects only the first ask, and some only the second.
 #[test]
 fn a_session_goes_on_behind_an_ask_without_memory(rt: HostRuntime) {
     let first = joined(&rt, rt.alloc(), &[&HELLO, &NO_MEMORY, &ANSWER]);
@@ -60,8 +58,8 @@ fn a_session_goes_on_behind_an_ask_without_memory(rt: HostRuntime) {
     expect_same(&rt, found, (true, true));
 }
 
-// The book refuses an answer of this round, for this shard and with this offer, to an ask for shard 0; and what the answer
-// held is given back.
+// The book rejects an answer to an ask of shard 0, with this round, this shard and this offer. The memory of the answer
+// is freed.
 fn expect_refused<'a>(
     rt: &impl Abort,
     memory: &'a Memory,
@@ -84,8 +82,8 @@ fn expect_refused<'a>(
     expect_same(rt, (refused, behind), (Some(cause), before));
 }
 
-// Of the first round over two shards of the small net: the first has the links of 1 and 2, of 1 and 3, of 2 and 4, and of 3
-// and 5.
+// The first round over two shards of the small net. The first shard has the links between 1 and 2, 1 and 3, 2 and 4,
+// and 3 and 5.
 fn expect_refusals<'a>(rt: &impl Abort, memory: &'a Memory, cut: &Cut<&'a Memory>) {
     let labels = Labels::apart(memory, 6).expect(rt, "memory");
     assert!(rt; all_have_labels(cut, labels.n()));
@@ -117,12 +115,12 @@ fn nothing_is_kept_of_an_answer_that_is_refused(rt: HostRuntime) {
     expect_refusals(&rt, &memory, &cut);
 }
 
-// The answer of round 1 for shard 0 that offers vertex 1 the link at place 7 of the small net, which joins 5 and 6.
+// The answer of round 1 for shard 0 that offers vertex 1 the link at index 7 of the small net, which joins 5 and 6.
 const NO_LINK_OF_1: [u8; 25] = [
     4, 0, 0, 0, 20, 0, 0, 0, 1, 0, 0, 0, 0, 0, 0, 0, 1, 0, 0, 0, 1, 0, 0, 0, 7,
 ];
 
-// A run gives up the worker that answers so, scans the shard itself, and keeps nothing at its end.
+// A run closes the line of a worker that answers like this, scans the shard itself, and leaves no block allocated.
 #[test]
 fn nothing_is_kept_of_a_run_over_a_worker_that_lies(rt: HostRuntime) {
     let memory = Refusing::new(rt.alloc(), Refusals::none());

@@ -1,4 +1,4 @@
-// The searches: a call is made with each of its allocations refused in turn, until a run meets no refusal.
+// The searches: a call is made with each of its allocations failing in turn, until it makes fewer.
 use super::same::expect_same;
 use std::alloc::{AllocError, Global};
 use std::fmt::Debug;
@@ -8,10 +8,11 @@ use test_memory::{Found, Refusals, Refusing, refuse_each};
 // More allocations than any call here makes.
 const MOST: u64 = 2000;
 
-/// The memory of one run, some of whose allocations are refused.
+/// The allocator of one run, some of whose allocations fail.
 pub(crate) type Memory = Refusing<Global>;
 
-// What the call answered, if it did; the only fault that is let pass is this one, of want of memory.
+// Returns the value of the call, if there is one. The only error that is allowed is this one, which stands for out of
+// memory.
 pub(crate) fn or_refused<T: Drop, E: PartialEq + Debug + Drop>(
     rt: &impl Abort,
     outcome: Result<T, E>,
@@ -26,8 +27,8 @@ pub(crate) fn or_refused<T: Drop, E: PartialEq + Debug + Drop>(
     }
 }
 
-// The call wants memory wherever an allocation and all that follow are refused, leaves no block behind, and makes at
-// least one. Itself it compares what it answers. Returns how many allocations it makes.
+// The call fails if an allocation and all that follow fail. It leaves no block, and makes at least one allocation. The
+// call itself compares its results. Returns how many allocations it makes.
 pub(crate) fn expect_each<F>(rt: &impl Abort, alloc: Global, call: F) -> u64
 where
     F: Fn(&Memory) -> Result<(), AllocError>,
@@ -42,8 +43,8 @@ where
     }
 }
 
-// The same of a call that may answer though an allocation was refused, since something else stands in for what was
-// refused: it fails with want of memory or answers, leaves no block behind, and answers where none was refused.
+// The same for a call that may succeed although an allocation failed, because it works in another way then. It fails
+// only if an allocation failed, and leaves no block.
 pub(crate) fn expect_any<F>(rt: &impl Abort, alloc: Global, call: F) -> u64
 where
     F: Fn(&Memory) -> Result<(), AllocError>,
@@ -68,7 +69,7 @@ where
     0
 }
 
-// Whether an allocation of this memory was refused.
+// Whether an allocation of this allocator failed.
 pub(crate) fn was_refused(memory: &Memory) -> bool {
     memory.asked() >= memory.refusals().first
 }

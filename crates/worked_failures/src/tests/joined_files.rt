@@ -1,4 +1,4 @@
-// Files that come together while each allocation is refused in turn: by one thread, and by three.
+// Files that are joined while each allocation fails in turn, by one thread and by three.
 use super::in_turn::{Memory, expect_any, was_refused};
 use super::kept_runs::expect_ended;
 use super::same::expect_same;
@@ -8,13 +8,13 @@ use std::alloc::{AllocError, Global};
 use std::process::Abort;
 use std::thread::Threads;
 
-// Links that aren't in the forest of all.
+// A file of links that aren't in the forest of all.
 const HEAVY: &[u8] = b"p sp 3 2\na 1 3 70\na 2 2 0\n";
 
-// Those of the forest, and one beside them.
+// A file of the forest's links, and one more.
 const LIGHT: &[u8] = b"p sp 3 3\na 1 2 9\na 3 2 -4\na 2 1 5\n";
 
-// The parts that these files are; where there are none, memory was refused.
+// The parts that these files are. The error is out of memory.
 fn joined<'m, C: Crew>(
     rt: &impl Abort,
     crew: &C,

@@ -1,5 +1,5 @@
-// Runs over a file with so many arcs that links are dropped while it is read, with each allocation refused: by one thread,
-// and by three.
+// Runs over a file with so many arcs that links are dropped while it is read, with each allocation failing, by one
+// thread and by three.
 use super::in_turn::{Memory, expect_any, was_refused};
 use super::runs::wants_memory;
 use super::same::expect_same;
@@ -8,7 +8,7 @@ use std::alloc::{AllocError, Global};
 use std::process::Abort;
 use std::thread::Threads;
 
-// The first arc again and again, and at the end two that are lighter.
+// A file that repeats the first arc, and ends with two lighter ones.
 fn long_file(rt: &impl Abort, alloc: Global) -> Vec<u8> {
     let mut file = Vec::from_slice(alloc, b"p sp 3 70000\n").expect(rt, "memory");
     for _ in 0..69_998u32 {
@@ -19,7 +19,8 @@ fn long_file(rt: &impl Abort, alloc: Global) -> Vec<u8> {
     file
 }
 
-// A run that ended well wrote the two arcs and counts all links; one that didn't wanted memory, and wrote nothing.
+// A run that succeeded wrote the two lighter arcs and counts all links. A run that failed was out of memory, and wrote
+// nothing.
 pub(super) fn expect_ended(
     rt: &impl Abort,
     memory: &Memory,

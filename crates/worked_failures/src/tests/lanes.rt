@@ -18,7 +18,6 @@ use worked_graphs::{SMALL_NET, WIDE_WEIGHTS, Worked, all_have_labels};
 /// A lane to a worker in memory.
 type Worker<'a, 'b> = Lane<Wire<'b, EngineLine<&'a Memory>, &'a Memory>, &'a Memory>;
 
-// A lane to the worker of this number.
 fn lane<'a, 'b>(
     memory: &'a Memory,
     cut: &'b Cut<'b, &'a Memory>,
@@ -33,7 +32,7 @@ fn lane<'a, 'b>(
     Ok(Lane::new(memory, Wire::new(memory, line, cut, worker)))
 }
 
-// The forest and the counts of a run over two lanes. Where a worker or its wire wants memory it is given up.
+// The forest and the counts of a run over two lanes. If a worker or its wire runs out of memory, its line is closed.
 fn expect_solved<'a, 'b, R: Abort + Threads + Wait + Sync>(
     rt: &R,
     alloc: Global,

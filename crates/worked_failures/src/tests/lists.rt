@@ -19,7 +19,7 @@ enum Call {
     Cycle,
 }
 
-// The links of at most eight arcs between so many vertices, none of them a loop, in memory that isn't refused.
+// The links of at most eight arcs between the vertices 1 to n, none of them a loop. The allocator doesn't fail.
 pub(crate) fn few_links(rt: &impl Abort, alloc: Global, n: u32, arcs: &[Row]) -> Vec<Link>
     ensures few { length result.items ≤ 8 }
     ensures ends { EndsUpTo n result.items }
@@ -30,13 +30,11 @@ pub(crate) fn few_links(rt: &impl Abort, alloc: Global, n: u32, arcs: &[Row]) ->
     links
 }
 
-// These are the links of the graph's forest.
 pub(crate) fn expect_forest(rt: &impl Abort, alloc: Global, found: &[Link], graph: &Worked) {
     let forest = few_links(rt, alloc, graph.n, graph.forest);
     expect_same(rt, found, forest.as_slice());
 }
 
-// A cut of links between so many vertices into so many shards.
 pub(crate) fn even_cut<'a>(
     rt: &impl Abort,
     memory: &'a Memory,
@@ -53,7 +51,6 @@ pub(crate) fn even_cut<'a>(
     Ok(cut)
 }
 
-// The shards of this cut have these sizes.
 fn expect_sizes(
     rt: &impl Abort,
     cut: Result<Cut<&Memory>, CutFault>,
@@ -83,7 +80,8 @@ fn expect_components(
     Ok(())
 }
 
-// Labels of three vertices; cuts of eight links; the small net's forest, its components, and those of all links, none.
+// Labels of three vertices; cuts of eight links; the small net's forest and its components; and all of its links, which
+// close a cycle.
 fn make(rt: &impl Abort, alloc: Global, memory: &Memory, call: Call) -> Result<(), AllocError> {
     let links = few_links(rt, alloc, 6, SMALL_NET.arcs);
     let links = links.as_slice();

@@ -1,5 +1,6 @@
-// Runs over one worker in memory, whose line is closed once the worker or its wire finds no memory, and which go on
-// without it: each allocation of the worker is refused alone, and then each of the run beside it.
+// Runs over one worker in memory. When the worker or its wire runs out of memory, its line is closed, and the run
+// continues without it. First, each allocation of the worker fails by itself, and then each other allocation of the
+// run.
 ghost use Rattle.std.specs.Prelude.{◌≡◌, length, All, IfOk};
 ghost use Rattle.ports.specs.EngineLines.{line_of};
 ghost use Rattle.wires.specs.Lines.{HasRoom};
@@ -21,7 +22,6 @@ use worked_graphs::{SMALL_NET, have_labels};
 // More allocations than any of these runs makes.
 const MOST: u64 = 100;
 
-// A list of this line.
 pub(crate) fn one_line<L: Line + Drop, A: Allocator>(
     memory: A,
     line: L,
@@ -35,8 +35,8 @@ pub(crate) fn one_line<L: Line + Drop, A: Allocator>(
     Ok(lines)
 }
 
-// A run of the small net in one shard over one line: it wants memory, or it writes the forest's text. (All of its asks are
-// made by one thread, in one order.)
+// A run of the small net in one shard over one line. It writes the forest's text, or runs out of memory. One thread
+// makes all of its asks, in the same order each time.
 fn run<L: Line + Send + Drop, A: Allocator + Copy + Send + Sync>(
     rt: &(impl Abort + Threads + Wait + Sync),
     alloc: Global,
@@ -53,7 +53,8 @@ fn run<L: Line + Send + Drop, A: Allocator + Copy + Send + Sync>(
     ended
 }
 
-// Each shard of the three rounds was answered or scanned without a worker, and the one line is closed or not.
+// Each shard of the three rounds was answered, or scanned without a worker. `closed` says whether the one line is
+// closed.
 fn expect_counts(rt: &impl Abort, report: &Report, closed: u64) {
     let Report {
         asked,
@@ -67,7 +68,6 @@ fn expect_counts(rt: &impl Abort, report: &Report, closed: u64) {
     expect_same(rt, alone > 0, closed == 1);
 }
 
-// An ask for the one shard is answered.
 fn is_answered<'a>(
     rt: &impl Abort,
     wire: &mut Wire<'_, EngineLine<&'a Memory>, &'a Memory>,
@@ -83,13 +83,12 @@ fn is_answered<'a>(
     wire.ask(round, 0, labels).is_ok()
 }
 
-// Labels in this memory.
 fn labels_of<'a>(rt: &impl Abort, memory: &'a Memory, list: [u32; 6]) -> Labels<&'a Memory> {
     let list = list.to_vec(memory).expect(rt, "memory");
     Labels::of_list(list).expect(rt, "labels")
 }
 
-// Whether each round is answered over a wire in this memory, by a worker behind this line.
+// Whether each round is answered over a wire that uses `memory`, by a worker on this line.
 fn are_answered<'a, 'b>(
     rt: &impl Abort,
     calm: &'a Memory,
@@ -108,7 +107,7 @@ fn are_answered<'a, 'b>(
         && is_answered(rt, &mut wire, cut, (3, &third))
 }
 
-// The same of the small net in one shard, by a worker in its own memory. None where the worker can't be made.
+// The same for the small net in one shard, by a worker with its own allocator. `None` if the worker can't be made.
 fn answers<'a>(
     rt: &impl Abort,
     alloc: Global,
@@ -122,8 +121,8 @@ fn answers<'a>(
     Some(are_answered(rt, calm, memory, line, &cut))
 }
 
-// A run over a worker that is refused this allocation ends well, and the line is closed where its asks find no memory.
-// Whether it is; none where no worker is made, or it needs fewer allocations.
+// A run succeeds although this allocation of its worker fails. Its line is closed if the worker's asks run out of
+// memory. Returns whether it is. `None` if no worker is made, or if it makes fewer allocations.
 fn is_closed_by_worker(
     rt: &(impl Abort + Threads + Wait + Sync),
     alloc: Global,
@@ -144,7 +143,7 @@ fn is_closed_by_worker(
     }
 }
 
-// Most of a worker's allocations are none that it does without.
+// Most of a worker's allocations are such that it can't answer without them.
 #[test]
 fn a_worker_without_memory_is_given_up(rt: HostRuntime) {
     let mut counts = [0u64; 2];
@@ -158,8 +157,8 @@ fn a_worker_without_memory_is_given_up(rt: HostRuntime) {
     expect_same(&rt, done_without > 0 && done_without < closed / 2, true);
 }
 
-// Whether the line of a run is closed that is refused this allocation, but none of its worker's; none where it needs fewer.
-// One that wants memory closes none.
+// Whether a run's line is closed if this allocation of the run fails, but none of its worker. `None` if the run makes
+// fewer. A run that fails with out of memory closes no line.
 fn is_closed_by_wire(
     rt: &(impl Abort + Threads + Wait + Sync),
     alloc: Global,
@@ -188,7 +187,7 @@ fn is_closed_by_wire(
     }
 }
 
-// Whether a wire alone doesn't answer that is refused this allocation; none where it needs fewer.
+// Whether a wire by itself doesn't answer if this allocation fails. `None` if it makes fewer.
 fn is_closed_alone(rt: &impl Abort, alloc: Global, number: u64) -> Option<bool> {
     let calm = Refusing::new(alloc, Refusals::none());
     let memory = Refusing::new(alloc, Refusals::only(number));
@@ -200,7 +199,7 @@ fn is_closed_alone(rt: &impl Abort, alloc: Global, number: u64) -> Option<bool> 
     }
 }
 
-// As many runs go on without the line as allocations of a wire alone close it.
+// As many runs continue without the line as there are allocations that close a wire by itself.
 #[test]
 fn a_wire_without_memory_is_given_up(rt: HostRuntime) {
     let mut closed = (0u64, 0u64);

@@ -1,5 +1,5 @@
-// The board of claims, the book of a round, and the solver. Claims, answers that are taken and what is judged before
-// anything grows need no memory.
+// The board of claims, the book of a round, and the solver. Some calls allocate nothing: claims, taking answers, and
+// checks before anything grows.
 ghost use Rattle.std.specs.Prelude.{◌≡◌, ◌<◌, length, IfOk};
 ghost use Rattle.claim_board.specs.State.{AreSeats};
 ghost use Rattle.round_core.specs.Picks.{ArePicksOfHearings};
@@ -19,7 +19,6 @@ use worked_graphs::{
 };
 use worker_engine::scan;
 
-// A claim by the seat of this number.
 fn claim<'a>(
     board: &Board<&'a Memory>,
     seats: &mut Vec<Seat, &'a Memory>,
@@ -34,7 +33,7 @@ fn claim<'a>(
     board.claim(&mut seats[number], shard)
 }
 
-// Gives the shard back where the seat of this number holds it, and says whether it did.
+// If the seat of this number holds the shard, it gives the shard back. Returns whether it held it.
 fn give_back<'a>(
     board: &Board<&'a Memory>,
     seats: &mut Vec<Seat, &'a Memory>,
@@ -54,7 +53,7 @@ fn give_back<'a>(
     holds
 }
 
-// Two seats and two shards: the first is claimed by one, given back, and claimed by the other.
+// Two seats and two shards. One seat claims the first shard and gives it back, and the other claims it.
 fn expect_claims(rt: &impl Abort, memory: &Memory) -> Result<(), AllocError> {
     let (board, mut seats) = match Board::open(memory, 2, 2) {
         Ok(it) => it,
@@ -76,7 +75,7 @@ fn expect_claims(rt: &impl Abort, memory: &Memory) -> Result<(), AllocError> {
     Ok(())
 }
 
-// One seat and one shard: what the seat gave back it claims again.
+// One seat and one shard. The seat claims again what it gave back.
 fn expect_claims_of_one(rt: &impl Abort, memory: &Memory) -> Result<(), AllocError> {
     let (board, mut seats) = match Board::open(memory, 1, 1) {
         Ok(it) => it,
@@ -100,7 +99,6 @@ fn expect_claims_of_one(rt: &impl Abort, memory: &Memory) -> Result<(), AllocErr
     Ok(())
 }
 
-// A book of the first round over the cut.
 fn opened<'a, 'b>(
     rt: &impl Abort,
     memory: &'a Memory,
@@ -113,7 +111,7 @@ fn opened<'a, 'b>(
     RoundBook::open(memory, 1, cut, labels)
 }
 
-/// What a shard's answer offers: what a scan finds, this alone, or nothing.
+/// What a shard's answer offers: what a scan finds, only this, or nothing.
 #[derive(Clone, Copy)]
 enum Offered {
     Scanned,
@@ -140,7 +138,7 @@ fn offers_of<'a>(
     Ok(Offers::of_pairs(pairs).expect(rt, "offers"))
 }
 
-// The book takes the answer, and no memory for it.
+// The book takes the answer, and allocates nothing for it.
 fn expect_taken<'a>(
     rt: &impl Abort,
     memory: &'a Memory,
@@ -156,7 +154,6 @@ fn expect_taken<'a>(
     expect_same(rt, (taken, memory.asked()), (true, asked));
 }
 
-// The picks of the book's round where each shard's answer offers this.
 fn picks_of<'a>(
     rt: &impl Abort,
     memory: &'a Memory,
@@ -179,7 +176,6 @@ fn picks_of<'a>(
     Ok(book.close())
 }
 
-// The picks of a round over the cut where each shard's answer offers this.
 fn picks_over<'a>(
     rt: &impl Abort,
     memory: &'a Memory,
@@ -194,7 +190,8 @@ fn picks_over<'a>(
     picks_of(rt, memory, book, offered)
 }
 
-// The solver's labels keep their bytes. Where they find no memory for them, they are as before; either way the solver is.
+// The solver's labels store their encoded bytes. If there is no memory for the bytes, the labels stay as they were. In
+// both cases the solver is unchanged.
 fn expect_spelled<'a>(rt: &impl Abort, solver: &mut Solver<&'a Memory>) -> Result<(), AllocError> {
     let round = solver.round();
     if solver.spell_labels().is_err() {
@@ -209,7 +206,7 @@ fn expect_spelled<'a>(rt: &impl Abort, solver: &mut Solver<&'a Memory>) -> Resul
     Ok(())
 }
 
-// Whether these are the labels' bytes: four for each, the highest first.
+// Whether these are the labels' encoded bytes: four for each, the highest first.
 fn spell(labels: &[u32], bytes: &[u8]) -> bool {
     let mut rest = bytes;
     for label in labels {
@@ -221,8 +218,8 @@ fn spell(labels: &[u32], bytes: &[u8]) -> bool {
     rest.is_empty()
 }
 
-// The solver's step by the picks of the cut's scans. Where it wants memory, it is as before; and where one allocation
-// alone was refused, the step is made once it is tried again.
+// The solver's step by the picks of a scan of the cut. If it runs out of memory, the solver is as it was. If only one
+// allocation fails, a second try succeeds.
 fn expect_step<'a>(
     rt: &impl Abort,
     memory: &'a Memory,
@@ -239,8 +236,8 @@ fn expect_step<'a>(
     Ok(())
 }
 
-// What a step by these picks does, where the labels are these; it is tried again where it wants memory, and left the
-// solver as it was.
+// Returns what a step by these picks does, if the labels are these. If it runs out of memory, the solver is as it was,
+// and the step is tried again.
 fn step<'a>(
     rt: &impl Abort,
     solver: &mut Solver<&'a Memory>,
@@ -260,15 +257,14 @@ fn step<'a>(
     }
 }
 
-// What each step over a net in two shards does, and the labels behind it: two merging rounds. The small net's components
-// are the same with either weights.
+// What each step over a net in two shards returns, and the labels after it. There are two merging rounds. The small
+// net's components are the same with either weights.
 const STEPS: [(Turn, [u32; 6]); 3] = [
     (Turn::Merged(4), [1, 2, 1, 1, 2, 1]),
     (Turn::Merged(1), [1; 6]),
     (Turn::Done, [1; 6]),
 ];
 
-// These steps over the cut, and the graph's forest at the end.
 fn expect_solved<'a>(
     rt: &impl Abort,
     alloc: Global,
@@ -285,7 +281,7 @@ fn expect_solved<'a>(
     Ok(())
 }
 
-// The solver's end; it is tried again where it wants memory.
+// The solver's `finish`, which is tried again if it runs out of memory.
 fn finished<'a>(
     rt: &impl Abort,
     solver: &Solver<&'a Memory>,
@@ -301,7 +297,6 @@ fn finished<'a>(
     }
 }
 
-// The labels behind the first round over the cut.
 fn expect_relabelled<'a>(
     rt: &impl Abort,
     memory: &'a Memory,
@@ -314,7 +309,7 @@ fn expect_relabelled<'a>(
     Ok(())
 }
 
-// All rounds by one thread: so many merge components.
+// All rounds by one thread. `expected` has the graph, and how many rounds merge components.
 fn expect_alone<'a>(
     rt: &impl Abort,
     alloc: Global,
@@ -331,7 +326,7 @@ fn expect_alone<'a>(
     Ok(())
 }
 
-// The step by one link that is offered.
+// A step by one link that is offered.
 fn expect_merged<'a>(
     rt: &impl Abort,
     memory: &'a Memory,
@@ -344,7 +339,7 @@ fn expect_merged<'a>(
     Ok(())
 }
 
-// The step of a round past the bound is refused as that, before any memory is asked for.
+// The step of a round past the bound fails with that error, before it allocates.
 fn expect_past_bound<'a>(
     rt: &impl Abort,
     memory: &'a Memory,
@@ -362,7 +357,7 @@ fn expect_past_bound<'a>(
     Ok(())
 }
 
-// So is the end of a solver that misses a link.
+// The same for the end of a solver that misses a link.
 fn expect_missed<'a>(
     rt: &impl Abort,
     memory: &'a Memory,
@@ -380,7 +375,7 @@ fn expect_missed<'a>(
     );
 }
 
-// The triangle's worker offers one link a round and hides the third.
+// The triangle's worker offers one link per round and hides the third.
 fn expect_lies<'a>(
     rt: &impl Abort,
     memory: &'a Memory,
@@ -401,7 +396,7 @@ enum Call {
     Lies,
 }
 
-// Each over a cut of a graph's links into so many shards.
+// Each call over a cut of a graph's links into this many shards.
 const CALLS: [(Call, Worked, u32); 7] = [
     (Call::Relabel, SMALL_NET, 2),
     (Call::Relabel, WIDE_WEIGHTS, 2),
@@ -412,7 +407,6 @@ const CALLS: [(Call, Worked, u32); 7] = [
     (Call::Lies, EQUAL_WEIGHTS, 1),
 ];
 
-// The call over the cut.
 fn make<'a>(
     rt: &impl Abort,
     alloc: Global,
@@ -454,7 +448,8 @@ fn boards_books_and_solvers(rt: HostRuntime) {
     }
 }
 
-// How many blocks a book over the cut for so many labels takes that is opened in the room of picks of six.
+// How many blocks a book over the cut allocates that reuses the buffer of picks of six vertices, for labels of n
+// vertices.
 fn blocks_in_room<'a>(rt: &impl Abort, memory: &'a Memory, cut: &Cut<&'a Memory>, n: u32) -> u64 {
     assert!(rt; n < 1 << 20);
     let labels = Labels::apart(memory, 6).expect(rt, "memory");
@@ -467,7 +462,6 @@ fn blocks_in_room<'a>(rt: &impl Abort, memory: &'a Memory, cut: &Cut<&'a Memory>
     memory.given().wrapping_sub(before)
 }
 
-// It takes so many.
 fn expect_blocks(rt: &impl Abort, alloc: Global, n: u32, blocks: u64) {
     let memory = Refusing::new(alloc, Refusals::none());
     let cut = Cut::even(&memory, &[], 1).expect(rt, "a cut");
@@ -475,7 +469,8 @@ fn expect_blocks(rt: &impl Abort, alloc: Global, n: u32, blocks: u64) {
     expect_same(rt, (n, found), (n, blocks));
 }
 
-// A book takes two blocks for its shards, and one for its picks: none where those before had as many labels, or more.
+// A book allocates two blocks for its shards, and one for its picks. The latter isn't needed if the earlier picks had
+// at least as many labels.
 #[test]
 fn a_book_in_the_room_of_picks(rt: HostRuntime) {
     for (n, blocks) in [(6, 2), (4, 2), (7, 3)] {

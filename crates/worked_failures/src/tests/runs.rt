@@ -1,4 +1,4 @@
-// Whole runs over the small net, also with weights past 32 bits, and over the triangle where stored bytes stand in place
+// Whole runs over the small net, also with weights past 32 bits, and runs over the triangle with stored bytes instead
 // of a worker.
 ghost use Rattle.std.specs.Prelude.{◌≤◌, length, All, IfOk};
 ghost use Rattle.ports.specs.EngineLines.{line_of};
@@ -19,15 +19,15 @@ use std::sync::Wait;
 use std::thread::Threads;
 use worked_graphs::{EQUAL_WEIGHTS, SMALL_NET, WIDE_WEIGHTS, Worked};
 
-// Whether a run that ended so wanted memory.
+// Whether a run that failed like this was out of memory.
 pub(crate) fn wants_memory(fault: RunFault) -> bool {
     fault == RunFault::Memory
         || fault == RunFault::Read(ReadFault::Memory)
         || fault == RunFault::Cut(CutFault::Memory)
 }
 
-// A run that ended well wrote the forest's text and counts what it weighs; one that didn't wanted memory, some of which was
-// refused, and wrote nothing.
+// A run that succeeded wrote the forest's text and reports its total. A run that failed was out of memory after a
+// failed allocation, and wrote nothing.
 fn expect_ended(
     rt: &impl Abort,
     memory: &Memory,
@@ -48,7 +48,6 @@ fn expect_ended(
     }
 }
 
-// By one thread.
 fn expect_plain(
     rt: &impl Abort,
     alloc: Global,
@@ -62,7 +61,6 @@ fn expect_plain(
     Ok(())
 }
 
-// New lines to two workers, each in memory.
 pub(crate) fn two_workers<A: Allocator + Copy>(
     alloc: A,
 ) -> Result<Vec<EngineLine<A>, A>, AllocError>
@@ -76,7 +74,7 @@ pub(crate) fn two_workers<A: Allocator + Copy>(
     Ok(lines)
 }
 
-// A run over these lines in so many shards: how it ended, and how many lines it gave back.
+// A run over these lines in `shards` shards. Returns how it ended, and how many lines it returned.
 pub(crate) fn run_over<
     L: Line + Send + Drop,
     A: Allocator + Copy + Send + Sync,
@@ -101,7 +99,8 @@ pub(crate) fn run_over<
     }
 }
 
-// Over two workers, each in memory. Where one of them or its wire wants memory it is given up, and the run goes on.
+// A run over two workers, each in memory. If one of them or its wire runs out of memory, its line is closed, and the
+// run continues.
 fn expect_over_workers<R: Threads + Wait + Sync + Abort>(
     rt: &R,
     alloc: Global,
@@ -117,7 +116,7 @@ fn expect_over_workers<R: Threads + Wait + Sync + Abort>(
     Ok(())
 }
 
-// Over a worker of the first version, which is too old for the weights, and answers nothing.
+// A run over a worker of the first version, which is too old for the weights and answers nothing.
 fn expect_over_an_old_worker<R: Threads + Wait + Sync + Abort>(
     rt: &R,
     alloc: Global,
@@ -135,8 +134,8 @@ fn expect_over_an_old_worker<R: Threads + Wait + Sync + Abort>(
     Ok(())
 }
 
-/// Stored bytes in place of a worker of the triangle in one shard: an answer of another round, which is refused; one that
-/// hides all links; and two of one link each, where three vertices can't have a second merging round.
+/// Stored bytes instead of a worker of the triangle in one shard: an answer of another round, which is rejected, or one
+/// that hides all links. Or two answers with one link each, although three vertices can't have a second merging round.
 #[derive(Clone, Copy)]
 enum Script {
     Stale,
@@ -144,7 +143,6 @@ enum Script {
     PastBound,
 }
 
-// Its bytes, behind the worker's hello.
 fn answers_of(script: Script) -> &'static [u8] {
     match script {
         Script::Stale => &[4, 0, 0, 0, 12, 0, 0, 0, 0, 0, 0, 0, 0, 0, 0, 0, 0],
@@ -156,7 +154,7 @@ fn answers_of(script: Script) -> &'static [u8] {
     }
 }
 
-// The fault of a run over them, if it ends by one.
+// The error of a run over them, if it fails.
 fn fault_of(script: Script) -> Option<RunFault> {
     match script {
         Script::Stale => None,
@@ -168,7 +166,7 @@ fn fault_of(script: Script) -> Option<RunFault> {
     }
 }
 
-// Over such bytes. A run whose wire wants memory, or whose answer is refused, goes on without the line.
+// A run over such bytes. If the wire runs out of memory, or an answer is rejected, the run continues without the line.
 fn expect_over_a_script<R: Threads + Wait + Sync + Abort>(
     rt: &R,
     alloc: Global,

@@ -1,5 +1,5 @@
-// A worker's session over a shard and an ask, whose source fails at each byte, and whose sink does; and over a shard of
-// weights past 32 bits.
+// A worker's session over a shard and an ask. The source fails at each byte, and the sink fails or stops at each byte.
+// The shard has weights of 32 bits, or weights past them.
 use super::frame_texts::{ANSWER, ASK, HELLO, SHARD, SHARD64};
 use super::same::expect_same;
 use super::streams::{Place, Setback, sink_at, source_of};
@@ -9,26 +9,24 @@ use std::process::Abort;
 use std::thread::Threads;
 use worker_engine::{ServeFault, Served, serve};
 
-// How the session ends without a failure.
 const SERVED: Result<Served, ServeFault> = Ok(Served {
     frames: 2,
     answers: 1,
     faults: 0,
 });
 
-// How many bytes the hello has, and how many it has together with the answer.
+// The bytes of the hello, and of the hello and the answer together.
 const GREETED: usize = 11;
 
 const ANSWERED: usize = 52;
 
-// Two texts, one behind the other.
 pub(crate) fn joined(rt: &impl Abort, alloc: Global, first: &[u8], second: &[u8]) -> Vec<u8> {
     let mut bytes = Vec::from_slice(alloc, first).expect(rt, "memory");
     bytes.extend_from_slice(second).expect(rt, "memory");
     bytes
 }
 
-/// A shard, how many bytes it has together with the ask, and how many bytes a source and a sink take at a time.
+/// A shard, its length together with the ask, and how many bytes a source and a sink pass at a time.
 type Session = (&'static [u8], usize, usize);
 
 const SESSIONS: [Session; 4] = [
@@ -38,9 +36,9 @@ const SESSIONS: [Session; 4] = [
     (&SHARD64, 90, 7),
 ];
 
-// How a session that hears so many bytes ends, and how many bytes it wrote: the hello before anything is read, and the
-// answer once the whole ask was. Room for just both is enough, for a sink that fails behind it and for one that takes
-// nothing more.
+// How a session over `heard` bytes ends, and how many bytes it wrote. It writes the hello before it reads anything, and
+// the answer after it has read the whole ask. A capacity for exactly both is enough, if the sink fails afterwards and
+// if it stops.
 fn end_of(heard: usize, place: Place) -> (Result<Served, ServeFault>, usize) {
     let passes = place.passes;
     let cut_off = Err(ServeFault::Read(FrameFault::Device));
@@ -52,7 +50,7 @@ fn end_of(heard: usize, place: Place) -> (Result<Served, ServeFault>, usize) {
     }
 }
 
-// The session over streams of which one has a setback after so many bytes ends as it should.
+// The session, with one stream that fails or stops after `passes` bytes, ends as it should.
 fn expect_end(
     rt: &(impl Abort + Threads + Sync),
     alloc: Global,

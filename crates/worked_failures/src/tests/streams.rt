@@ -1,4 +1,4 @@
-// The source and the sink of a run or a session, one of which fails, or takes nothing more, at a chosen byte.
+// The source and the sink of a run or a session. One of them fails or stops at a chosen byte.
 ghost use Rattle.std.specs.Prelude.{◌<◌, ◌≤◌, ◌-◌, ◌^◌, IfOk};
 
 use byte_streams::{FusedSink, FusedSource};
@@ -7,7 +7,8 @@ use std::alloc::{AllocError, Global};
 // More bytes than any run or session here reads or writes.
 const ALL: usize = 1000;
 
-/// The source fails; or each write and each flush of the sink fails; or the sink takes nothing more, and its flush passes.
+/// The source fails. Or each write and each flush of the sink fail. Or the sink takes nothing more, and its flush
+/// succeeds.
 #[derive(Clone, Copy)]
 pub(crate) enum Setback {
     Source,
@@ -15,7 +16,7 @@ pub(crate) enum Setback {
     FullSink,
 }
 
-/// The setback comes once so many bytes passed, of which so many pass at a time.
+/// The setback comes after `passes` bytes. `piece` bytes pass at a time.
 #[derive(Clone, Copy)]
 pub(crate) struct Place {
     pub(crate) setback: Setback,
@@ -23,7 +24,6 @@ pub(crate) struct Place {
     pub(crate) piece: usize,
 }
 
-// A source of these bytes.
 pub(crate) fn source_of(bytes: Vec<u8>, place: Place) -> FusedSource
     requires piece { 1 ≤ place.piece }
     ensures can_read { (result.failures < 2 ^ 64 - 1) × (result.ends < 2 ^ 64 - 1) }
@@ -35,7 +35,6 @@ pub(crate) fn source_of(bytes: Vec<u8>, place: Place) -> FusedSource
     FusedSource::new(bytes, passes, place.piece)
 }
 
-// A sink that took nothing yet.
 pub(crate) fn sink_at(alloc: Global, place: Place) -> Result<FusedSink, AllocError>
     requires piece { 1 ≤ place.piece }
     ensures can_write { IfOk result (λ sink. sink.setbacks < 2 ^ 64 - 1) }

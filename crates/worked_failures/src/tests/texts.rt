@@ -1,4 +1,4 @@
-// Files that are read whole, in pieces and from a source, and sinks of tests. A forest is written without memory.
+// Files that are read whole, in pieces and from a source, and sinks of tests. Writing a forest allocates nothing.
 ghost use Rattle.std.specs.Prelude.{◌<◌, ◌-◌, ◌^◌, IfOk};
 
 use super::in_turn::{Memory, expect_each, or_refused};
@@ -18,7 +18,7 @@ use worked_graphs::SMALL_NET;
 const SPELLED_ELSE: &[u8] =
     b"c a small net\r\np\tsp\t006\t8\r\na\t1\t02\t0017\r\nc the usual shape\r\na\t1\t3\t10\r\na\t2\t4\t002\r\na\t3\t5\t0\r\na\t4\t3\t000\r\na\t4\t6\t3\r\na\t5\t2\t000\r\na\t5\t006\t20\r\n";
 
-// A text with an arc line before its problem line, and its fault.
+// A text with an arc line before its problem line, and its error.
 const NO_PROBLEM_YET: (&[u8], ReadFault) = (
     b"a 1 2 3\np sp 2 1\n",
     ReadFault::Gr(GrFault {
@@ -27,7 +27,7 @@ const NO_PROBLEM_YET: (&[u8], ReadFault) = (
     }),
 );
 
-// The text was read as the graph of six vertices and these links, or memory was refused.
+// The text was read as the graph of six vertices and these links, or the reader was out of memory.
 fn expect_graph(
     rt: &impl Abort,
     read: Result<Graph<&Memory>, ReadFault>,
@@ -57,7 +57,7 @@ const CALLS: [Call; 6] = [
     Call::StoppedSink,
 ];
 
-// The small net is read, or its forest written into a sink with room for ten bytes.
+// Reads the small net, or writes its forest into a sink with a capacity of ten bytes.
 fn make(rt: &impl Abort, alloc: Global, memory: &Memory, call: Call) -> Result<(), AllocError> {
     let links = few_links(rt, alloc, 6, SMALL_NET.arcs);
     let links = links.as_slice();
@@ -88,7 +88,8 @@ fn files_and_sinks(rt: HostRuntime) {
     }
 }
 
-// A text is refused by its first fault, and one without arcs is a graph, though each allocation is refused: none is made.
+// A text is rejected with its first error, and a text without arcs is a graph, even if each allocation fails. None is
+// made.
 #[test]
 fn faults_and_files_without_arcs(rt: HostRuntime) {
     let (text, fault) = NO_PROBLEM_YET;
@@ -108,14 +109,14 @@ fn faults_and_files_without_arcs(rt: HostRuntime) {
     expect_same(&rt, memory.asked(), 0);
 }
 
-// After a refusal the reader answers it for good, whatever it is fed.
+// After an error the reader returns it from then on, whatever it is fed.
 fn expect_memory_again(rt: &impl Abort, mut reader: GrReader<&Memory>) {
     expect_same(rt, reader.feed(b"a 1 2 3\n"), Err(ReadFault::Memory));
     expect_same(rt, reader.feed(b""), Err(ReadFault::Memory));
     expect_same(rt, reader.finish().err(), Some(ReadFault::Memory));
 }
 
-// The small net, spelled otherwise, a byte at a time.
+// The small net in the other spelling, one byte at a time.
 fn read_bytes<'a>(
     rt: &impl Abort,
     memory: &'a Memory,
@@ -131,7 +132,7 @@ fn read_bytes<'a>(
     Ok(reader.finish())
 }
 
-// The small net's forest goes into a sink up to its tenth byte, and takes no memory.
+// The first ten bytes of the small net's forest are written into a sink, without an allocation.
 fn expect_ten_bytes(
     rt: &impl Abort,
     alloc: Global,
@@ -154,14 +155,13 @@ fn expect_ten_bytes(
     Ok(())
 }
 
-// A text whose last line has no end: an arc's link finds its first room once the text is known to end there, and before
-// that where the line has its end.
+// Texts that end without and with a line feed. If the last line has none, memory for the arc's link is allocated only
+// when the text is known to end there. If it has one, memory is allocated before that.
 const LAST_LINES: [(&[u8], Result<(), ReadFault>); 2] = [
     (b"p sp 2 1\na 1 2 3", Ok(())),
     (b"p sp 2 1\na 1 2 3\n", Err(ReadFault::Memory)),
 ];
 
-// The text is read as a graph of this link.
 fn expect_link(rt: &impl Abort, read: Result<Graph<&Memory>, ReadFault>) -> Result<(), AllocError> {
     let graph = or_refused(rt, read, ReadFault::Memory)?;
     let link = Link::of_arc(1, 2, 3).expect(rt, "a link");
@@ -169,7 +169,6 @@ fn expect_link(rt: &impl Abort, read: Result<Graph<&Memory>, ReadFault>) -> Resu
     Ok(())
 }
 
-// The reader is fed the text by these pieces.
 fn read_pieces<'a>(memory: &'a Memory, pieces: &[&[u8]]) -> Result<Graph<&'a Memory>, ReadFault> {
     let mut reader = GrReader::new(memory, MAX_BYTES);
     for piece in pieces {

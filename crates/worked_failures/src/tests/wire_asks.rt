@@ -1,4 +1,4 @@
-// A worker in memory, and asks over a wire to it, and to a script of one of the first version.
+// A worker in memory, and asks over a wire to it, and over a wire to stored bytes of a worker of the first version.
 ghost use Rattle.std.specs.Prelude.{◌<◌, length, All};
 ghost use Rattle.links.specs.Link.{EndsUpTo};
 ghost use Rattle.wires.specs.Lines.{HasRoom};
@@ -14,11 +14,11 @@ use worked_graphs::{SMALL_NET, WIDE_WEIGHTS, Worked, have_labels};
 
 pub(crate) const FIRST_HELLO: [u8; 11] = [1, 0, 0, 0, 6, 0, 1, 0, 0, 0, 0];
 
-// The offers of the small net in one shard, each vertex a component by itself, whatever its weights.
+// The offers of the small net in one shard, for either weights. Each vertex is a component by itself.
 const OFFERS: [(u32, u32); 6] = [(1, 1), (2, 6), (3, 4), (4, 4), (5, 6), (6, 5)];
 
-// Why an ask for the cut's last shard over a wire with this line, each of six vertices a component by itself, isn't
-// answered; an answer has the offers. The wire is closed just where it doesn't answer.
+// Why an ask of the cut's last shard, over a wire with this line, isn't answered. Each of six vertices is a component
+// by itself. An answer has the offers above. The wire is closed exactly if it doesn't answer.
 fn fault_over<'a, 'b, L: Line + Drop>(
     rt: &impl Abort,
     memory: &'a Memory,
@@ -42,15 +42,15 @@ fn fault_over<'a, 'b, L: Line + Drop>(
     Ok(fault)
 }
 
-/// A graph in one shard is asked of a worker in memory, and the half of one that has weights past 32 bits of a worker of
-/// the first version, which is too old for it.
+/// An ask of a worker in memory for a graph in one shard. Or an ask of a worker of the first version for the half of a
+/// graph that has weights past 32 bits, for which it is too old.
 #[derive(Clone, Copy)]
 enum Asked {
     Answered(Worked),
     TooOld,
 }
 
-// The ask is answered, or the worker is too old; or it wants memory, here or at the worker, which ends then.
+// The ask is answered, or the worker is too old. Or the wire or the worker runs out of memory, and the worker ends.
 fn expect_asked(
     rt: &impl Abort,
     alloc: Global,
@@ -66,7 +66,6 @@ fn expect_asked(
     expect_over_cut(rt, memory, &cut, asked)
 }
 
-// The same over the cut.
 fn expect_over_cut<'a>(
     rt: &impl Abort,
     memory: &'a Memory,
@@ -97,7 +96,7 @@ fn went_well(asked: Asked, fault: Option<PortFault>) -> bool {
     }
 }
 
-// The script needs none.
+// Stored bytes need no memory.
 fn wants_memory(asked: Asked, fault: Option<PortFault>) -> bool {
     match (asked, fault) {
         (_, Some(PortFault::Memory)) => true,

@@ -1,4 +1,4 @@
-// What a worker does: scans, what its engine hears, and whole sessions.
+// What a worker does: scans, replies of its engine, and whole sessions.
 use super::frame_texts::{ANSWER, ASK, HELLO, NO_MEMORY, SHARD, SHARD64, WIDE_ARCS, written};
 use super::in_turn::{Memory, expect_any, expect_each, or_refused, was_refused};
 use super::lists::few_links;
@@ -18,14 +18,12 @@ enum By {
     Threads,
 }
 
-/// Which call hears a frame.
 #[derive(Clone, Copy)]
 enum HearBy {
     Hear,
     HearPar,
 }
 
-// What a scan of the links offers.
 fn offers<'a>(
     rt: &(impl Abort + Threads + Sync),
     memory: &'a Memory,
@@ -40,7 +38,7 @@ fn offers<'a>(
     }
 }
 
-// A triangle's offers, each vertex a component by itself.
+// A triangle's offers, if each vertex is a component by itself.
 fn expect_offers(
     rt: &(impl Abort + Threads + Sync),
     alloc: Global,
@@ -55,7 +53,6 @@ fn expect_offers(
     Ok(())
 }
 
-// The engine's reply to a frame.
 fn heard<'a>(
     rt: &(impl Abort + Threads + Sync),
     by: HearBy,
@@ -69,7 +66,7 @@ fn heard<'a>(
     }
 }
 
-// What the engine replies to the frame with these bytes, as bytes.
+// The bytes of the engine's reply to the frame with these bytes.
 fn reply<'a>(
     rt: &(impl Abort + Threads + Sync),
     memory: &'a Memory,
@@ -85,8 +82,8 @@ fn reply<'a>(
     }
 }
 
-// The engine's reply is this one. Where one allocation alone is refused, it is as before, and replies so once it hears
-// the frame again.
+// The engine's reply is this one. If only one allocation fails, the engine is as it was, and replies like this when it
+// gets the frame again.
 fn expect_reply<'a>(
     rt: &(impl Abort + Threads + Sync),
     memory: &'a Memory,
@@ -103,7 +100,7 @@ fn expect_reply<'a>(
     Ok(())
 }
 
-// An engine hears a triangle's shard and an ask.
+// An engine gets a triangle's shard and an ask.
 fn expect_replies(
     rt: &(impl Abort + Threads + Sync),
     memory: &Memory,
@@ -146,8 +143,8 @@ fn scans_and_engines(rt: HostRuntime) {
     }
 }
 
-/// A session over a shard and an ask, at its limit of frames, if it has one: how it ends, and what it writes behind its
-/// hello.
+/// A session over a shard and an ask, with its limit of frames, if there is one: how it ends, and what it writes after
+/// its hello.
 #[derive(Clone, Copy)]
 struct Session {
     shard: &'static [u8],
@@ -157,8 +154,8 @@ struct Session {
     answer: &'static [u8],
 }
 
-// An ask of the shard under two labels, where it has a third vertex, and an ask of a shard that isn't kept; with the fault
-// for each.
+// An ask of the shard with two labels, although the shard has a third vertex. And an ask of a shard that isn't stored.
+// Each has its fault.
 const SHORT_ASK: [u8; 25] = [
     3, 0, 0, 0, 20, 0, 0, 0, 1, 0, 0, 0, 0, 0, 0, 0, 2, 0, 0, 0, 1, 0, 0, 0, 2,
 ];
@@ -171,7 +168,8 @@ const ANOTHER_ASK: [u8; 29] = [
 
 const NOT_KEPT: [u8; 14] = [5, 0, 0, 0, 9, 0, 0, 0, 1, 0, 0, 0, 7, 2];
 
-// The session goes so; or it wants memory and wrote no answer; or it wrote that it had no memory in the answer's place.
+// The session is as expected. Or it runs out of memory, and has written no answer. Or it has written, instead of the
+// answer, that it had no memory.
 fn expect_session(
     rt: &(impl Abort + Threads + Sync),
     alloc: Global,
@@ -209,7 +207,7 @@ fn expect_session(
     Err(AllocError)
 }
 
-// Without a limit, with one that isn't reached, and with one of 1 and of 2 frames, over either triangle.
+// Without a limit, with a limit that isn't reached, and with limits of 1 and of 2 frames, over either triangle.
 #[test]
 fn sessions_over_the_triangle(rt: HostRuntime) {
     let served = Ok(Served {
@@ -245,7 +243,8 @@ fn sessions_over_the_triangle(rt: HostRuntime) {
     }
 }
 
-// Where an end has no label its fault or that for want of memory is written, and where the shard isn't kept its own alone.
+// If an endpoint has no label, the fault for that or for out of memory is written. If the shard isn't stored, only its
+// own fault is.
 #[test]
 fn sessions_with_a_fault(rt: HostRuntime) {
     let end = Ok(Served {

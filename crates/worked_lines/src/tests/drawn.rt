@@ -1,4 +1,4 @@
-// Runs over drawn graphs, cuts and lines give what the run by one thread does.
+// Runs over random graphs, cuts and lines give the same as the run by one thread.
 ghost use Rattle.std.specs.Prelude.{◌≡◌, ◌<◌, ◌≤◌, length, All, IfOk};
 ghost use Rattle.ports.specs.EngineLines.{line_of};
 ghost use Rattle.wires.specs.Lines.{HasRoom};
@@ -12,10 +12,9 @@ use std::process::Abort;
 use std::sync::Wait;
 use std::thread::Threads;
 
-/// A worker in memory behind a line that may stop.
+/// A worker in memory on a line that may stop.
 type Fused = FusedLine<EngineLine<Global>>;
 
-/// The numbers of a linear congruential generator.
 #[derive(Drop)]
 struct Draws {
     state: u64,
@@ -34,7 +33,6 @@ impl Draws {
         ((self.state >> 33) % u64::from(bound)) as u32
     }
 
-    // A vertex from 1 to n.
     fn vertex(&mut self, n: u32) -> u32
         requires some { 0 < n }
         requires few { n ≤ 200 }
@@ -43,7 +41,7 @@ impl Draws {
     }
 }
 
-/// A file, and how many vertices it has and how many of its arcs are links.
+/// A file, the number of its vertices, and the number of its arcs that are links.
 #[derive(Drop)]
 struct Drawn {
     file: Vec<u8>,
@@ -51,7 +49,7 @@ struct Drawn {
     links: u32,
 }
 
-// Up to 200 vertices and twice as many arcs, loops and repeats among them, of up to 20 weights.
+// Up to 200 vertices and twice as many arcs, with loops and repeats among them, and with up to 20 weights.
 fn drawn_file(rt: &impl Abort, alloc: Global, draws: &mut Draws) -> Drawn {
     let n = draws.below(201);
     let arcs = draws.below(2 * n + 1);
@@ -75,7 +73,7 @@ fn drawn_file(rt: &impl Abort, alloc: Global, draws: &mut Draws) -> Drawn {
     }
 }
 
-// Up to nine places where so many links are cut.
+// Up to nine positions at which this many links are split.
 fn drawn_places(rt: &impl Abort, alloc: Global, draws: &mut Draws, links: u32) -> Vec<usize> {
     let mut places = Vec::new(alloc);
     for _ in 0..draws.below(10) {
@@ -86,7 +84,7 @@ fn drawn_places(rt: &impl Abort, alloc: Global, draws: &mut Draws, links: u32) -
     places
 }
 
-// A line to a worker: one in three never stops, and the others do after some bytes or calls.
+// A line to a worker. One in three never stops, and the others stop after some bytes or calls.
 fn drawn_line(alloc: Global, draws: &mut Draws, worker: u32) -> Result<Fused, AllocError>
     requires { worker < 64 }
     ensures room { IfOk result (λ line. HasRoom (with_stops (line_of line.line) line.stopped)) }
@@ -99,7 +97,6 @@ fn drawn_line(alloc: Global, draws: &mut Draws, worker: u32) -> Result<Fused, Al
     })
 }
 
-// Up to five lines.
 fn drawn_lines(alloc: Global, draws: &mut Draws) -> Result<Vec<Fused>, AllocError>
     ensures few { IfOk result (λ lines. length lines.items ≤ 64) }
     ensures room { IfOk result (λ lines. All (λ line. HasRoom (with_stops (line_of line.line) line.stopped)) lines.items) }
@@ -112,7 +109,7 @@ fn drawn_lines(alloc: Global, draws: &mut Draws) -> Result<Vec<Fused>, AllocErro
     Ok(lines)
 }
 
-// One run beside the run by one thread, over what is drawn from here on.
+// Compares one run with the run by one thread, over a random file, cut and lines.
 fn expect_as_by_one_thread<R: Threads + Wait + Sync + Abort>(
     rt: &R,
     alloc: Global,

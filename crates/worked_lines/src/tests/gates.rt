@@ -1,5 +1,5 @@
-// Lines that answer only once another was asked, and else fail. They don't fail: ports are asked at the same time, and
-// a port takes over what another hasn't come to.
+// Lines that answer only after another got an ask, and otherwise fail. They don't fail, because ports get asks at the
+// same time, and a port takes over what another hasn't started.
 ghost use Rattle.std.specs.Prelude.{◌≡◌, ◌<◌, ◌≤◌, length, All, IfOk};
 ghost use Rattle.ports.specs.EngineLines.{line_of};
 ghost use Rattle.wires.specs.Lines.{HasRoom};
@@ -14,12 +14,14 @@ use std::sync::atomic::AtomicU64;
 use std::sync::atomic::Ordering::SeqCst;
 use worked_graphs::SMALL_NET;
 
-// How often a line looks at another's count.
+// How often a line reads another's count.
 const TURNS: u64 = 1 << 28;
 
-/// A line to a worker in memory, which counts its asks: its first gets after a put. At the first of them it waits until
-/// another line was asked so often, or all lines together where they share one count; where it doesn't see that within
-/// its turns it fails. It fails too where its first ask isn't for this shard, whose frame is the first to be put.
+/// A line to a worker in memory. It counts its asks, which are its first gets after a put.
+///
+/// At its first ask it waits until another line got `least` asks, or all lines together if they share one count. It
+/// fails if it doesn't see that many within its turns. It also fails if its first ask isn't for shard `first`, whose
+/// frame is the first to be put.
 #[derive(Drop)]
 struct Gate<'a> {
     line: EngineLine<Global>,
@@ -63,7 +65,7 @@ impl<'a> Line for Gate<'a> {
 }
 
 impl<'a> Gate<'a> {
-    // Counts an ask, and at the first waits for the other line.
+    // Counts an ask, and at the first one waits for the other line.
     fn passes(&mut self) -> bool
         ensures { (self.new.line ≡ self.old.line) × (self.new.stopped ≡ self.old.stopped) }
     {
@@ -76,12 +78,11 @@ impl<'a> Gate<'a> {
     }
 }
 
-// Whether a frame with a shard is of this one: behind its kind and its length stands the number, in four bytes.
+// Whether a frame with a shard has this shard. The number is the four bytes after the frame's kind and length.
 fn is_of_shard(frame: &[u8], shard: u8) -> bool {
     frame.get(8) == Some(&shard)
 }
 
-// Whether the count is seen to be so much.
 fn reaches(count: &AtomicU64, least: u64) -> bool {
     for _ in 0..TURNS {
         if count.load(SeqCst) >= least {
@@ -91,7 +92,8 @@ fn reaches(count: &AtomicU64, least: u64) -> bool {
     false
 }
 
-// A gate before the worker of this number, which is first asked for this shard: its own count, and the other's.
+// A gate before the worker of this number, whose first ask is for this shard. `counts` are its own count and the
+// other's.
 fn gate_to<'a>(
     alloc: Global,
     worker: u32,
@@ -115,7 +117,7 @@ fn gate_to<'a>(
     })
 }
 
-// Two gates, each of which waits until the other was asked so often, and is first asked for so numbered a shard.
+// Two gates. Each waits until the other got its number of asks, and its first ask is for its shard.
 fn two_gates<'a>(
     alloc: Global,
     counts: (&'a AtomicU64, &'a AtomicU64),
@@ -132,7 +134,7 @@ fn two_gates<'a>(
     Ok(lines)
 }
 
-// Nine gates with one count, each of which waits until all were asked.
+// Nine gates with one count. Each waits until all got an ask.
 fn nine_gates<'a>(alloc: Global, asked: &'a AtomicU64) -> Result<Vec<Gate<'a>>, AllocError>
     ensures few { IfOk result (λ lines. length lines.items ≤ 64) }
     ensures room { IfOk result (λ lines. All (λ line. HasRoom (with_stops (line_of line.line) line.stopped)) lines.items) }
@@ -144,7 +146,6 @@ fn nine_gates<'a>(alloc: Global, asked: &'a AtomicU64) -> Result<Vec<Gate<'a>>, 
     Ok(lines)
 }
 
-// Each waits for the other's first ask.
 #[test]
 fn lines_that_wait_for_each_other(rt: HostRuntime) {
     let alloc = rt.alloc();
@@ -154,8 +155,8 @@ fn lines_that_wait_for_each_other(rt: HostRuntime) {
     expect_same(&rt, counts, [2, 2, 6, 6, 0, 0]);
 }
 
-// Line 0 waits with one of four shards until the other line was asked for the other three, and that one with the first of
-// these until line 0 was asked: else it may take all four before the thread of line 0 begins.
+// Line 0 waits with one of four shards until the other line got asks for the other three. The other line waits with its
+// first ask until line 0 got one. Otherwise it could take all four before the thread of line 0 begins.
 #[test]
 fn a_line_that_waits_for_three_asks(rt: HostRuntime) {
     let alloc = rt.alloc();
@@ -165,8 +166,8 @@ fn a_line_that_waits_for_three_asks(rt: HostRuntime) {
     expect_same(&rt, counts, [2, 4, 12, 12, 0, 0]);
 }
 
-// Nine lines over eighteen shards: each is first asked for a shard of its own, two places after the one before, and waits
-// until all were asked.
+// Nine lines over eighteen shards. The first ask of each is for a shard of its own, two after that of the line before.
+// Each waits until all got an ask.
 #[test]
 fn nine_lines_that_wait_for_all(rt: HostRuntime) {
     let alloc = rt.alloc();
@@ -176,8 +177,9 @@ fn nine_lines_that_wait_for_all(rt: HostRuntime) {
     expect_same(&rt, counts, [2, 18, 54, 54, 0, 0]);
 }
 
-/// A line to a worker in memory, which has the first version in its hello where it is an old one. Another waits, before
-/// its first byte, until the old one's hello was asked for. Its bytes aren't known, since it changes one.
+/// A line to a worker in memory. If the worker is an old one, its hello has the first version. Any other line waits,
+/// before its first byte, until a get of the old one's hello has begun. Contracts don't see the line's bytes, since it
+/// changes one.
 #[derive(Drop)]
 struct Versioned<'a> {
     line: EngineLine<Global>,
@@ -186,7 +188,7 @@ struct Versioned<'a> {
     got: usize,
 }
 
-// The place of the version's second byte in a stream that begins with a hello.
+// The index of the version's second byte in a stream that begins with a hello.
 const VERSION_AT: usize = 6;
 
 impl<'a> Line for Versioned<'a> {
@@ -219,8 +221,8 @@ impl<'a> Line for Versioned<'a> {
     ghost serves = { λ _ _ faithful. absurd faithful };
 }
 
-// The first worker has the first version, and the first of two shards a weight past 32 bits, so its first ask closes it.
-// The other answers both shards in both rounds, and the forest is that of the file.
+// The first worker has the first version, and the first of two shards has a weight past 32 bits. So its first ask
+// closes its line. The other worker answers for both shards in both rounds, and the forest is that of the file.
 #[test]
 fn workers_of_two_versions(rt: HostRuntime) {
     let alloc = rt.alloc();

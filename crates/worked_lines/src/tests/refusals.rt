@@ -1,4 +1,4 @@
-// Runs that end before their text is written, or while it is.
+// Runs that end before they write their text, or while they write it.
 ghost use Rattle.std.specs.Prelude.{◌<◌, ◌-◌, ◌^◌};
 
 use super::runs::fault_of;
@@ -31,7 +31,7 @@ fn cuts_that_are_not_allowed(rt: HostRuntime) {
     }
 }
 
-// A file without its arcs, of which the cut wouldn't be allowed either.
+// A file without its arcs, for which the cut wouldn't be allowed either.
 #[test]
 fn a_file_that_means_nothing(rt: HostRuntime) {
     let lines = engines(rt.alloc(), 1).expect(&rt, "memory");
@@ -44,7 +44,7 @@ fn a_file_that_means_nothing(rt: HostRuntime) {
     expect_same(&rt, fault, Some(RunFault::Read(ReadFault::Gr(missing))));
 }
 
-// A run of the small net into this sink, which has room for ten bytes of its text.
+// A run of the small net into this sink, which takes ten bytes of the text.
 fn expect_ten_bytes<R: Threads + Wait + Sync + Abort>(rt: &R, alloc: Global, mut sink: FusedSink)
     requires { sink.setbacks < 2 ^ 64 - 1 }
 {

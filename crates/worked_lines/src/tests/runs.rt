@@ -1,4 +1,4 @@
-// A run over lines into memory, and what holds of each.
+// A run over lines into memory, and what holds for each run.
 ghost use Rattle.std.specs.Prelude.{◌≤◌, length, All};
 ghost use Rattle.wires.specs.Lines.{HasRoom};
 
@@ -11,11 +11,11 @@ use std::sync::Wait;
 use std::thread::Threads;
 use worked_graphs::Worked;
 
-/// What a run did: merging rounds, shards, asks, answers taken, scans without a worker, ports closed.
+/// The counts of a run: merging rounds, shards, asks, answers taken, scans without a worker, ports closed.
 pub(crate) type Counts = [u64; 6];
 
-// The counts of a report over so many lines: each ask brought an answer or closed a port; each shard of each round was
-// answered, or scanned without a worker where all ports were closed; the rounds are within the bound.
+// The counts of a report over this many lines. Each ask brought an answer or closed a port. Each shard of each round
+// was answered, or scanned without a worker after all ports were closed. The rounds are within the bound.
 fn lawful_counts(rt: &impl Abort, report: &Report, lines: usize) -> Counts {
     let rounds = u64::from(report.rounds);
     let shards = u64::from(report.shards);
@@ -43,7 +43,7 @@ fn lawful_counts(rt: &impl Abort, report: &Report, lines: usize) -> Counts {
     [rounds, shards, asked, answered, alone, closed]
 }
 
-/// A file, the text of its forest, how many vertices and links it has, and what the forest weighs.
+/// A file, the text of its forest, its numbers of vertices and links, and the total of its forest.
 #[derive(Clone, Copy)]
 pub(crate) struct Solved<'a> {
     pub(crate) file: &'a [u8],
@@ -51,7 +51,7 @@ pub(crate) struct Solved<'a> {
     pub(crate) size: (u32, u64, i128),
 }
 
-// The counts of a run of this file over these lines. It reads its whole source, and gives as many lines back.
+// The counts of a run of this file over these lines. The run reads its whole source, and returns as many lines.
 pub(crate) fn run_of<L: Line + Send + Drop, R: Threads + Wait + Sync + Abort>(
     rt: &R,
     alloc: Global,
@@ -75,7 +75,7 @@ pub(crate) fn run_of<L: Line + Send + Drop, R: Threads + Wait + Sync + Abort>(
     lawful_counts(rt, &report, count)
 }
 
-// The same of a worked graph, whose loops are no links.
+// The same for an example graph, whose loops aren't links.
 pub(crate) fn run_of_worked<L: Line + Send + Drop, R: Threads + Wait + Sync + Abort>(
     rt: &R,
     alloc: Global,
@@ -95,7 +95,7 @@ pub(crate) fn run_of_worked<L: Line + Send + Drop, R: Threads + Wait + Sync + Ab
     run_of(rt, alloc, &solved, cutting, lines)
 }
 
-// Why a run over these lines ends, which writes nothing.
+// Why a run over these lines fails. It writes nothing.
 pub(crate) fn fault_of<L: Line + Send + Drop, R: Threads + Wait + Sync + Abort>(
     rt: &R,
     alloc: Global,

@@ -1,4 +1,4 @@
-// Stored bytes in place of a worker: answers that are refused, and answers that lie.
+// Stored bytes instead of a worker: answers that are rejected, and answers that lie.
 ghost use Rattle.std.specs.Prelude.{◌≡◌, length, All, IfOk};
 ghost use Rattle.wires.specs.Lines.{HasRoom};
 ghost use Rattle.ports.specs.Testing.{line_of_script};
@@ -18,7 +18,7 @@ const ANSWER: u8 = 4;
 /// The numbers of an answer: how many bytes follow, its round and its shard, how many offers it has, and these.
 pub(crate) type Numbers = &'static [u32];
 
-// A line over which come the hello of worker 0, of the first version, and then these answers.
+// A line that gives the hello of worker 0, of the first version, and then these answers.
 pub(crate) fn script_line(alloc: Global, answers: &[Numbers]) -> Result<ScriptLine, AllocError>
     ensures room { IfOk result (λ line. HasRoom (line_of_script line)) }
 {
@@ -32,7 +32,6 @@ pub(crate) fn script_line(alloc: Global, answers: &[Numbers]) -> Result<ScriptLi
     Ok(ScriptLine::new(bytes))
 }
 
-// That line alone.
 fn script(alloc: Global, answers: &[Numbers]) -> Result<Vec<ScriptLine>, AllocError>
     ensures one { IfOk result (λ lines. length lines.items ≡ 1) }
     ensures room { IfOk result (λ lines. All (λ line. HasRoom (line_of_script line)) lines.items) }
@@ -42,8 +41,8 @@ fn script(alloc: Global, answers: &[Numbers]) -> Result<Vec<ScriptLine>, AllocEr
     Ok(lines)
 }
 
-// Of another round; of another shard; with an offer that doesn't leave its component; with components that don't
-// ascend. Each closes the port, and the coordinator scans alone.
+// Answers of another round, of another shard, with an offer that doesn't leave its component, and with components that
+// don't ascend. Each closes the port, and the coordinator scans without a worker.
 #[test]
 fn answers_that_are_refused(rt: HostRuntime) {
     let refused: [Numbers; 4] = [
@@ -59,8 +58,8 @@ fn answers_that_are_refused(rt: HostRuntime) {
     }
 }
 
-// Vertex 3 is offered a link that leaves it and isn't its lightest: the links span and close no cycle, and aren't the
-// minimum spanning forest.
+// Vertex 3 gets the offer of a link that leaves it but isn't its lightest. The links span and close no cycle, but they
+// aren't the minimum spanning forest.
 #[test]
 fn an_offer_that_is_too_heavy(rt: HostRuntime) {
     let (first, second): (Numbers, Numbers) = (&[36, 1, 0, 3, 1, 0, 2, 0, 3, 1], &[12, 2, 0, 0]);
@@ -82,7 +81,7 @@ fn an_answer_that_hides_all_links(rt: HostRuntime) {
     expect_same(&rt, fault, Some(RunFault::Missed { link }));
 }
 
-// One link a round: three vertices can't have a second merging round.
+// One link per round. Three vertices can't have a second merging round.
 #[test]
 fn answers_past_the_bound(rt: HostRuntime) {
     let (first, second): (Numbers, Numbers) = (&[20, 1, 0, 1, 1, 0], &[20, 2, 0, 1, 3, 1]);
@@ -91,8 +90,9 @@ fn answers_past_the_bound(rt: HostRuntime) {
     expect_same(&rt, fault, Some(RunFault::Rounds { round: 2 }));
 }
 
-// A worker of the first version, which has no frame for a weight past 32 bits: it is closed before the shard is sent, and
-// the coordinator scans alone; with another shard, which fits, it answers that one first.
+// A worker of the first version, which has no frame for a weight past 32 bits. Its line is closed before the shard is
+// sent, and the coordinator scans without a worker. If there is another shard, which fits, it answers for that one
+// first.
 #[test]
 fn a_worker_of_the_first_version(rt: HostRuntime) {
     let text = b"p sp 2 1\na 1 2 2147483648\n";

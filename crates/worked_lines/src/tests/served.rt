@@ -1,11 +1,11 @@
-// The worked graphs over lines to workers in memory.
+// The example graphs over lines to workers in memory.
 use super::runs::{Solved, run_of, run_of_worked};
 use super::same::expect_same;
 use crate::in_memory::{engines, text_over_workers};
 use forest_run::Cutting;
 use worked_graphs::{A_PATH_OF_EIGHT, NO_VERTICES, SMALL_NET, WORKED};
 
-// Both shards are asked for in each of three rounds, and both lines are open at the end.
+// There are asks for both shards in each of three rounds, and both lines are open at the end.
 #[test]
 fn the_small_net_over_two_workers(rt: HostRuntime) {
     let lines = engines(rt.alloc(), 2).expect(&rt, "memory");
@@ -13,7 +13,7 @@ fn the_small_net_over_two_workers(rt: HostRuntime) {
     expect_same(&rt, counts, [2, 2, 6, 6, 0, 0]);
 }
 
-// The same by the call whose contract says by definitions which text it is.
+// The same by the call whose contract defines the text.
 #[test]
 fn the_text_of_the_small_net(rt: HostRuntime) {
     for workers in 0..3u32 {
@@ -48,7 +48,7 @@ fn a_weight_of_64_bits(rt: HostRuntime) {
     expect_same(&rt, counts, [1, 1, 2, 2, 0, 0]);
 }
 
-// Three merging rounds are as many as eight vertices can have.
+// Eight vertices can't have more than three merging rounds.
 #[test]
 fn a_path_of_eight(rt: HostRuntime) {
     for workers in 1..3u32 {
@@ -58,8 +58,8 @@ fn a_path_of_eight(rt: HostRuntime) {
     }
 }
 
-// As many shards as there may be, without a line, over one, over more than 32, and over as many as there may be; all but
-// eight of the shards are empty.
+// The most shards that are allowed: without a line, over one, over more than 32, and over the most that are allowed.
+// All but eight of the shards are empty.
 #[test]
 fn the_most_shards(rt: HostRuntime) {
     for (workers, answered, alone) in [
@@ -75,8 +75,8 @@ fn the_most_shards(rt: HostRuntime) {
     }
 }
 
-// In one shard, even and at no place; in five; in three of which the first two are empty; and in as many as there may
-// be, with all links in the last: no worker answers ill.
+// The graph is in one shard, by an even cut and by a cut at no position, or in five. It is in three of which the first
+// two are empty, or in the most that are allowed, with all links in the last. No worker gives a wrong answer.
 #[test]
 fn each_worked_graph_over_up_to_two_workers(rt: HostRuntime) {
     for graph in WORKED {

@@ -1,5 +1,5 @@
-// A run past the size of every inner piece, of 40,000 vertices and links and 15 merging rounds, one of 9,000 links between few
-// vertices, and runs of many vertices and few links.
+// A run larger than every internal buffer, of 40,000 vertices and links and 15 merging rounds. A run of 9,000 links
+// between few vertices, and runs of many vertices and few links.
 use super::runs::{Solved, run_of};
 use super::same::expect_same;
 use crate::in_memory::engines;
@@ -9,20 +9,19 @@ use std::process::Abort;
 
 const MANY: u32 = 40_000;
 
-// The weight of the link from this vertex to the next: how often its number can be halved. So in each round each second
-// component is joined to the one after it, and an odd last one to those before it.
+// The weight of the link from this vertex to the next: how often its number can be halved. So in each round every
+// second component is joined to the one after it, and an odd last one to those before it.
 fn weight(vertex: u32) -> u32 {
     vertex.trailing_zeros()
 }
 
-// The arc from a vertex to the next.
 fn push_arc(rt: &impl Abort, alloc: Global, text: &mut Vec<u8>, vertex: u32) {
     let next = vertex.wrapping_add(1);
     let line = format!(in alloc; "a {vertex} {next} {}\n", weight(vertex)).expect(rt, "memory");
     text.extend_from_slice(line.as_bytes()).expect(rt, "memory");
 }
 
-// A ring: the arcs of the path in a scattered order, and the heaviest one, which closes it.
+// A ring: the arcs of the path in a scattered order, and the heaviest arc, which closes it.
 fn ring(rt: &impl Abort, alloc: Global) -> Vec<u8> {
     let head = b"p sp 40000 40000\na 40000 1 20\n";
     let mut file = Vec::from_slice(alloc, head).expect(rt, "memory");
@@ -32,7 +31,7 @@ fn ring(rt: &impl Abort, alloc: Global) -> Vec<u8> {
     file
 }
 
-// The path of so many vertices, by weight and then by vertex, behind its problem line.
+// The path of `count` vertices, sorted by weight and then by vertex, after its problem line.
 fn path_text(rt: &impl Abort, alloc: Global, head: &[u8], count: u32) -> Vec<u8> {
     let mut text = Vec::from_slice(alloc, head).expect(rt, "memory");
     for weight_of in 0..16u32 {
@@ -45,8 +44,8 @@ fn path_text(rt: &impl Abort, alloc: Global, head: &[u8], count: u32) -> Vec<u8>
     text
 }
 
-// The components are halved in each round: 40,000, 20,000, and so on to 625, 312, and to 4, 2, 1. The product of 1 to n
-// can be halved as often as n has more than its binary digits add up to: 39,999 has ten ones.
+// The number of components is halved in each round: 40,000, 20,000, and so on to 625, 312, and to 4, 2, 1. The product
+// of 1 to n can be halved n times, less the sum of the binary digits of n. 39,999 has ten ones.
 #[test]
 fn a_ring_of_forty_thousand_over_three_workers(rt: HostRuntime) {
     let alloc = rt.alloc();
@@ -65,7 +64,7 @@ fn a_ring_of_forty_thousand_over_three_workers(rt: HostRuntime) {
 
 const FEW: u32 = 100;
 
-// The path of a hundred vertices, and before it 9,000 heavier arcs to its end.
+// The path of a hundred vertices, and before it 9,000 heavier arcs to its last vertex.
 fn fan(rt: &impl Abort, alloc: Global) -> Vec<u8> {
     let mut file = Vec::from_slice(alloc, b"p sp 100 9099\n").expect(rt, "memory");
     for place in 0..9000u32 {
@@ -80,7 +79,7 @@ fn fan(rt: &impl Abort, alloc: Global) -> Vec<u8> {
     file
 }
 
-// The coordinator scans the one shard itself. The components are 100, 50, 25, 12, 6, 3, 1; and 99 has four ones.
+// The coordinator scans the one shard itself. The components are 100, 50, 25, 12, 6, 3, 1, and 99 has four ones.
 #[test]
 fn many_links_of_few_vertices_without_a_worker(rt: HostRuntime) {
     let alloc = rt.alloc();
@@ -96,7 +95,7 @@ fn many_links_of_few_vertices_without_a_worker(rt: HostRuntime) {
     expect_same(&rt, counts, [6, 1, 0, 0, 7, 0]);
 }
 
-// Two links between the first vertex and the last two: of 2^17 vertices, one fewer and one more.
+// Two links between the first vertex and the last two. There are 2^17 vertices, one fewer and one more.
 #[test]
 fn two_links_between_many_vertices(rt: HostRuntime) {
     let alloc = rt.alloc();

@@ -1,4 +1,4 @@
-// Lines that stop: what one worker doesn't answer another does, and the coordinator where none is left.
+// Lines that stop. What one worker doesn't answer another does, or the coordinator if no worker is left.
 ghost use Rattle.std.specs.Prelude.{◌<◌};
 ghost use Rattle.ports.specs.EngineLines.{line_of};
 ghost use Rattle.wires.specs.Lines.{HasRoom};
@@ -13,7 +13,7 @@ use std::alloc::Global;
 use std::process::Abort;
 use worked_graphs::{SMALL_NET, WIDE_WEIGHTS, Worked};
 
-// A line to the worker of this number that stops once so many bytes were got.
+// A line to the worker of this number. It stops after this many bytes were got.
 fn stopping(
     rt: &impl Abort,
     alloc: Global,
@@ -36,7 +36,7 @@ fn both_lines_fail_at_their_first_read(rt: HostRuntime) {
     expect_same(&rt, counts, [2, 2, 2, 0, 6, 2]);
 }
 
-// The other line answers all; the one that fails may not come to be asked at all.
+// The other line answers for all shards. The line that fails may not get an ask at all.
 #[test]
 fn one_of_two_lines_fails_at_its_first_read(rt: HostRuntime) {
     let alloc = rt.alloc();
@@ -48,7 +48,7 @@ fn one_of_two_lines_fails_at_its_first_read(rt: HostRuntime) {
     expect_same(&rt, counts, [2, 2, closed.wrapping_add(6), 6, 0, closed]);
 }
 
-/// A graph in so many shards, and how many bytes a line has given with the hello and each answer: the hello has 11.
+/// A graph in this many shards, and how many bytes a line has given after each answer. The hello has 11 bytes.
 #[derive(Clone, Copy)]
 struct Answered {
     graph: Worked,
@@ -56,8 +56,9 @@ struct Answered {
     ends: &'static [u64],
 }
 
-// In one shard the answers have 65, 33 and 17 bytes, whatever the weights; in two each of the first round has 57, of the
-// second 33, and of the third 17. The second shard of the wide weights is the one that needs frames of its own.
+// In one shard the answers have 65, 33 and 17 bytes, whatever the weights. In two shards, each answer has 57 bytes in
+// the first round, 33 in the second and 17 in the third. The second shard of the wide weights is the one that needs
+// frames of its own.
 const WHOLE: Answered = Answered {
     graph: SMALL_NET,
     shards: 1,
@@ -76,8 +77,8 @@ const WIDE_IN_TWO: Answered = Answered {
     ends: &[68, 125, 158, 191, 208, 225],
 };
 
-// What is done over one line that stops after so many bytes: those answers that came whole are taken, the line is closed
-// at the next, and what is left is scanned alone.
+// The counts of a run over one line that stops after this many bytes. Whole answers are taken, the line is closed at
+// the next ask, and the coordinator scans the rest.
 fn done_after(answered: Answered, bytes: u64) -> Counts {
     let all = answered.ends.len() as u64;
     let taken = answered.ends.iter().filter(|end| **end <= bytes).count() as u64;
@@ -120,7 +121,7 @@ fn a_line_that_stops_after_each_call(rt: HostRuntime) {
     }
 }
 
-// A worker of the first version that stops so: it answers the shard whose weights fit 32 bits.
+// A worker of the first version that stops like this. It answers for the shard whose weights fit 32 bits.
 fn old_worker(rt: &impl Abort, alloc: Global, fuse: Fuse) -> FusedLine<ScriptLine>
     ensures room { HasRoom (with_stops (line_of_script result.line) result.stopped) }
 {
@@ -132,7 +133,8 @@ fn old_worker(rt: &impl Abort, alloc: Global, fuse: Fuse) -> FusedLine<ScriptLin
     }
 }
 
-// It is too old for the other shard, and closed there if it wasn't before; all in one shard, before it answers at all.
+// The worker is too old for the other shard, and its line is closed there if it wasn't before. If all weights are in
+// one shard, that is before it answers at all.
 #[test]
 fn a_worker_of_the_first_version_that_stops(rt: HostRuntime) {
     let alloc = rt.alloc();

@@ -1,5 +1,6 @@
-// How many bytes calls take at most at once, beside what they are given: no more than their documentation names for each
-// vertex and each link, of few and of many. A block that grows lives beside the one that it grew from.
+// The most bytes that calls use at one time, not counting their arguments. They are no more than the documentation
+// names per vertex and per link, for small and for large lists. While a block grows, both the old and the new block are
+// counted.
 ghost use Rattle.std.specs.Prelude.{◌<◌, ◌≤◌, ◌^◌, length};
 ghost use Rattle.links.specs.Link.{EndsUpTo};
 
@@ -12,10 +13,10 @@ use std::process::Abort;
 use test_memory::{Refusals, Refusing};
 use worked_graphs::{Row, all_have_labels, have_labels, links_of};
 
-/// The memory of one call.
+/// An allocator that counts the bytes of one call.
 pub(crate) type Memory = Refusing<Global>;
 
-/// How many vertices there are, how many arcs, and how many weights.
+/// The number of vertices, the number of arcs, and a bound above the absolute value of each weight.
 #[derive(Clone, Copy, Debug, PartialEq, Eq)]
 pub(crate) struct List {
     pub(crate) n: u32,
@@ -30,7 +31,7 @@ fn vertex(n: u32, number: u64) -> u32
     (number % u64::from(n)) as u32 + 1
 }
 
-// Arcs from all over the vertices, in no order, loops among them.
+// Arcs spread over all vertices, in no order, with loops among them.
 fn arcs_in(rt: &impl Abort, alloc: Global, list: List) -> Vec<Row> {
     assert!(rt; 0 < list.n);
     let mut arcs = Vec::new(alloc);
@@ -44,7 +45,6 @@ fn arcs_in(rt: &impl Abort, alloc: Global, list: List) -> Vec<Row> {
     arcs
 }
 
-// The links of such arcs.
 pub(crate) fn links_in(rt: &impl Abort, alloc: Global, list: List) -> Vec<Link>
     ensures few { length result.items ≤ 2 ^ 24 }
     ensures ends { EndsUpTo list.n result.items }
@@ -56,12 +56,12 @@ pub(crate) fn links_in(rt: &impl Abort, alloc: Global, list: List) -> Vec<Link>
     links
 }
 
-// Memory that counts and refuses none.
+// An allocator that counts, and that makes no allocation fail.
 pub(crate) fn counted(alloc: Global) -> Memory {
     Refusing::new(alloc, Refusals::none())
 }
 
-// The most bytes that lived at once since the memory was watched, beside those that lived then.
+// The peak since the memory was watched, without the `before` bytes that were allocated then.
 pub(crate) fn most_beside(memory: &Memory, before: u64) -> u64 {
     memory.bytes().most.wrapping_sub(before)
 }
@@ -82,7 +82,7 @@ enum Call {
     Parse,
 }
 
-// What a call takes that sees how many vertices there are, and no link.
+// The peak of a call that gets a number of vertices and no links.
 fn of_vertices(rt: &impl Abort, memory: &Memory, call: Call, n: u32) -> u64
     requires { n ≤ 2 ^ 26 }
 {
@@ -99,7 +99,7 @@ fn of_vertices(rt: &impl Abort, memory: &Memory, call: Call, n: u32) -> u64
     most_beside(memory, before)
 }
 
-// What a call takes that works in a list of its own, or in a copy.
+// The peak of a call that works in a list of its own, or in a copy.
 fn of_list(rt: &impl Abort, memory: &Memory, call: Call, n: u32, links: &[Link]) -> u64
     requires vertices { n ≤ 2 ^ 26 }
     requires few { length links.now ≤ 2 ^ 24 }
@@ -115,7 +115,7 @@ fn of_list(rt: &impl Abort, memory: &Memory, call: Call, n: u32, links: &[Link])
     most_beside(memory, before)
 }
 
-// What a call takes that sees links that are cut into four.
+// The peak of a call over links that are split into four shards.
 fn of_cut(rt: &impl Abort, memory: &Memory, call: Call, n: u32, links: &[Link]) -> u64
     requires vertices { n ≤ 2 ^ 26 }
     requires few { length links.now ≤ 2 ^ 24 }
@@ -135,7 +135,6 @@ fn of_cut(rt: &impl Abort, memory: &Memory, call: Call, n: u32, links: &[Link]) 
     most_beside(memory, before)
 }
 
-// What the graph of the arcs' text takes.
 fn of_text(rt: &impl Abort, alloc: Global, list: List) -> u64 {
     let arcs = arcs_in(rt, alloc, list);
     let head = format!(in alloc; "p sp {} {}\n", list.n, arcs.len()).expect(rt, "memory");
@@ -149,7 +148,6 @@ fn of_text(rt: &impl Abort, alloc: Global, list: List) -> u64 {
     memory.bytes().most
 }
 
-// The links of a forest of these.
 fn tree_of(rt: &impl Abort, alloc: Global, n: u32, links: &[Link]) -> Vec<Link>
     requires vertices { n ≤ 2 ^ 26 }
     requires few { length links.now ≤ 2 ^ 24 }
@@ -163,7 +161,8 @@ fn tree_of(rt: &impl Abort, alloc: Global, n: u32, links: &[Link]) -> Vec<Link>
     tree
 }
 
-// What the call takes over the list, which has these links, and how many links it is over: a tree's are fewer.
+// Returns the peak of the call over the links of this list, and the number of links that the call gets. It is smaller
+// if the call gets only the links of the forest.
 fn taken(rt: &impl Abort, alloc: Global, call: Call, list: List, links: &[Link]) -> (u64, u64)
     requires few { length links.now ≤ 2 ^ 24 }
     requires ends { EndsUpTo list.n links.now }
@@ -185,7 +184,7 @@ fn taken(rt: &impl Abort, alloc: Global, call: Call, list: List, links: &[Link])
     }
 }
 
-// Few and many, with short keys and with long ones; and many links between few vertices.
+// Small and large lists with short and with long keys, and a list with many links between few vertices.
 const LISTS: [List; 5] = [
     List {
         n: 1_000,
@@ -214,13 +213,14 @@ const LISTS: [List; 5] = [
     },
 ];
 
-// What the solver takes beside a list of so many links, all of which may be looked at in one part, or for its sample of them.
+// The bytes that the solver uses in addition to its list. At worst it goes over all links in one part. Sampling the
+// links uses up to 4096 bytes.
 fn to_solve(list: List, links: u64) -> u64 {
     let vertices = u64::from(list.n).wrapping_mul(12);
     links.wrapping_mul(13).wrapping_add(vertices).max(4_096)
 }
 
-// The most bytes that the call's documentation allows, in bytes a vertex, a link and a shard.
+// The most bytes that the documentation of the call allows, from its bytes per vertex, per link and per shard.
 fn allowed(call: Call, list: List, links: u64) -> u64 {
     let vertices = u64::from(list.n);
     match call {
@@ -228,13 +228,13 @@ fn allowed(call: Call, list: List, links: u64) -> u64 {
         Call::Solver => vertices.wrapping_mul(8),
         Call::Picks => vertices.wrapping_mul(16),
         Call::Cut => 4 * 8,
-        // (an answer has its allocator's 8 bytes beside its 33)
+        // 33 bytes per answer, and 8 for its allocator
         Call::Book => vertices.wrapping_mul(16).wrapping_add(4 * 41),
         Call::ForestOf | Call::Components => to_solve(list, links),
         Call::PlainForest => links.wrapping_mul(16).wrapping_add(to_solve(list, links)),
-        // labels, picks, links and what a step takes
+        // the labels, the picks, the links, and the memory of a step
         Call::SolveAlone => vertices.wrapping_mul(48).wrapping_add(4 * 8),
-        // 16, in a list that is half empty at most, and beside it the one that it grew from
+        // 16 per link: the list is at most half empty, and the list that it grew from may exist too
         Call::Parse => links.wrapping_mul(48),
     }
 }
@@ -266,7 +266,6 @@ fn bytes_of_vertices_and_links(rt: HostRuntime) {
     }
 }
 
-// One link between many vertices.
 #[test]
 fn bytes_of_one_link_between_a_million_vertices(rt: HostRuntime) {
     let list = List {

@@ -1,4 +1,4 @@
-// How many bytes the calls of a round take at most: for a vertex, a link, an offer, a shard and a seat.
+// The most bytes that the calls of a round use, per vertex, link, offer, shard and seat.
 ghost use Rattle.std.specs.Prelude.{◌≡◌, ◌≤◌, ◌^◌, length};
 ghost use Rattle.links.specs.Link.{EndsUpTo};
 ghost use Rattle.round_core.specs.Picks.{ArePicksOfHearings};
@@ -15,7 +15,7 @@ use std::thread::{Threads, available_parallelism};
 use worked_graphs::{all_have_labels, have_labels};
 use worker_engine::{scan, scan_par};
 
-// Few links and many, and many links between few vertices.
+// A small list, a large one, and one with many links between few vertices.
 const LISTS: [List; 3] = [
     List {
         n: 1_000,
@@ -34,12 +34,12 @@ const LISTS: [List; 3] = [
     },
 ];
 
-// It took so many bytes at most. The words say which call it was.
+// Fails if the call used more than `most` bytes. The failure names the call and the list.
 fn expect_at_most(rt: &impl Abort, call: &str, list: List, took: u64, most: u64) {
     expect_same(rt, (call, list, took.max(most)), (call, list, most));
 }
 
-// The picks of a round in which the only shard's answer offers what a scan of its links finds.
+// The picks of a round over one shard, whose answer has the offers that a scan of the shard finds.
 fn picks_over<'a>(
     rt: &impl Abort,
     memory: &'a Memory,
@@ -64,8 +64,8 @@ fn picks_over<'a>(
     book.close()
 }
 
-// The first step takes 24 bytes a vertex, which stay: those of the links, of their numbers and of the least vertices. The
-// later ones take none. The end takes 16 for each link of the forest.
+// The first step allocates 24 bytes per vertex and keeps them: for the links, for their numbers and for the least
+// vertices. The later steps allocate nothing per vertex. `finish` allocates 16 bytes per link of the forest.
 fn expect_steps<'a>(rt: &impl Abort, memory: &'a Memory, cut: &Cut<&'a Memory>, list: List) {
     let n = list.n;
     assert!(rt; n <= 1 << 26);
@@ -89,7 +89,7 @@ fn expect_steps<'a>(rt: &impl Abort, memory: &'a Memory, cut: &Cut<&'a Memory>, 
     expect_at_most(rt, "finish", list, most_beside(memory, before), most);
 }
 
-// So it is with a step that lets go of the picks. The end that takes the solver copies no link.
+// The same for `step_in_place`, which clears the picks. `finish_par` consumes the solver and copies no link.
 fn expect_steps_par<'a>(
     rt: &(impl Abort + Threads + Sync),
     memory: &'a Memory,
@@ -118,7 +118,8 @@ fn expect_steps_par<'a>(
     expect_same(rt, forest.links().is_empty(), false);
 }
 
-// Labels that are made anew take 16 bytes a vertex while they are made, with those that stay, and 16 for each component.
+// Making new labels uses 16 bytes per vertex, including the labels themselves, and 16 bytes per component. Here each
+// vertex is a component.
 fn expect_relabelled<'a>(rt: &impl Abort, memory: &'a Memory, cut: &Cut<&'a Memory>, list: List) {
     let n = list.n;
     assert!(rt; n <= 1 << 26);
@@ -130,7 +131,8 @@ fn expect_relabelled<'a>(rt: &impl Abort, memory: &'a Memory, cut: &Cut<&'a Memo
     expect_at_most(rt, "hook_relabel", list, most_beside(memory, before), most);
 }
 
-// A book in the room of picks takes 33 bytes a shard, beside them 8 for the answer's allocator, and none a vertex.
+// A book that reuses the buffer of picks uses 33 bytes per shard and 8 for the allocator of its answer, but nothing
+// per vertex.
 fn expect_opened_over<'a>(rt: &impl Abort, memory: &'a Memory, cut: &Cut<&'a Memory>, list: List) {
     let n = list.n;
     assert!(rt; n <= 1 << 26);
@@ -155,7 +157,7 @@ fn bytes_of_steps(rt: HostRuntime) {
     }
 }
 
-// How many parts a scan by threads has at most: as many as there are processors, and as often as there are a vertex's links.
+// The most parts that a scan by threads has: at most one per processor, and at most the number of links per vertex.
 fn parts(rt: &impl Threads, links: u64, n: u64) -> u64 {
     let processors = match available_parallelism(rt) {
         Ok(processors) => processors.get() as u64,
@@ -164,7 +166,8 @@ fn parts(rt: &impl Threads, links: u64, n: u64) -> u64 {
     processors.min(links.checked_div(n).unwrap_or(1)).max(1)
 }
 
-// A scan by threads takes a table of 8 bytes a vertex for each part, and an offer 8 bytes in a list that doubles as it grows.
+// A scan by threads uses a table of 8 bytes per vertex for each part. Each offer has 8 bytes in a list that doubles
+// as it grows.
 #[test]
 fn bytes_of_a_scan_by_threads(rt: HostRuntime) {
     for (n, arcs) in [(100, 140_000), (30_000, 140_000)] {
@@ -190,7 +193,7 @@ fn bytes_of_a_scan_by_threads(rt: HostRuntime) {
     }
 }
 
-// A board takes 8 bytes a shard and 520 a seat.
+// A board uses 8 bytes per shard and 520 per seat.
 #[test]
 fn bytes_of_boards(rt: HostRuntime) {
     for (shards, seats) in [(1, 1), (4_096, 1), (1, 64), (4_096, 64)] {

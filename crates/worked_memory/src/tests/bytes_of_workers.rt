@@ -1,4 +1,4 @@
-// How many bytes a worker's calls take at most, and a wire's: for a vertex, a link and an offer, of few and of many.
+// The most bytes that the calls of a worker and of a wire use, per vertex, link and offer, for small and large inputs.
 ghost use Rattle.std.specs.Prelude.{◌≤◌, ◌^◌, length};
 ghost use Rattle.links.specs.Link.{EndsUpTo};
 
@@ -23,7 +23,7 @@ enum Call {
     ReadAsk,
 }
 
-// What a scan takes, and what a second one over the same table; each vertex is a component by itself.
+// The peak of a first scan, or of a second scan with the same table. Each vertex is a component by itself.
 fn of_scan(rt: &impl Abort, memory: &Memory, call: Call, n: u32, links: &[Link]) -> u64
     requires vertices { n ≤ 2 ^ 26 }
     requires few { length links.now ≤ 2 ^ 24 }
@@ -44,7 +44,6 @@ fn of_scan(rt: &impl Abort, memory: &Memory, call: Call, n: u32, links: &[Link])
     most_beside(memory, before)
 }
 
-// What it takes to write a frame.
 fn of_writing(rt: &impl Abort, memory: &Memory, call: Call, n: u32, links: &[Link]) -> u64
     requires vertices { n ≤ 2 ^ 26 }
     requires few { length links.now ≤ 2 ^ 24 }
@@ -63,7 +62,6 @@ fn of_writing(rt: &impl Abort, memory: &Memory, call: Call, n: u32, links: &[Lin
     most_beside(memory, before)
 }
 
-// What it takes to read a frame.
 fn of_reading(
     rt: &impl Abort,
     alloc: Global,
@@ -87,7 +85,6 @@ fn of_reading(
     memory.bytes().most
 }
 
-// What the call takes over these links of n vertices.
 fn taken(rt: &impl Abort, alloc: Global, call: Call, n: u32, links: &[Link]) -> u64
     requires vertices { n ≤ 2 ^ 26 }
     requires few { length links.now ≤ 2 ^ 24 }
@@ -103,16 +100,17 @@ fn taken(rt: &impl Abort, alloc: Global, call: Call, n: u32, links: &[Link]) -> 
     }
 }
 
-// The most bytes that the call's documentation allows. An offer has 8 bytes in a list that doubles as it grows, and there is
-// one for a vertex at most. Of a frame that is read, the list may take four times what came, and the body three times.
+// The most bytes that the documentation of the call allows. An offer has 8 bytes in a list that doubles as it grows,
+// and there is at most one per vertex. Reading a frame may use four times its length for a list, and three times for a
+// body.
 fn allowed(call: Call, list: List, links: u64) -> u64 {
     let vertices = u64::from(list.n);
     let offers = vertices.wrapping_mul(24).wrapping_add(64);
-    // the links are listed, 12 bytes each, with the names of their labels, 4 each
+    // the list of the links, 12 bytes each, and the numbers of their labels, 4 bytes each
     let listed = links
         .wrapping_mul(12)
         .wrapping_add(vertices.wrapping_mul(4));
-    // the table, 8 bytes a label, and the marks, a quarter of a byte a vertex
+    // the table, 8 bytes per label, and the marks, a quarter of a byte per vertex
     let table = vertices
         .wrapping_mul(8)
         .wrapping_add(vertices / 4)
@@ -159,8 +157,8 @@ fn bytes_of_scans_and_frames(rt: HostRuntime) {
     }
 }
 
-// What the engine hears, as a frame of these bytes in its memory; a reply is dropped. The bytes that live behind it, and the
-// most that it took to hear it.
+// Reads a frame from these bytes, passes it to the engine and drops the reply. Returns the bytes that are still
+// allocated then, and the most that the engine used meanwhile.
 fn live_behind<'a>(
     rt: &impl Abort,
     memory: &'a Memory,
@@ -175,10 +173,12 @@ fn live_behind<'a>(
     (memory.bytes().now, most_beside(memory, before))
 }
 
-// An engine keeps its last shard, 16 bytes a link, and a list of its live links, 12 each; the labels of its last ask, 4 bytes
-// a vertex; the table of its last scan, 8 bytes and a bit a vertex, and 4 for the label of each of its numbers. An ask takes
-// no more than the list, the table and the offers. Behind the second ask under the same labels as many bytes live as behind
-// the third, and as behind the second once the shard was sent again.
+// An engine keeps its last shard, 16 bytes per link, and a list of the shard's live links, 12 bytes each. It keeps the
+// labels of its last ask, 4 bytes per vertex. It keeps the table of its last scan, 8 bytes and a bit per vertex, and 4
+// bytes per vertex for the labels of its numbers.
+//
+// An ask uses no more than the list, the table and the offers. With the same labels, the second ask, the third ask,
+// and the second ask after the shard was sent again leave the same number of bytes allocated.
 fn expect_kept(rt: &impl Abort, alloc: Global, list: List) {
     let links = links_in(rt, alloc, list);
     let links = links.as_slice();
@@ -227,7 +227,8 @@ fn bytes_that_an_engine_keeps(rt: HostRuntime) {
     }
 }
 
-// A wire's text has room for a part of a shard: less than 128 KiB for a shard of more than a megabyte, with the answer.
+// A wire has a buffer for a part of a shard. For a shard of more than a megabyte it uses less than 128 KiB, with the
+// answer.
 #[test]
 fn bytes_of_a_wire_to_a_long_shard(rt: HostRuntime) {
     let list = List {

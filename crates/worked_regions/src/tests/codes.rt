@@ -1,4 +1,4 @@
-// The codes of refusals, as `include/boruvka.h` has them, and their texts.
+// The error codes and their texts, as in `include/boruvka.h`.
 use super::same::expect_same;
 use caller_forests::{CallRefusal, put_fault_text};
 use gr_text::GrKind;
@@ -53,7 +53,7 @@ const CODES: [(CallRefusal, i64, &[u8]); 21] = [
     (CallRefusal::Overlap, -21, b"an output overlaps an input"),
 ];
 
-// What is in a room of so many bytes, of `~` before, once the text of this code was put there.
+// Puts the text of this code into a buffer of `size` bytes, which holds `~` before, and compares the whole buffer.
 fn expect_room(
     rt: &impl Abort,
     alloc: Global,
@@ -91,7 +91,7 @@ fn numbers_that_are_no_codes(rt: HostRuntime) {
     }
 }
 
-// `BadArc` has 6 bytes, and a 0 ends it.
+// The text `BadArc` has 6 bytes, and a 0 follows it.
 #[test]
 fn small_rooms(rt: HostRuntime) {
     let rooms: [&[u8]; 8] = [

@@ -1,10 +1,11 @@
-// Which end is no vertex, of links and of columns.
+// The first endpoint that isn't a vertex, in links and in columns.
 use super::given::given;
 use super::same::expect_same;
 use caller_forests::{first_bad_end, first_bad_link};
 use worked_graphs::{Row, WORKED};
 
-// Vertices, links, and the index of the first with an end that is no vertex, or their number.
+// The number of vertices, the links, and the index of the first link with an endpoint that isn't a vertex. If there is
+// no such link, the index is the number of links.
 const LINKS: [(u32, &[Row], usize); 9] = [
     (0, &[], 0),
     (2, &[], 0),
@@ -37,7 +38,8 @@ fn links_with_a_bad_end(rt: HostRuntime) {
     }
 }
 
-// How many vertices, the first of them, numbers, and the index of the first that is none of them, or how many there are.
+// The number of vertices, the number of the first vertex, the numbers to check, and the index of the first that isn't a
+// vertex. If all are vertices, the index is how many numbers there are.
 const ENDS: [(u32, u32, &[u32], usize); 9] = [
     (0, 0, &[], 0),
     (3, 0, &[0, 2, 1], 3),
@@ -46,7 +48,7 @@ const ENDS: [(u32, u32, &[u32], usize); 9] = [
     (3, 7, &[9, 6], 1),
     (3, 7, &[10, 7], 0),
     (0, 7, &[7], 0),
-    // numbers past 32 bits don't begin at 0 again
+    // numbers past 32 bits don't wrap around to 0
     (3, u32::MAX - 1, &[u32::MAX - 1, u32::MAX, 0], 2),
     (u32::MAX, 1, &[u32::MAX, 1, 0], 2),
 ];

@@ -1,4 +1,5 @@
-// The forest of links in the caller's memory: those of the worked graphs, refusals, and a list past every inner piece.
+// The forest of links in caller-provided memory: the example graphs, errors, and a list larger than every internal
+// buffer.
 use super::given::{expect_rows, given, heap_of};
 use super::same::expect_same;
 use caller_forests::{GivenLink, have_ends, links_of, put_forest};
@@ -8,10 +9,10 @@ use worked_graphs::{Row, SMALL_NET, WORKED, Worked};
 
 const PAGE: usize = 4096;
 
-// One more vertex than there may be, 2^26.
+// One more than the 2^26 vertices that are allowed.
 const TOO_MANY: u32 = 67_108_865;
 
-// The forest of these links is written over the first of them, and what stood behind stays.
+// The forest overwrites the first links, and the links after it stay as they were.
 fn expect_forest<A: Allocator + Copy>(rt: &impl Abort, alloc: Global, within: A, graph: Worked) {
     let mut links = given(rt, alloc, graph.arcs);
     let count = put_forest(within, graph.n, links.as_mut_slice());
@@ -37,7 +38,7 @@ fn forests_of_the_worked_graphs_within_a_page(rt: HostRuntime) {
     }
 }
 
-// A call answers this code, and the links stay.
+// A call returns this code, and the links stay as they were.
 fn expect_refusal<A: Allocator + Copy>(
     rt: &impl Abort,
     alloc: Global,
@@ -51,8 +52,8 @@ fn expect_refusal<A: Allocator + Copy>(
     expect_rows(rt, alloc, links.as_slice(), rows);
 }
 
-// Vertices, one link with an end that is none of them, and the code: too many vertices come before a bad end. (More than
-// 2^30 links, which are refused too, would take 16 GB.)
+// The number of vertices, one bad link, and the code. Too many vertices are reported before a bad endpoint. More than
+// 2^30 links are an error too, but they would need 16 GB.
 const REFUSED: [(u32, Row, i64); 8] = [
     (2, (0, 1, 5), -2),
     (2, (1, 0, 5), -2),
@@ -71,7 +72,7 @@ fn links_that_are_refused(rt: HostRuntime) {
     }
 }
 
-// Without memory these are refused as they are with it, and others for want of it.
+// Without memory these errors stay the same. A correct call returns the error for out of memory.
 #[test]
 fn links_without_memory(rt: HostRuntime) {
     for (n, row, code) in REFUSED {
@@ -82,7 +83,7 @@ fn links_without_memory(rt: HostRuntime) {
     expect_refusal(&rt, rt.alloc(), &heap, SMALL_NET.n, SMALL_NET.arcs, -1);
 }
 
-// After a refusal the same links have their forest, in more memory.
+// After an error, the same links in more memory give their forest.
 #[test]
 fn links_given_again(rt: HostRuntime) {
     let mut links = given(&rt, rt.alloc(), SMALL_NET.arcs);
@@ -94,10 +95,11 @@ fn links_given_again(rt: HostRuntime) {
     expect_rows(&rt, rt.alloc(), forest, SMALL_NET.forest);
 }
 
-// How many links a path has that is past the size of every inner piece.
+// The number of links of a path that is larger than every internal buffer.
 const LONG: u32 = 200_003;
 
-// The link at this place of a long path, which weighs as much as its lower end; every second one has its ends turned.
+// The link at this index of a long path. It weighs as much as its lower endpoint, and every second link has its
+// endpoints swapped.
 fn long_row(place: u32) -> Row {
     let low = place.wrapping_add(1);
     let high = place.wrapping_add(2);
@@ -108,7 +110,7 @@ fn long_row(place: u32) -> Row {
     }
 }
 
-// All links of a long path are its forest.
+// All links of a long path are in its forest.
 fn expect_long<A: Allocator + Copy>(
     rt: &impl Abort,
     alloc: Global,
@@ -122,8 +124,8 @@ fn expect_long<A: Allocator + Copy>(
     expect_rows(rt, alloc, links.as_slice(), wanted);
 }
 
-// The heaviest comes first: the forest has them in the other order, lower ends first. The heap has 26 bytes a link, 10 a
-// vertex and 16384 more.
+// The heaviest link comes first. The forest has the links in the opposite order, lower endpoints first. The heap has 26
+// bytes per link, 10 per vertex and 16384 more.
 #[test]
 fn the_forest_of_a_long_path(rt: HostRuntime) {
     let mut rows = Vec::new(rt.alloc());
@@ -166,7 +168,7 @@ fn ends_of_links(rt: HostRuntime) {
     }
 }
 
-// What the links that these stand for say.
+// The rows of the links that `links_of` makes of these rows, or `None` if it is out of memory.
 fn rows_of<A: Allocator + Copy>(
     rt: &impl Abort,
     alloc: Global,
@@ -188,7 +190,7 @@ fn rows_of<A: Allocator + Copy>(
     Some(found)
 }
 
-// Lower ends come first, loops are left out, and repeats are kept.
+// Lower endpoints come first, loops are left out, and repeats are kept.
 #[test]
 fn links_of_given_links(rt: HostRuntime) {
     let arcs = [(4, 2, 7), (3, 3, -1), (2, 4, 7), (1, 4, i64::MIN)];

@@ -6,23 +6,21 @@ use std::alloc::{AllocError, Allocator, Global};
 use std::process::Abort;
 use worked_graphs::Row;
 
-// A region of so many bytes.
 pub(crate) fn region_of(rt: &impl Abort, alloc: Global, size: usize) -> Region {
     Region::leaked(&alloc, size).expect(rt, "memory")
 }
 
-// The heap within a region of so many bytes.
+// A heap within a region of this size, in bytes.
 pub(crate) fn heap_of(rt: &impl Abort, alloc: Global, size: usize) -> RegionHeap {
     heap_within(region_of(rt, alloc, size))
 }
 
-// Whether there is memory for a list of so many values.
+// Whether the allocator has memory for a list of `count` values.
 pub(crate) fn has_room<T: Drop, A: Allocator>(alloc: A, count: usize) -> bool {
     let list: Result<Vec<T, A>, AllocError> = Vec::with_capacity(alloc, count);
     list.is_ok()
 }
 
-// The rows as they are given.
 pub(crate) fn given(rt: &impl Abort, alloc: Global, rows: &[Row]) -> Vec<GivenLink> {
     let mut links = Vec::new(alloc);
     for (low, high, weight) in rows {
@@ -37,7 +35,6 @@ pub(crate) fn given(rt: &impl Abort, alloc: Global, rows: &[Row]) -> Vec<GivenLi
     links
 }
 
-// The links are these rows.
 pub(crate) fn expect_rows(rt: &impl Abort, alloc: Global, links: &[GivenLink], rows: &[Row]) {
     let mut found = Vec::new(alloc);
     for link in links {

@@ -1,5 +1,5 @@
-// A heap within a region: how many bytes it has left after blocks of each size and alignment, and after blocks went back in
-// each order, grew and shrank. A page has 4096 bytes, of which 4032 are room.
+// A heap within a region: the bytes that it has left after blocks of each size and alignment, and after blocks were
+// freed in each order, grew and shrank. A page has 4096 bytes, of which 4032 are available for blocks.
 use super::given::{has_room, heap_of};
 use super::same::expect_same;
 use region_heap::RegionHeap;
@@ -8,7 +8,7 @@ use std::process::Abort;
 
 const PAGE: usize = 4096;
 
-// What is left once a list of so many values has room, in a page of which a byte is taken.
+// The bytes that a page has left after one byte and then a list of `count` values were allocated.
 fn left_after<T: Drop>(rt: &impl Abort, alloc: Global, count: usize) -> usize {
     let heap = heap_of(rt, alloc, PAGE);
     let byte = bytes(rt, &heap, 1);
@@ -31,8 +31,8 @@ fn list_of<'a, T: Drop>(
     Vec::with_capacity(heap, count).expect(rt, "memory")
 }
 
-// Units of 16 bytes, and what they leave of 4031 bytes as values of 1, 2, 4, 8 and 16 bytes. The last block begins at a
-// multiple of the alignment: of 2 at most at 4030, of 4 at 4028, of 8 at 4024, of 16 at 4016.
+// A number of units of 16 bytes. Then the bytes that they leave of 4031, as values of 1, 2, 4, 8 and 16 bytes. The last
+// block begins at a multiple of its alignment: at 4030 for 2, at 4028 for 4, at 4024 for 8 and at 4016 for 16.
 const LEFT: [(usize, [usize; 5]); 4] = [
     (0, [4031, 4031, 4031, 4031, 4031]),
     (1, [4015, 4014, 4012, 4008, 4000]),
@@ -54,7 +54,8 @@ fn blocks_of_each_size_and_alignment(rt: HostRuntime) {
     }
 }
 
-// One value each: 1 byte leaves 4031, then 2 bytes at 4028, 4 at 4024, 8 at 4016, 16 at 4000.
+// One value each. A value of 1 byte leaves 4031 bytes. The values of 2, 4, 8 and 16 bytes begin at 4028, 4024, 4016 and
+// 4000.
 #[test]
 fn blocks_of_rising_alignment(rt: HostRuntime) {
     let heap = heap_of(&rt, rt.alloc(), PAGE);
@@ -75,7 +76,7 @@ fn blocks_of_rising_alignment(rt: HostRuntime) {
     expect_same(&rt, heap.chunk_capacity(), 4030);
 }
 
-// The bytes of a region, the most that a block in it can have, and one more: whole pages count, less 64 bytes.
+// The bytes of a region, and the most that a block in it can have: 64 bytes less than the whole pages of the region.
 #[test]
 fn regions_of_just_enough_pages(rt: HostRuntime) {
     for (size, most) in [
@@ -87,7 +88,7 @@ fn regions_of_just_enough_pages(rt: HostRuntime) {
     ] {
         let heap = heap_of(&rt, rt.alloc(), size);
         expect_same(&rt, has_room::<u8, &RegionHeap>(&heap, most + 1), false);
-        // what was refused took nothing
+        // the allocation that failed used no memory
         expect_same(&rt, has_room::<u8, &RegionHeap>(&heap, most), true);
         expect_same(&rt, (size, heap.chunk_capacity()), (size, most));
     }
@@ -100,7 +101,7 @@ fn a_region_of_no_bytes(rt: HostRuntime) {
     expect_same(&rt, has_room::<u8, &RegionHeap>(&heap, 0), true);
 }
 
-// A refusal leaves what was allocated, and the room that is left.
+// An allocation that fails changes neither the earlier blocks nor the bytes that are left.
 #[test]
 fn a_block_that_is_refused(rt: HostRuntime) {
     let heap = heap_of(&rt, rt.alloc(), PAGE);
@@ -111,8 +112,8 @@ fn a_block_that_is_refused(rt: HostRuntime) {
     expect_same(&rt, has_room::<u8, &RegionHeap>(&heap, 4016), true);
 }
 
-// The orders in which three blocks of 16, 32 and 48 bytes go back, and what is left after each. They begin at 4016, 3984 and
-// 3936: what goes back is free again only where it is the lowest then.
+// The orders in which three blocks of 16, 32 and 48 bytes are freed, and the bytes that are left after each. The blocks
+// begin at 4016, 3984 and 3936. A freed block can be used again only if it is the lowest one at that time.
 const ORDERS: [([usize; 3], [usize; 3]); 6] = [
     ([2, 1, 0], [3984, 4016, 4032]),
     ([2, 0, 1], [3984, 3984, 4016]),
@@ -122,7 +123,6 @@ const ORDERS: [([usize; 3], [usize; 3]); 6] = [
     ([0, 1, 2], [3936, 3936, 3984]),
 ];
 
-// What is left after each of three blocks went back in this order.
 fn left_after_each(rt: &impl Abort, alloc: Global, order: [usize; 3]) -> [usize; 3] {
     let heap = heap_of(rt, alloc, PAGE);
     let mut blocks = [
@@ -151,7 +151,8 @@ fn blocks_given_back_in_each_order(rt: HostRuntime) {
     }
 }
 
-// The last block grows by the 32 bytes below it, keeps its bytes when it shrinks, and gives back as many as it has then.
+// The last block grows by the 32 bytes below it, and keeps its bytes when it shrinks. When it is freed, only the bytes
+// that it still has are free again.
 #[test]
 fn the_last_block_grown_and_shrunk(rt: HostRuntime) {
     let heap = heap_of(&rt, rt.alloc(), PAGE);
@@ -169,7 +170,7 @@ fn the_last_block_grown_and_shrunk(rt: HostRuntime) {
     expect_same(&rt, heap.chunk_capacity(), 4000);
 }
 
-// Where it holds more values than it grows by it moves instead, and the old bytes stay lost.
+// If the block holds more values than it grows by, it moves instead, and its old bytes stay lost.
 #[test]
 fn the_last_block_that_is_nearly_full(rt: HostRuntime) {
     let heap = heap_of(&rt, rt.alloc(), PAGE);
@@ -180,7 +181,8 @@ fn the_last_block_that_is_nearly_full(rt: HostRuntime) {
     expect_same(&rt, last.as_slice(), [1, 2, 3, 4].as_slice());
 }
 
-// Another block moves below the last one, which stays as it was. What it leaves is free again only with the region.
+// A block other than the last moves below the last one, which stays as it was. Its old bytes are free again only with
+// the region.
 #[test]
 fn another_block_grown(rt: HostRuntime) {
     let heap = heap_of(&rt, rt.alloc(), PAGE);
@@ -197,7 +199,7 @@ fn another_block_grown(rt: HostRuntime) {
     expect_same(&rt, heap.chunk_capacity(), 4016);
 }
 
-// 32 bytes are left below the last block: it grows by just these, and by no byte more. A refusal leaves it as it was.
+// 32 bytes are left below the last block. It can grow by exactly these bytes. After a failed growth it is as it was.
 #[test]
 fn the_last_block_grown_to_the_end(rt: HostRuntime) {
     let heap = heap_of(&rt, rt.alloc(), PAGE);

@@ -1,4 +1,5 @@
-// The labels of vertices by links in the caller's memory: those of trees, refusals, and a path past every inner piece.
+// The labels of vertices by links in caller-provided memory: trees, errors, and a path larger than every internal
+// buffer.
 use super::given::{expect_rows, given, heap_of};
 use super::same::expect_same;
 use caller_forests::put_labels;
@@ -11,28 +12,28 @@ const PAGE: usize = 4096;
 // A label that no call here writes.
 const NONE: u32 = 77;
 
-// Links, and the label of each vertex, by hand: the least vertex that the links join with it.
+// Links, and the label of each vertex, worked out by hand: the least vertex that the links connect with it.
 type Labelled = (&'static [Row], &'static [u32]);
 
 const LABELLED: [Labelled; 6] = [
     (&[], &[]),
     (&[], &[1, 2, 3]),
     (&[(2, 1, -4)], &[1, 1]),
-    // the small net's three lightest links
+    // the three lightest edges of the small net
     (&[(2, 5, 0), (3, 4, 0), (3, 5, 0)], &[1, 2, 2, 2, 2, 6]),
-    // a star whose hub has the highest number, and a pair, in no order of weights
+    // a star whose hub has the highest number, and a pair, not sorted by weight
     (
         &[(6, 2, 9), (3, 6, 1), (5, 1, 4), (6, 4, 0)],
         &[1, 2, 2, 2, 1, 2],
     ),
-    // all of the small net's forest
+    // the whole forest of the small net
     (
         &[(2, 5, 0), (3, 4, 0), (3, 5, 0), (4, 6, 3), (1, 3, 10)],
         &[1, 1, 1, 1, 1, 1],
     ),
 ];
 
-// A call over these links returns the code or the count, and leaves these labels. The links stay.
+// A call over these links returns the code or the count, and writes these labels. The links stay as they were.
 fn expect_labels<A: Allocator + Copy>(
     rt: &impl Abort,
     alloc: Global,
@@ -58,8 +59,8 @@ fn labels_of_trees(rt: HostRuntime) {
     }
 }
 
-// Two links between three vertices, and the code, which comes before memory is asked for: an end, then a loop. (More than
-// 2^30 links or 2^26 vertices, which are refused too, are tried in C.)
+// Two links between three vertices, and the code, which is returned before memory is allocated. A bad endpoint is
+// reported before a loop. More than 2^30 links and 2^26 vertices are errors too, which tests in C try.
 const REFUSED: [([Row; 2], i64); 4] = [
     ([(1, 2, 1), (2, 4, 2)], -2),
     ([(3, 3, 1), (0, 3, 0)], -2),
@@ -80,10 +81,10 @@ fn labels_that_are_refused(rt: HostRuntime) {
     expect_labels(&rt, rt.alloc(), &none, &cycle, -1, &[NONE; 3]);
 }
 
-// How many links a path has that is past the size of every inner piece.
+// The number of links of a path that is larger than every internal buffer.
 const LONG: u32 = 200_003;
 
-// A path of which the first link and the one in its middle are left out. The heap has 25 bytes a link, 12 a vertex and 16384
+// A path without its first link and the one in its middle. The heap has 25 bytes per link, 12 per vertex and 16384
 // more.
 #[test]
 fn the_labels_of_a_long_path(rt: HostRuntime) {

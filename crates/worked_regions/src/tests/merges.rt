@@ -1,4 +1,4 @@
-// The merges of links in the caller's memory: those of trees, refusals, and a path past every inner piece.
+// The merges of links in caller-provided memory: trees, errors, and a path larger than every internal buffer.
 use super::given::{expect_rows, given, heap_of};
 use super::same::expect_same;
 use caller_forests::{have_no_loop, put_merges};
@@ -9,7 +9,7 @@ use worked_graphs::{Row, SMALL_NET};
 
 const PAGE: usize = 4096;
 
-// One more vertex than there may be, 2^26.
+// One more than the 2^26 vertices that are allowed.
 const TOO_MANY: u32 = 67_108_865;
 
 // A merge that no call makes.
@@ -19,15 +19,15 @@ const NONE: Merge = Merge {
     size: 0,
 };
 
-// Points, links in ascending order of weight, and the two clusters and the size of each merge, by hand: the cluster v - 1
-// is the vertex v, and the link at place i makes the cluster n + i.
+// The number of points, links sorted by weight, and the two clusters and the size of each merge, worked out by hand.
+// Cluster v - 1 is the vertex v, and the link at index i makes the cluster n + i.
 type Joined = (u32, &'static [Row], &'static [(u32, u32, u32)]);
 
 const JOINED: [Joined; 7] = [
     (0, &[], &[]),
     (1, &[], &[]),
     (2, &[(2, 1, -4)], &[(0, 1, 2)]),
-    // a path, from one end on
+    // a path, from one end to the other
     (
         4,
         &[(1, 2, 1), (2, 3, 2), (3, 4, 3)],
@@ -39,7 +39,7 @@ const JOINED: [Joined; 7] = [
         &[(4, 3, 1), (1, 2, 2), (2, 3, 9)],
         &[(2, 3, 2), (0, 1, 2), (4, 5, 4)],
     ),
-    // a star of equal weights, and two points that no link joins
+    // a star of equal weights, and two points without links
     (
         6,
         &[(5, 1, 0), (5, 3, 0), (5, 2, 0)],
@@ -53,7 +53,7 @@ const JOINED: [Joined; 7] = [
     ),
 ];
 
-// Room for so many merges, each of them none.
+// A buffer for `count` merges, each of them `NONE`.
 fn room_for(rt: &impl Abort, alloc: Global, count: usize) -> Vec<Merge> {
     Vec::from_elem(alloc, NONE, count).expect(rt, "memory")
 }
@@ -95,7 +95,7 @@ fn merges_of_trees_within_a_page(rt: HostRuntime) {
     }
 }
 
-// A call answers this code, and the room stays.
+// A call returns this code, and the buffer stays as it was.
 fn expect_refusal<A: Allocator + Copy>(
     rt: &impl Abort,
     alloc: Global,
@@ -116,8 +116,9 @@ fn expect_refusal<A: Allocator + Copy>(
     expect_same(rt, merges.as_slice(), stayed.as_slice());
 }
 
-// Vertices, two links, room, and the code, which comes before memory is wanted: lengths, then vertices, then an end, then a
-// loop. (More than 2^30 links, which are refused too, would take 16 GB.)
+// The number of vertices, two links, the length of the buffer, and the code, which is returned before memory is
+// allocated. Lengths are checked first, then vertices, then endpoints, then loops. More than 2^30 links are an error
+// too, but they would need 16 GB.
 const REFUSED: [(u32, [Row; 2], usize, i64); 10] = [
     (3, [(1, 2, 1), (2, 3, 2)], 1, -17),
     (3, [(1, 2, 1), (2, 3, 2)], 3, -17),
@@ -131,7 +132,8 @@ const REFUSED: [(u32, [Row; 2], usize, i64); 10] = [
     (3, [(2, 2, 1), (1, 3, 0)], 2, -19),
 ];
 
-// Links that are refused only once memory is there: a cycle, also if they descend, or descending weights.
+// Links whose error is found only after memory was allocated: a cycle, even if the weights descend, or descending
+// weights.
 const LATER: [(u32, &[Row], i64); 5] = [
     (2, &[(1, 2, 1), (2, 1, 1)], -19),
     (2, &[(1, 2, 4), (1, 2, 3)], -19),
@@ -150,7 +152,7 @@ fn merges_that_are_refused(rt: HostRuntime) {
     }
 }
 
-// Without memory the first are refused as they are with it, and the others for want of it.
+// Without memory the first errors stay the same, and the later ones become out of memory.
 #[test]
 fn merges_without_memory(rt: HostRuntime) {
     for (n, rows, room, code) in REFUSED {
@@ -163,7 +165,7 @@ fn merges_without_memory(rt: HostRuntime) {
     }
 }
 
-// After a refusal the same links have their merges, in more memory: those of the small net's forest.
+// After an error, the same links in more memory give their merges. The links are the forest of the small net.
 #[test]
 fn merges_asked_for_again(rt: HostRuntime) {
     let links = given(&rt, rt.alloc(), SMALL_NET.forest);
@@ -185,11 +187,11 @@ fn merges_asked_for_again(rt: HostRuntime) {
     );
 }
 
-// How many links a path has that is past the size of every inner piece.
+// The number of links of a path that is larger than every internal buffer.
 const LONG: u32 = 200_003;
 
-// Link i joins the vertex i + 2 to those before it, which are the cluster n + i - 1, or the point 0 at first. The heap has 32
-// bytes a link, 4 a vertex and 16384 more.
+// Link i joins the vertex i + 2 to those before it. These are the cluster n + i - 1, or at first the point 0. The heap
+// has 32 bytes per link, 4 per vertex and 16384 more.
 #[test]
 fn the_merges_of_a_long_path(rt: HostRuntime) {
     let n = LONG.wrapping_add(1);
@@ -229,10 +231,11 @@ fn loops_of_links(rt: HostRuntime) {
     expect_same(&rt, have_no_loop(none.as_slice()), true);
 }
 
-// The number of leaves of a star, and one more: a prime, so the products of a leaf with 7919 are all leaves.
+// The number of leaves of a star, and one more. It is a prime, so that the multiples of 7919 reach every leaf.
 const PRIME: u32 = 100_003;
 
-// The point 0 is the hub. The leaf 7919 (i + 1) modulo the prime comes at place i, to the cluster n + i - 1, or to the hub.
+// The point 0 is the hub. Link i joins the leaf 7919 (i + 1) modulo the prime to the cluster n + i - 1, or at first to
+// the hub.
 #[test]
 fn the_merges_of_a_shuffled_star(rt: HostRuntime) {
     let mut rows = Vec::new(rt.alloc());
@@ -261,8 +264,9 @@ fn the_merges_of_a_shuffled_star(rt: HostRuntime) {
     );
 }
 
-// A path of 2^17 vertices, whose links join vertices to pairs, then pairs to fours, and so on. Of so many pairs, a power of
-// two, the one at place i is 5 i; so pair q is at place 52429 q, since 5 times 52429 is 1 modulo 2^17.
+// A path of 2^17 vertices, whose links join vertices to pairs, then pairs to fours, and so on. The number of pairs at a
+// level is a power of two. Link i of a level makes pair 5 i modulo that number. So link 52429 q makes pair q, because 5
+// times 52429 is 1 modulo 2^17.
 #[test]
 fn the_merges_of_a_shuffled_path(rt: HostRuntime) {
     let n = 1u32 << 17;
@@ -294,7 +298,7 @@ fn the_merges_of_a_shuffled_path(rt: HostRuntime) {
     );
 }
 
-// The cluster that is part q of the path in so many parts.
+// The cluster that is section q of the path, if the path is split into `parts` sections.
 fn cluster_of(n: u32, parts: u32, q: u32) -> u32 {
     if parts == n {
         return q;

@@ -1,5 +1,5 @@
-// The indices of forests' links among arcs in three columns: those of the worked graphs, refusals, and a path past every
-// inner piece.
+// The indices of the edges of a forest among arcs in three columns: the example graphs, errors, and a path larger than
+// every internal buffer.
 use super::given::heap_of;
 use super::same::expect_same;
 use caller_forests::{Columns, put_places};
@@ -9,7 +9,7 @@ use worked_graphs::{Row, SMALL_NET, WORKED, Worked};
 
 const PAGE: usize = 4096;
 
-// One more vertex than there may be, 2^26.
+// One more than the 2^26 vertices that are allowed.
 const TOO_MANY: u32 = 67_108_865;
 
 // An index that no call here writes.
@@ -23,7 +23,7 @@ struct Owned {
     weights: Vec<i64>,
 }
 
-// The columns of rows whose vertices are numbered from 1 on, with numbers from `base` on.
+// The columns of rows. Vertex 1 of the rows becomes `base`, vertex 2 becomes `base` + 1, and so on.
 fn columns_of(rt: &impl Abort, alloc: Global, rows: &[Row], base: u32) -> Owned {
     let mut tails = Vec::new(alloc);
     let mut heads = Vec::new(alloc);
@@ -44,7 +44,7 @@ fn columns_of(rt: &impl Abort, alloc: Global, rows: &[Row], base: u32) -> Owned 
     }
 }
 
-// A call over these rows returns the count, and leaves these places.
+// A call over these rows returns the count, and writes these indices.
 fn expect_places<A: Allocator + Copy>(
     rt: &impl Abort,
     alloc: Global,
@@ -67,7 +67,7 @@ fn expect_places<A: Allocator + Copy>(
     expect_same(rt, places.as_slice(), wanted);
 }
 
-// The index of the first arc that is this link, either way.
+// The index of the first arc that is this link, in either direction.
 fn first_of(arcs: &[Row], link: Row) -> u32 {
     let mut index = 0u32;
     for (tail, head, weight) in arcs {
@@ -79,7 +79,7 @@ fn first_of(arcs: &[Row], link: Row) -> u32 {
     NONE
 }
 
-// The indices of a graph's forest, and behind them what was there.
+// The indices of the forest of a graph, and after them one entry that stays as it was.
 fn places_of(rt: &impl Abort, alloc: Global, graph: Worked) -> Vec<u32> {
     let mut wanted = Vec::new(alloc);
     for link in graph.forest {
@@ -109,7 +109,7 @@ fn places_of_the_worked_graphs(rt: HostRuntime) {
     }
 }
 
-// By hand: of the small net's arcs those at 6, 4, 3, 5 and 1 are its forest, in the order of the links.
+// Worked out by hand: the arcs at 6, 4, 3, 5 and 1 are the forest of the small net, in the order of its links.
 #[test]
 fn places_of_the_small_net(rt: HostRuntime) {
     let wanted = [6, 4, 3, 5, 1];
@@ -123,7 +123,7 @@ fn places_of_the_small_net(rt: HostRuntime) {
     );
 }
 
-// Loops have no place, and of equal arcs, either way, it is the first.
+// Loops have no index. Of equal arcs, in either direction, the first one counts.
 #[test]
 fn places_of_loops_and_repeats(rt: HostRuntime) {
     let rows = [(2, 2, -9), (3, 1, 4), (1, 3, 4), (1, 3, 4), (1, 1, 0)];
@@ -131,8 +131,9 @@ fn places_of_loops_and_repeats(rt: HostRuntime) {
     expect_places(&rt, rt.alloc(), rt.alloc(), (0, 0, &[]), 0, &[]);
 }
 
-// Vertices, the arc 1 to 2 and this one, and the code: too many vertices come before a bad end, and that before too few
-// places. (More than 2^30 arcs, which are refused too, would take 16 GB.)
+// The number of vertices, an arc after the arc from 1 to 2, and the code. Too many vertices are reported before a bad
+// endpoint, and that before an output array that is too small. More than 2^30 arcs are an error too, but they would
+// need 16 GB.
 const REFUSED: [(u32, Row, i64); 4] = [
     (3, (0, 1, 5), -2),
     (3, (1, 4, 5), -2),
@@ -154,7 +155,7 @@ fn places_that_are_refused(rt: HostRuntime) {
     expect_places(&rt, rt.alloc(), &none, (3, 1, &rows), -1, &[NONE]);
 }
 
-// Columns of which one is shorter than the others, before all other refusals.
+// One column is shorter than the others. This error is reported before all others.
 #[test]
 fn columns_of_other_lengths(rt: HostRuntime) {
     let of = columns_of(&rt, rt.alloc(), SMALL_NET.arcs, 1);
@@ -175,10 +176,10 @@ fn columns_of_other_lengths(rt: HostRuntime) {
     }
 }
 
-// How many arcs a path has that is past the size of every inner piece.
+// The number of arcs of a path that is larger than every internal buffer.
 const LONG: u32 = 200_003;
 
-// The heaviest comes first, so the indices descend. The heap has 29 bytes an arc, 29 a vertex and 16384 more.
+// The heaviest arc comes first, so the indices descend. The heap has 29 bytes per arc, 29 per vertex and 16384 more.
 #[test]
 fn the_places_of_a_long_path(rt: HostRuntime) {
     let mut rows = Vec::new(rt.alloc());

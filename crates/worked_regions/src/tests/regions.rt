@@ -1,11 +1,10 @@
-// A region, and the allocator that gives it out as one block.
+// A region, and the allocator that provides it as one block.
 use super::given::{has_room, region_of};
 use super::same::expect_same;
 use region_heap::{OneBlock, Region};
 use std::alloc::Global;
 use std::process::Abort;
 
-// The allocator over a region of so many bytes.
 fn one_block(rt: &impl Abort, alloc: Global, size: usize) -> OneBlock {
     OneBlock::new(region_of(rt, alloc, size))
 }
@@ -17,7 +16,8 @@ fn sizes_of_regions(rt: HostRuntime) {
     }
 }
 
-// An allocator of 48 bytes gives up three units, and nothing after that. No block has 2^63 bytes.
+// An allocator over 48 bytes provides three units of 16 bytes once, and nothing after that. No block can have 2^63
+// bytes.
 #[test]
 fn regions_that_are_refused(rt: HostRuntime) {
     let one = one_block(&rt, rt.alloc(), 48);
@@ -30,7 +30,8 @@ fn regions_that_are_refused(rt: HostRuntime) {
     expect_same(&rt, Region::leaked(&one, 16).is_err(), true);
 }
 
-// The bytes of a region, those of a block, and whether it is given out: whole units of 16 bytes, as many as there are.
+// The bytes of a region, the bytes of a block, and whether the allocation succeeds. It does for whole units of 16
+// bytes, if the region has as many.
 const BLOCKS: [(usize, usize, bool); 18] = [
     (0, 0, true),
     (0, 16, false),
@@ -64,7 +65,7 @@ fn blocks_of_up_to_three_units(rt: HostRuntime) {
     }
 }
 
-// The same by the number of values, of 2, 4, 8 and 16 bytes, which are aligned to as many. The region has 3 units.
+// The same for numbers of values of 2, 4, 8 and 16 bytes, each aligned to its size. The region has 3 units.
 #[test]
 fn blocks_of_each_alignment(rt: HostRuntime) {
     for (units, is_given) in [(0, true), (1, true), (2, true), (3, true), (4, false)] {
@@ -85,11 +86,11 @@ fn parts_of_a_unit(rt: HostRuntime) {
     expect_same(&rt, has_room::<u16, &OneBlock>(&one, 7), false);
     expect_same(&rt, has_room::<u32, &OneBlock>(&one, 3), false);
     expect_same(&rt, has_room::<u64, &OneBlock>(&one, 5), false);
-    // what was refused took nothing
+    // the allocations that failed used no memory
     expect_same(&rt, has_room::<u64, &OneBlock>(&one, 6), true);
 }
 
-// It is given out once: not beside the first block, and not after that came back.
+// The memory is provided once. A second allocation fails while the first block exists, and also after it was freed.
 #[test]
 fn a_second_block(rt: HostRuntime) {
     let one = one_block(&rt, rt.alloc(), 48);

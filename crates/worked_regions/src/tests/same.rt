@@ -1,8 +1,8 @@
-// What is found beside what is expected. A call of it costs a caller's proof less than an assertion does.
+// Compares a result with what is expected. A call of this function costs a caller's proof less than an assertion does.
 use std::fmt::Debug;
 use std::process::Abort;
 
-// Both are the same. Where many are compared in turn, the place stands in both.
+// Fails unless both are equal. If several are compared in a loop, both contain the index or the case.
 pub(crate) fn expect_same<T: PartialEq + Debug + Drop>(rt: &impl Abort, found: T, expected: T) {
     assert_eq!(rt; found, expected);
 }

@@ -1,5 +1,5 @@
-// The text of the forest of a text in the caller's memory: those of the worked graphs, the fault of each line, rooms that
-// are small, and a text past every inner piece.
+// The text of the forest of a text in caller-provided memory: the example graphs, each error of a line, small buffers,
+// and a text larger than every internal buffer.
 use super::given::heap_of;
 use super::same::expect_same;
 use caller_forests::{Fault, put_forest_text};
@@ -7,22 +7,22 @@ use std::alloc::{Allocator, Global};
 use std::process::Abort;
 use worked_graphs::{SMALL_NET, WORKED};
 
-// What a room holds before a call.
+// The bytes of a buffer before a call.
 const MARK: u8 = 0xa5;
 
-// Enough for the text of each worked graph.
+// Enough memory for each example graph.
 const PAGES: usize = 16_384;
 
 fn room_of(rt: &impl Abort, alloc: Global, size: usize) -> Vec<u8> {
     Vec::from_elem(alloc, MARK, size).expect(rt, "memory")
 }
 
-// A fault that no call puts there.
+// An error that no call here reports.
 fn some_fault() -> Fault {
     Fault { kind: 7, line: 7 }
 }
 
-// The text that a call answers for this one, in a room of so many bytes: its first bytes, and as many as the room has.
+// The call returns the length of the wanted text. It writes as much of that text as fits a buffer of `size` bytes.
 fn expect_text<A: Allocator + Copy>(
     rt: &impl Abort,
     alloc: Global,
@@ -66,7 +66,7 @@ fn texts_of_the_worked_graphs_within_pages(rt: HostRuntime) {
     }
 }
 
-// A call answers this code with this line, and the room stays.
+// A call returns this code and reports this line, and the buffer stays as it was.
 fn expect_fault<A: Allocator + Copy>(
     rt: &impl Abort,
     alloc: Global,
@@ -86,7 +86,7 @@ fn expect_fault<A: Allocator + Copy>(
     expect_same(rt, room.as_slice(), [MARK; 100].as_slice());
 }
 
-// A text with each fault that a line can have, the fault's code, and the line.
+// A text for each error that a line can have, the code of the error, and the line.
 const FAULTY: [(&[u8], i64, u64); 13] = [
     (b"x\n", -6, 1),
     (b"c\na 1 2 3\n", -7, 2),
@@ -99,7 +99,7 @@ const FAULTY: [(&[u8], i64, u64); 13] = [
     (b"p sp 2 0\na 1 2 3\n", -14, 2),
     (b"", -15, 1),
     (b"p sp 2 1\n", -16, 2),
-    // the first of two
+    // of two errors the first is reported
     (b"p sp 2 1\na 1 3 1\nx\n", -12, 2),
     (b"c\nc\nx\np sp two 0\n", -6, 3),
 ];
@@ -111,7 +111,7 @@ fn texts_that_are_refused(rt: HostRuntime) {
     }
 }
 
-// After a refusal the same memory serves another text.
+// After an error, the same memory can be used for another text.
 #[test]
 fn a_text_without_memory(rt: HostRuntime) {
     let none = heap_of(&rt, rt.alloc(), 0);
@@ -121,8 +121,8 @@ fn a_text_without_memory(rt: HostRuntime) {
     expect_text(&rt, rt.alloc(), &pages, SMALL_NET.file, 100, SMALL_NET.text);
 }
 
-// A path that is past the size of every inner piece, each link as heavy as its lower end: its text is that of its forest.
-// The heap has 4 times its length, 10 bytes a vertex and 16384 more.
+// A path whose text is larger than every internal buffer. Each edge weighs as much as its lower endpoint, so the text
+// of its forest is the same. The heap has 4 times the length of the text, 10 bytes per vertex and 16384 more.
 #[test]
 fn the_text_of_a_long_path(rt: HostRuntime) {
     let mut text = Vec::from_slice(rt.alloc(), b"p sp 200004 200003\n").expect(&rt, "memory");

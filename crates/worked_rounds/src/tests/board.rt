@@ -11,7 +11,6 @@ use std::sync::atomic::{AtomicU64, Ordering};
 use std::thread;
 use std::thread::Threads;
 
-// A claim by the seat of this number.
 fn claim(board: &Board<Global>, seats: &mut Vec<Seat>, number: usize, shard: u32) -> Claim
     requires seats { AreSeats board.now seats.old.items }
     requires number { number < board.now.seats }
@@ -21,7 +20,7 @@ fn claim(board: &Board<Global>, seats: &mut Vec<Seat>, number: usize, shard: u32
     board.claim(&mut seats[number], shard)
 }
 
-// Gives the shard back where the seat of this number holds it, and says whether it did.
+// If the seat of this number holds the shard, it gives the shard back. Returns whether it held it.
 fn give_back(board: &Board<Global>, seats: &mut Vec<Seat>, number: usize, shard: u32) -> bool
     requires seats { AreSeats board.now seats.old.items }
     requires number { number < board.now.seats }
@@ -54,7 +53,6 @@ fn a_shard_goes_from_seat_to_seat(rt: HostRuntime) {
     expect_same(&rt, found, (true, Some(1), None, None));
 }
 
-// Claims every shard in ascending order, and answers how many it won.
 fn claim_all(board: &Board<Global>, seat: &mut Seat) -> u64
     requires seat { seat.old.board ≡ board.now }
     requires shards { board.now.shards ≡ 4096 }
@@ -69,7 +67,7 @@ fn claim_all(board: &Board<Global>, seat: &mut Seat) -> u64
     wins
 }
 
-// Each seat claims every shard in a thread of its own. Answers how many wins there were in all.
+// Each seat claims every shard in a thread of its own. Returns how many claims were won in all.
 fn claim_all_at_once<R: Threads + Sync>(rt: &R, board: &Board<Global>, seats: &mut Vec<Seat>) -> u64
     requires seats { AreSeats board.now seats.old.items }
     requires shards { board.now.shards ≡ 4096 }
@@ -100,7 +98,7 @@ fn two_threads_share_all_shards(rt: HostRuntime) {
     expect_same(&rt, (wins, are_held), (4096, true));
 }
 
-// Whether each shard has an owner, who is the holder of its place.
+// Whether each shard has an owner, and that is its entry of `holders`.
 fn are_held(owners: &Owners<Global>, holders: &[Option<u32>]) -> bool {
     let mut all = true;
     for shard in 0..MAX_SHARDS as u32 {
@@ -110,7 +108,6 @@ fn are_held(owners: &Owners<Global>, holders: &[Option<u32>]) -> bool {
     all
 }
 
-// The seat that holds a shard, of each shard.
 fn holders(rt: &impl Abort, alloc: Global, seats: &[Seat]) -> Vec<Option<u32>> {
     let mut holders = Vec::with_capacity(alloc, MAX_SHARDS).expect(rt, "memory");
     for shard in 0..MAX_SHARDS as u32 {
@@ -125,7 +122,7 @@ fn holders(rt: &impl Abort, alloc: Global, seats: &[Seat]) -> Vec<Option<u32>> {
     holders
 }
 
-// An odd shard is given back. Whether it was, or is even.
+// Gives an odd shard back. Returns whether it was held, or true for an even shard.
 fn give_back_odd(board: &Board<Global>, seats: &mut Vec<Seat>, number: usize, shard: u32) -> bool
     requires seats { AreSeats board.now seats.old.items }
     requires number { number < board.now.seats }
@@ -138,8 +135,8 @@ fn give_back_odd(board: &Board<Global>, seats: &mut Vec<Seat>, number: usize, sh
     give_back(board, seats, number, shard)
 }
 
-// Each shard is claimed twice by the seat whose number is the remainder of its own, and an odd one is given back. Whether
-// each of these went so.
+// The seat numbered `shard % count` claims each shard twice, and gives the shard back if it is odd. Returns whether
+// each call did what it should.
 fn take_turns(board: &Board<Global>, seats: &mut Vec<Seat>, shards: u32, count: u32) -> bool
     requires seats { AreSeats board.now seats.old.items }
     requires shards { board.now.shards ≡ shards }
@@ -158,7 +155,7 @@ fn take_turns(board: &Board<Global>, seats: &mut Vec<Seat>, shards: u32, count: 
     all
 }
 
-// A board of this size has its seats in order, and closes with the owners that claims left.
+// A board of this size opens with its seats in order, and closes with the owners that the claims leave.
 fn expect_board(rt: &impl Abort, alloc: Global, shards: u32, count: u32) {
     assert!(rt; 1 <= shards && shards <= MAX_SHARDS as u32 && 1 <= count && count <= MAX_WORKERS);
     let (board, mut seats) = Board::open(alloc, shards, count).expect(rt, "memory");
@@ -173,7 +170,7 @@ fn expect_board(rt: &impl Abort, alloc: Global, shards: u32, count: u32) {
     );
 }
 
-// Whether they are so many, in the order of their numbers, and none holds a shard.
+// Whether these are `count` seats in the order of their numbers, none of which holds shard 0.
 fn are_new(seats: &[Seat], count: u32) -> bool {
     let mut number = 0u32;
     for seat in seats {
@@ -185,7 +182,7 @@ fn are_new(seats: &[Seat], count: u32) -> bool {
     number == count
 }
 
-// Whether each even shard is held by the seat that took turns with it, and no other is held.
+// Whether the owner of each even shard is the seat that claimed it, and all other shards have no owner.
 fn are_owned(owners: &Owners<Global>, shards: u32, count: u32) -> bool
     requires { 0 < count }
 {
@@ -201,8 +198,8 @@ fn are_owned(owners: &Owners<Global>, shards: u32, count: u32) -> bool
     all
 }
 
-// Boards of few shards and of as many as there may be, to the last shard of a word of 64 bits and past it; and every
-// number of seats.
+// Boards of few shards and of the most that are allowed, up to the last shard of a word of 64 bits and past it. Then
+// each number of seats.
 #[test]
 fn boards_of_each_size(rt: HostRuntime) {
     for shards in [1, 2, 63, 64, 65, 4095, 4096] {

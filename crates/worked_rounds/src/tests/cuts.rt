@@ -1,4 +1,4 @@
-//! Lists of links cut into shards.
+//! Lists of links, split into shards.
 ghost use Rattle.std.specs.Prelude.{◌≤◌, ◌^◌, length};
 
 use super::same::expect_same;
@@ -6,7 +6,7 @@ use link_key::{Cut, CutFault, Link, check_even, check_places};
 use std::alloc::Global;
 use std::process::Abort;
 
-// The path of so many links, each of weight 1.
+// A path of this many links, each of weight 1.
 fn path(rt: &impl Abort, alloc: Global, links: u32) -> Vec<Link>
     ensures few { length result.items ≤ 2 ^ 30 }
 {
@@ -21,7 +21,7 @@ fn path(rt: &impl Abort, alloc: Global, links: u32) -> Vec<Link>
     path
 }
 
-// The sizes of a cut's shards; each shard has its number, and joined together they are the links.
+// The sizes of the shards of a cut. Each shard has its number, and joined together they are the links.
 fn sizes(rt: &impl Abort, alloc: Global, cut: &Cut, links: &[Link]) -> Vec<usize> {
     expect_joined(rt, alloc, cut, links);
     let mut sizes = Vec::new(alloc);
@@ -44,7 +44,6 @@ fn expect_joined(rt: &impl Abort, alloc: Global, cut: &Cut, links: &[Link]) {
     expect_same(rt, cut.links(), links);
 }
 
-// The cut has shards of these sizes.
 fn expect_sizes(
     rt: &impl Abort,
     alloc: Global,
@@ -138,7 +137,6 @@ fn as_many_shards_as_there_may_be(rt: HostRuntime) {
     }
 }
 
-// An even cut has so many shards, each of two links or three.
 fn expect_twos_and_threes(rt: &impl Abort, alloc: Global, links: &[Link], count: u32)
     requires { length links.now ≤ 2 ^ 30 }
 {
@@ -148,7 +146,7 @@ fn expect_twos_and_threes(rt: &impl Abort, alloc: Global, links: &[Link], count:
     expect_same(rt, found, (count as usize, true));
 }
 
-// The place numbered from 1 on is twice its number, and one more where that is odd.
+// The position numbered from 1 on is twice its number, and one more if the number is odd.
 fn ascending_places(rt: &impl Abort, alloc: Global) -> Vec<usize> {
     let mut places = Vec::new(alloc);
     for number in 1..4096usize {
@@ -157,7 +155,7 @@ fn ascending_places(rt: &impl Abort, alloc: Global) -> Vec<usize> {
     places
 }
 
-// How many of 10,000 links lie before each of these places, and behind the last.
+// The number of links of 10,000 before the first of these positions, between each two, and after the last.
 fn sizes_between(rt: &impl Abort, alloc: Global) -> Vec<usize> {
     let mut sizes = Vec::new(alloc);
     for number in 1..4096usize {

@@ -1,4 +1,4 @@
-// A worker's engine over a triangle of equal weights: what it hears, and whole sessions.
+// A worker's engine over a triangle of equal weights: the frames that it gets, and whole sessions.
 ghost use Rattle.std.specs.Prelude.{◌-◌, ◌<◌, ◌^◌};
 
 use super::same::expect_same;
@@ -16,12 +16,12 @@ use test_memory::{Refusals, Refusing};
 use worked_graphs::have_labels;
 use worker_engine::{ServeFault, Served, scan, serve, serve_upto};
 
-// What a worker of the first version says, and one of this version.
+// The hello of a worker of the first version, and of one of this version.
 const FIRST_HELLO: [u8; 11] = [1, 0, 0, 0, 6, 0, 1, 0, 0, 0, 0];
 
 const HELLO: [u8; 11] = [1, 0, 0, 0, 6, 0, 2, 0, 0, 0, 0];
 
-// Shard 0 with the link of 1 and 2 of weight 2^31, and its answer to the short ask.
+// Shard 0 with a link between 1 and 2 of weight 2^31, and the answer to the short ask.
 const SHARD64: [u8; 29] = [
     6, 0, 0, 0, 24, 0, 0, 0, 0, 0, 0, 0, 1, 0, 0, 0, 1, 0, 0, 0, 2, 0, 0, 0, 0, 128, 0, 0, 0,
 ];
@@ -31,7 +31,7 @@ const SHORT_ANSWER: [u8; 33] = [
     0, 0,
 ];
 
-// The triangle with the weights 2^32 + 5, 5 and 5 - 2^32, whose lower 32 bits are the same, and its answer to the ask.
+// The triangle with the weights 2^32 + 5, 5 and 5 - 2^32, whose lower 32 bits are equal, and the answer to the ask.
 const ALIKE_SHARD: [u8; 61] = [
     6, 0, 0, 0, 56, 0, 0, 0, 0, 0, 0, 0, 3, 0, 0, 0, 1, 0, 0, 0, 2, 0, 0, 0, 1, 0, 0, 0, 5, 0, 0,
     0, 2, 0, 0, 0, 3, 0, 0, 0, 0, 0, 0, 0, 5, 0, 0, 0, 1, 0, 0, 0, 3, 255, 255, 255, 255, 0, 0, 0,
@@ -52,7 +52,7 @@ const ASK: [u8; 29] = [
     3, 0, 0, 0, 24, 0, 0, 0, 1, 0, 0, 0, 0, 0, 0, 0, 3, 0, 0, 0, 1, 0, 0, 0, 2, 0, 0, 0, 3,
 ];
 
-// Under the labels of one vertex more, which no link has; a round later it is in the component of the first.
+// The labels have one vertex more, which has no link. A round later that vertex is in the component of vertex 1.
 const ASK_OF_FOUR: [u8; 33] = [
     3, 0, 0, 0, 28, 0, 0, 0, 1, 0, 0, 0, 0, 0, 0, 0, 4, 0, 0, 0, 1, 0, 0, 0, 2, 0, 0, 0, 3, 0, 0,
     0, 4,
@@ -76,7 +76,7 @@ const NOT_KEPT: [u8; 14] = [5, 0, 0, 0, 9, 0, 0, 0, 1, 0, 0, 0, 0, 2];
 
 const NO_LABEL: [u8; 14] = [5, 0, 0, 0, 9, 0, 0, 0, 1, 0, 0, 0, 0, 3];
 
-// Another list of links for shard 0: vertices 1 and 2, linked by the weight 7.
+// Another list of links for shard 0: one link between 1 and 2, of weight 7.
 const ANOTHER_SHARD: [u8; 25] = [
     2, 0, 0, 0, 20, 0, 0, 0, 0, 0, 0, 0, 1, 0, 0, 0, 1, 0, 0, 0, 2, 0, 0, 0, 7,
 ];
@@ -86,7 +86,7 @@ const ANOTHER_ANSWER: [u8; 33] = [
     0, 0,
 ];
 
-// A shard of no links, an ask under no labels, and its answer.
+// A shard without links, an ask without labels, and its answer.
 const EMPTY_SHARD: [u8; 13] = [2, 0, 0, 0, 8, 0, 0, 0, 0, 0, 0, 0, 0];
 
 const EMPTY_SHARD64: [u8; 13] = [6, 0, 0, 0, 8, 0, 0, 0, 0, 0, 0, 0, 0];
@@ -95,7 +95,7 @@ const EMPTY_ASK: [u8; 17] = [3, 0, 0, 0, 12, 0, 0, 0, 1, 0, 0, 0, 0, 0, 0, 0, 0]
 
 const EMPTY_ANSWER: [u8; 17] = [4, 0, 0, 0, 12, 0, 0, 0, 1, 0, 0, 0, 0, 0, 0, 0, 0];
 
-// Two links of the triangle, and the answer: the link of 2 and 3 is the least that leaves 3.
+// Two links of the triangle, and the answer. The link between 2 and 3 is the least that leaves 3.
 const PART: [u8; 37] = [
     2, 0, 0, 0, 32, 0, 0, 0, 0, 0, 0, 0, 2, 0, 0, 0, 1, 0, 0, 0, 2, 0, 0, 0, 5, 0, 0, 0, 2, 0, 0,
     0, 3, 0, 0, 0, 5,
@@ -106,7 +106,7 @@ const PART_ANSWER: [u8; 41] = [
     0, 0, 0, 0, 0, 3, 0, 0, 0, 1,
 ];
 
-// An ask under the label of vertex 1 alone, and one of shard 7.
+// An ask with only the label of vertex 1, and an ask of shard 7.
 const ASK_OF_ONE: [u8; 21] = [
     3, 0, 0, 0, 16, 0, 0, 0, 1, 0, 0, 0, 0, 0, 0, 0, 1, 0, 0, 0, 1,
 ];
@@ -125,7 +125,6 @@ fn served(frames: u64, answers: u64, faults: u64) -> Result<Served, ServeFault> 
     })
 }
 
-// The bytes of some parts, one behind the other.
 fn joined(rt: &impl Abort, alloc: Global, parts: &[&[u8]]) -> Vec<u8> {
     let mut bytes = Vec::new(alloc);
     for part in parts {
@@ -134,7 +133,8 @@ fn joined(rt: &impl Abort, alloc: Global, parts: &[&[u8]]) -> Vec<u8> {
     bytes
 }
 
-// How a session of worker 0 over these bytes ends, and what it has written; with a limit of frames, if there is one.
+// Returns how a session of worker 0 over these bytes ends, and what it has written. `limit` is a limit of frames, if
+// any.
 fn session(
     rt: &(impl Abort + Threads + Sync),
     alloc: Global,
@@ -151,14 +151,12 @@ fn session(
     (end, sink)
 }
 
-/// How a session ends, and the parts of what it has written.
 #[derive(Clone, Copy)]
 struct Ended<'a> {
     end: Result<Served, ServeFault>,
     written: &'a [&'a [u8]],
 }
 
-// A session over these bytes ends so.
 fn expect_session(
     rt: &(impl Abort + Threads + Sync),
     alloc: Global,
@@ -175,10 +173,16 @@ fn expect_session(
     );
 }
 
-// Sessions over whole streams, one that ends inside an ask, and ones that end at a shard that is unlawful: an ask of a
-// shard that is held, or isn't, or of too few labels; a hello, to which nothing is replied; a shard that is sent again, and
-// stands in place of the first; no links and no labels; weights past 32 bits, and no links as if one were; two links of
-// the triangle, which are asked under enough labels, and under too few, beside a shard that isn't held.
+// Sessions over whole streams, one that ends inside an ask, and one that ends at an unlawful shard. Each row is one of
+// these:
+//
+// - an ask of a stored shard; a torn ask; an ask of a shard that isn't stored; an ask with too few labels.
+// - a hello, to which there is no reply.
+// - weights past 32 bits, and a shard that replaces an earlier one.
+// - a shard without links in the form for such weights, which is unlawful.
+// - shards that are sent again and replace each other.
+// - no links, and no labels.
+// - two links of the triangle: enough labels, too few labels, and a shard that isn't stored.
 #[test]
 fn sessions_over_the_triangle(rt: HostRuntime) {
     let torn = Err(ServeFault::Read(FrameFault::Torn));
@@ -256,7 +260,7 @@ fn an_ask_torn_at_each_byte(rt: HostRuntime) {
     }
 }
 
-// How many blocks a session over these bytes takes, which ends well.
+// How many blocks a session over these bytes allocates. The session succeeds.
 fn blocks_of_session(rt: &(impl Abort + Threads + Sync), alloc: Global, heard: &[&[u8]]) -> u64 {
     let bytes = joined(rt, alloc, heard);
     let memory = Refusing::new(alloc, Refusals::none());
@@ -266,8 +270,8 @@ fn blocks_of_session(rt: &(impl Abort + Threads + Sync), alloc: Global, heard: &
     memory.given()
 }
 
-// An ask under the labels of the one before takes three blocks, for the marks and the names of its scan's numbers and for its
-// offers: none for what came, nor for the answer's text.
+// An ask with the labels of the previous one allocates three blocks: for the marks and the names of the scan's numbers,
+// and for its offers. The ask itself and the text of the answer need none.
 #[test]
 fn an_ask_that_comes_again_is_not_stored(rt: HostRuntime) {
     let once = blocks_of_session(&rt, rt.alloc(), &[&SHARD, &ASK]);
@@ -275,9 +279,9 @@ fn an_ask_that_comes_again_is_not_stored(rt: HostRuntime) {
     expect_same(&rt, twice.wrapping_sub(once), 3);
 }
 
-// An ask under labels that coarsen those of the one before takes four blocks: for these labels, for marks, for names and for
-// the offers. The list of the shard's live links stays: were all live again, it would take a block for another list, and none
-// for marks and names.
+// An ask with coarser labels than the previous one allocates four blocks: for these labels, for marks, for names and
+// for the offers. The list of the shard's live links stays. If all links became live again, a new list would need a
+// block, and marks and names none.
 #[test]
 fn an_ask_under_coarser_labels_keeps_the_list(rt: HostRuntime) {
     let once = blocks_of_session(&rt, rt.alloc(), &[&SHARD, &ASK_OF_FOUR]);
@@ -285,7 +289,6 @@ fn an_ask_under_coarser_labels_keeps_the_list(rt: HostRuntime) {
     expect_same(&rt, twice.wrapping_sub(once), 4);
 }
 
-// What the worker replies to the frame with these bytes, if it replies.
 fn replied(
     rt: &(impl Abort + Threads + Sync),
     alloc: Global,
@@ -300,13 +303,12 @@ fn replied(
     }
 }
 
-// The text of a frame, which is lawful.
 fn lawful_text(rt: &impl Abort, alloc: Global, frame: &Frame) -> Vec<u8> {
     assert!(rt; frame.is_lawful());
     encode(alloc, frame).expect(rt, "memory")
 }
 
-// What a worker hears, and what it replies.
+// The frames that a worker gets, and its replies.
 const HEARD: [(&[u8], Option<&[u8]>); 8] = [
     (&ASK, Some(&NOT_KEPT)),
     (&SHARD, None),
@@ -326,7 +328,7 @@ fn an_engine_hears_each_kind_of_frame(rt: HostRuntime) {
     }
 }
 
-// The worker hears these frames, one after the other, and replies so.
+// The worker gets these frames one after the other, and replies like this.
 fn expect_replies(rt: &(impl Abort + Threads + Sync), alloc: Global, worker: &mut Worker) {
     for (heard, reply) in HEARD {
         let replied = replied(rt, alloc, worker, heard);
@@ -338,8 +340,8 @@ fn expect_replies(rt: &(impl Abort + Threads + Sync), alloc: Global, worker: &mu
     }
 }
 
-// How a session ends, and what it has written, whose source gives the shard and the ask and so many bytes of the next
-// ask, and then fails.
+// Returns how a session ends, and what it has written, if its source fails. The source gives the shard, the ask and
+// `count` bytes of the next ask.
 fn cut_session(
     rt: &(impl Abort + Threads + Sync),
     alloc: Global,
@@ -368,7 +370,7 @@ fn reads_that_fail_in_mid_session(rt: HostRuntime) {
     }
 }
 
-// A session over these bytes ends at a write, and the sink has taken this.
+// A session over these bytes ends at a write, and the sink has taken these bytes.
 fn expect_cut(
     rt: &(impl Abort + Threads + Sync),
     alloc: Global,
@@ -385,7 +387,7 @@ fn expect_cut(
     expect_same(rt, sink.held() == taken, true);
 }
 
-// The hello and the answer are 52 bytes, of which the sink takes these many.
+// The hello and the answer have 52 bytes, of which the sink takes `count`.
 #[test]
 fn writes_that_fail_in_mid_session(rt: HostRuntime) {
     let owed = joined(&rt, rt.alloc(), &[&HELLO, &ANSWER]);
@@ -400,7 +402,7 @@ fn writes_that_fail_in_mid_session(rt: HostRuntime) {
     }
 }
 
-// A session that is sent a shard of these links and asked for it twice under these labels answers with these offers.
+// A session gets a shard of these links and two asks for it with these labels. It answers with these offers.
 fn expect_answers(
     rt: &(impl Abort + Threads + Sync),
     alloc: Global,
@@ -420,7 +422,6 @@ fn expect_answers(
     expect_session(rt, alloc, &parts, None, expected)
 }
 
-// A session over many links does so.
 fn expect_answers_of_many(rt: &(impl Abort + Threads + Sync), alloc: Global) {
     let links = many_links(rt, alloc);
     let labels = many_labels(rt, alloc);
@@ -428,7 +429,7 @@ fn expect_answers_of_many(rt: &(impl Abort + Threads + Sync), alloc: Global) {
     expect_answers(rt, alloc, links.as_slice(), &labels, expected)
 }
 
-// A session over so many links round the path of n vertices does so.
+// The same for `count` links that go round the path of n vertices.
 fn expect_answers_of_falling(
     rt: &(impl Abort + Threads + Sync),
     alloc: Global,
@@ -449,8 +450,8 @@ fn sessions_over_many_links(rt: HostRuntime) {
     }
 }
 
-// Answers as long as the first write of 64 KiB, which has a head and 8,189 offers, as both that and the next one, which has
-// 8,192, and with one offer less and one more.
+// Answers as long as the first write of 64 KiB, which has a head and 8,189 offers. Answers as long as that and the next
+// write, which has 8,192 offers. And answers with one offer less and one more.
 #[test]
 fn answers_of_more_than_a_write(rt: HostRuntime) {
     for n in [8_188, 8_189, 8_190, 16_380, 16_381, 16_382, 30_000] {
@@ -458,7 +459,7 @@ fn answers_of_more_than_a_write(rt: HostRuntime) {
     }
 }
 
-// The hello and an answer of 20,000 offers are 160,028 bytes, of which the sink takes these many, at most 5,000 at a time.
+// The hello and an answer of 20,000 offers have 160,028 bytes. The sink takes `count` of them, at most 5,000 at a time.
 #[test]
 fn writes_that_fail_in_a_long_answer(rt: HostRuntime) {
     let links = falling(&rt, rt.alloc(), 20_000, 0, 20_000);
@@ -481,7 +482,8 @@ fn writes_that_fail_in_a_long_answer(rt: HostRuntime) {
     }
 }
 
-// Each of 20,001 vertices has its own label, but this one, which has that of the vertex before; vertex 0 is none.
+// Each of 20,001 vertices has its own label, but this one has the label of the vertex before it. If it is 0, all have
+// their own.
 fn labels_but(rt: &impl Abort, alloc: Global, vertex: u32) -> Labels {
     let mut list = Vec::with_capacity(alloc, 20_001).expect(rt, "memory");
     for before in 0..20_001u32 {
@@ -492,13 +494,11 @@ fn labels_but(rt: &impl Abort, alloc: Global, vertex: u32) -> Labels {
     Labels::of_list(list).expect(rt, "labels")
 }
 
-// The text of a shard.
 fn shard_text(rt: &impl Abort, alloc: Global, shard: &Shard) -> Vec<u8> {
     assert!(rt; shard.number < 4096 && shard.links.len() <= 1 << 24);
     encode_shard(alloc, shard).expect(rt, "memory")
 }
 
-// The text of an answer of a round for a shard, with these offers.
 fn answer_text(rt: &impl Abort, alloc: Global, round: u32, shard: u32, offers: Offers) -> Vec<u8> {
     let answer = Frame::Answer(Answer {
         round,
@@ -508,7 +508,7 @@ fn answer_text(rt: &impl Abort, alloc: Global, round: u32, shard: u32, offers: O
     lawful_text(rt, alloc, &answer)
 }
 
-// The texts of an ask of a round for a shard and of its answer, by a scan of its own.
+// The bytes of an ask of this round and shard, and of its answer. The offers come from a scan of all links.
 fn asked_and_answered(
     rt: &impl Abort,
     alloc: Global,
@@ -523,7 +523,6 @@ fn asked_and_answered(
     (ask, answer_text(rt, alloc, round, number, offers))
 }
 
-/// What a session hears, and what it writes.
 #[derive(Drop)]
 struct Texts {
     heard: Vec<u8>,
@@ -531,7 +530,7 @@ struct Texts {
 }
 
 impl Texts {
-    // A shard that isn't held is asked for, and then this one.
+    // An ask of a shard that isn't stored, and then one of this shard.
     fn ask(&mut self, rt: &impl Abort, alloc: Global, vertex: u32, shard: &Shard) {
         let labels = labels_but(rt, alloc, vertex);
         let not_held = encode_ask(alloc, vertex, 9, &labels).expect(rt, "memory");
@@ -550,7 +549,7 @@ impl Texts {
             .expect(rt, "memory");
     }
 
-    // The shards are sent, and asked for under labels that change.
+    // The shards are sent, and then there are asks for them with labels that change.
     fn ask_each(&mut self, rt: &impl Abort, alloc: Global, shards: &[Shard]) {
         for shard in shards {
             let text = shard_text(rt, alloc, shard);
@@ -567,7 +566,7 @@ impl Texts {
     }
 }
 
-// Such a session ends so.
+// A session over these frames writes the expected ones.
 fn expect_asks(rt: &(impl Abort + Threads + Sync), alloc: Global, shards: &[Shard]) {
     let mut texts = Texts {
         heard: Vec::new(alloc),
@@ -581,9 +580,9 @@ fn expect_asks(rt: &(impl Abort + Threads + Sync), alloc: Global, shards: &[Shar
     expect_session(rt, alloc, &[texts.heard.as_slice()], None, expected)
 }
 
-// Two shards are asked for again and again, under labels that come again, that differ in the last, a middle or the first
-// piece alone, that coarsen those before and that don't. Each answer is that of a scan of its own; so is each behind asks
-// of a shard that isn't held.
+// There are asks for two shards again and again. The labels are the same, differ only in the last, a middle or the
+// first piece, coarsen the previous ones, or don't. Each answer is that of a scan of all links, also after an ask of a
+// shard that isn't stored.
 #[test]
 fn asks_under_labels_that_change(rt: HostRuntime) {
     let first = falling(&rt, rt.alloc(), 20_001, 0, 20_000);

@@ -1,4 +1,4 @@
-// The texts of the faults of a worker's session.
+// The texts of the errors of a worker's session.
 use super::same::expect_text;
 use frames::FrameFault;
 use worker_engine::ServeFault;

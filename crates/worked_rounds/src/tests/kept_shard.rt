@@ -1,4 +1,4 @@
-// A shard that is kept, and asked for its offers as components grow, and once all its links are live again.
+// A shard that is kept, and its offers as components grow, and after all its links are live again.
 ghost use Rattle.shard_scans.specs.Live.{IsAllLive};
 
 use super::scans::{expect_offers, links_between, neighbours};
@@ -8,21 +8,20 @@ use std::alloc::Global;
 use std::process::Abort;
 use worked_graphs::Row;
 
-// The least link at 1 and at 2 is the first, at 3 and at 4 the second; between these pairs the fourth is.
+// The least link at 1 and at 2 is the first, and at 3 and at 4 the second. Between these pairs it is the fourth.
 const ARCS: [Row; 5] = [(1, 2, 7), (3, 4, 2), (2, 3, 9), (1, 4, 8), (2, 4, 8)];
 
 const EACH: [(u32, u32); 4] = [(1, 0), (2, 0), (3, 1), (4, 1)];
 
 const PAIRS: [(u32, u32); 2] = [(1, 3), (3, 3)];
 
-// Both directions of two links, of which the second of each is listed at no scan.
+// Both directions of two links. The second direction of each is never listed.
 const DIRECTIONS: [Row; 4] = [(1, 2, 3), (2, 1, 3), (2, 3, 5), (3, 2, 5)];
 
 const ENDS: [(u32, u32); 3] = [(1, 0), (2, 0), (3, 2)];
 
 const JOINED: [(u32, u32); 2] = [(1, 2), (3, 2)];
 
-// A kept shard of these arcs.
 fn kept_arcs(rt: &impl Abort, alloc: Global, n: u32, arcs: &[Row]) -> KeptShard
     ensures { IsAllLive result }
 {
@@ -31,7 +30,7 @@ fn kept_arcs(rt: &impl Abort, alloc: Global, n: u32, arcs: &[Row]) -> KeptShard
     KeptShard::new(links)
 }
 
-// The first two links are laid aside where pairs are components, and offered again once all are live.
+// The first two links are laid aside when pairs are components, and offered again after all are live.
 #[test]
 fn kept_shard_lays_aside(rt: HostRuntime) {
     let alloc = rt.alloc();
@@ -59,7 +58,7 @@ fn kept_shard_lays_aside(rt: HostRuntime) {
     expect_offers(&rt, &offers, &EACH);
 }
 
-// A shard with both directions of each link is listed at its first scan, and the list offers what the shard would.
+// The first scan of a shard with both directions of each link lists the links. The list offers what the shard would.
 #[test]
 fn kept_shard_of_both_directions(rt: HostRuntime) {
     let alloc = rt.alloc();

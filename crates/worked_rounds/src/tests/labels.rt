@@ -6,13 +6,11 @@ use link_key::Labels;
 use std::alloc::{Allocator, Global};
 use std::process::Abort;
 
-// The labels of this list.
 pub(crate) fn labels_of<A: Allocator>(rt: &impl Abort, alloc: A, list: &[u32]) -> Labels<A> {
     let list = Vec::from_slice(alloc, list).expect(rt, "memory");
     Labels::of_list(list).expect(rt, "labels")
 }
 
-// Whether each of these coarsens the labels.
 fn coarsen(all: [&Labels; 4], labels: &Labels) -> [bool; 4] {
     let [first, second, third, fourth] = all;
     [
@@ -62,8 +60,8 @@ fn labels_of_other_vertices(rt: HostRuntime) {
 
 const MANY: u32 = 12_345;
 
-// Components of so many neighbours each, named by the first. One vertex that isn't the first of its component may be
-// a component by itself.
+// Components of `size` neighbours each, named by the first. One vertex that isn't the first of its component may be a
+// component by itself.
 fn neighbours(rt: &impl Abort, alloc: Global, size: u32, alone: Option<u32>) -> Labels
     requires { 0 < size }
 {
@@ -99,7 +97,8 @@ fn labels_of_many_vertices(rt: HostRuntime) {
     }
 }
 
-// Whether fifties coarsen fifties of which one vertex is alone, and whether these coarsen fifties, and tens.
+// Compares components of fifty with components of fifty of which one vertex is separate. Returns whether the former
+// coarsen the latter, whether the latter coarsen the former, and whether they coarsen components of ten.
 fn beside_alone(
     rt: &impl Abort,
     alloc: Global,

@@ -1,10 +1,10 @@
-// The allocator that counts its blocks and their bytes, and refuses chosen allocations.
+// The allocator that counts its blocks and their bytes, and makes chosen allocations fail.
 use super::same::expect_same;
 use std::alloc::Allocator;
 use std::process::Abort;
 use test_memory::{Bytes, Refusals, Refusing};
 
-// How many blocks were asked for, were given, were given back, and live.
+// The numbers of allocations, of blocks that were allocated, of blocks that were freed, and of blocks still allocated.
 pub(crate) fn counts<A: Allocator>(memory: &Refusing<A>) -> [u64; 4] {
     [
         memory.asked(),
@@ -14,7 +14,6 @@ pub(crate) fn counts<A: Allocator>(memory: &Refusing<A>) -> [u64; 4] {
     ]
 }
 
-// Whether the next allocation is refused.
 pub(crate) fn refuses<A: Allocator>(memory: &Refusing<A>) -> bool {
     Box::new(memory, 8u8).is_err()
 }
@@ -36,7 +35,7 @@ fn counts_blocks(rt: HostRuntime) {
     );
 }
 
-// Forty bytes, and five beside them; the forty come back, and thirty-two others are given. So many live at last.
+// Forty bytes are allocated, and then five. The forty are freed, and thirty-two others are allocated.
 #[test]
 fn counts_bytes(rt: HostRuntime) {
     let memory = Refusing::new(rt.alloc(), Refusals::none());
@@ -54,7 +53,7 @@ fn counts_bytes(rt: HostRuntime) {
     expect_same(&rt, memory.bytes(), Bytes { now: 0, most: 45 });
 }
 
-// The most bytes are those since the memory was watched last.
+// The peak counts from the last call of `watch`.
 #[test]
 fn counts_bytes_anew(rt: HostRuntime) {
     let memory = Refusing::new(rt.alloc(), Refusals::none());
@@ -72,7 +71,7 @@ fn counts_bytes_anew(rt: HostRuntime) {
     expect_same(&rt, found, wanted.map(|(now, most)| Bytes { now, most }));
 }
 
-// A list that grows lives twice for a moment. What is refused counts for nothing.
+// While a list grows, both blocks are counted. A failed allocation counts no bytes.
 #[test]
 fn counts_bytes_of_what_grows(rt: HostRuntime) {
     let memory = Refusing::new(rt.alloc(), Refusals::since(3));
@@ -114,7 +113,7 @@ fn refuses_from_a_number_on(rt: HostRuntime) {
     );
 }
 
-// A `Vec` asks for a block each time that it grows, and keeps its items where a growth is refused.
+// A `Vec` allocates a block each time that it grows, and keeps its items if that fails.
 #[test]
 fn a_growth_is_refused(rt: HostRuntime) {
     let memory = Refusing::new(rt.alloc(), Refusals::since(2));
@@ -126,7 +125,6 @@ fn a_growth_is_refused(rt: HostRuntime) {
     expect_same(&rt, counts(&memory), [2, 1, 1, 0]);
 }
 
-// The numbers below 10,000.
 fn ten_thousand<A: Allocator>(rt: &impl Abort, alloc: A) -> Vec<u32, A> {
     let mut numbers = Vec::new(alloc);
     for number in 0..10_000u32 {
@@ -139,7 +137,7 @@ fn are_ten_thousand(numbers: &[u32]) -> bool {
     numbers.iter().copied().eq(0..10_000)
 }
 
-// A growth past any small size is handed on to the allocator behind it.
+// A growth beyond any small size is passed on to the inner allocator.
 #[test]
 fn ten_thousand_numbers_are_kept(rt: HostRuntime) {
     let memory = Refusing::new(rt.alloc(), Refusals::none());

@@ -1,15 +1,14 @@
-// Lists of `link_key` that are handed in by value.
+// Lists that calls of `link_key` take by value.
 use super::same::expect_same;
 use link_key::{Forest, Labels, Link, Offers};
 use std::alloc::Global;
 use std::process::Abort;
 use test_memory::{Refusals, Refusing};
 
-// How many blocks were given in all, and how many live.
 type Blocks = (u64, u64);
 
-/// What becomes of a list that is the only block: the blocks before it is handed in, whether something is made of it,
-/// the blocks then, and once what was made is dropped.
+/// What happens to a list that is the only block: the blocks before the call, and whether the call makes something of
+/// the list. Then the blocks after the call, and after its result is dropped.
 type Outcome = (Blocks, bool, Blocks, Blocks);
 
 const DROPPED: Outcome = ((1, 1), false, (1, 0), (1, 0));
@@ -20,7 +19,7 @@ fn blocks(memory: &Refusing<Global>) -> Blocks {
     (memory.given(), memory.live())
 }
 
-// What becomes of the list that this was made of, or nothing.
+// The outcome for a list of which this was made, or nothing.
 fn outcome<T: Drop>(memory: &Refusing<Global>, before: Blocks, made: Option<T>) -> Outcome {
     let is_made = made.is_some();
     let behind = blocks(memory);

@@ -1,4 +1,4 @@
-// Which blocks of memory scans and engines take, which no contract counts.
+// The blocks that scans and engines allocate, which no contract counts.
 ghost use Rattle.std.specs.Prelude.{◌≤◌, ◌^◌};
 
 use super::labels::labels_of;
@@ -14,7 +14,7 @@ use test_memory::{Refusals, Refusing};
 use worked_graphs::{Row, have_labels, links_of};
 use worker_engine::{Engine, Scanner, scan, scan_par};
 
-// How many vertices and links there are, and the most parts that they are scanned in.
+// The numbers of vertices and links, and the most parts in which the links are scanned.
 const PARTS: [(u32, u32, u64); 7] = [
     (3, 131_071, 1),
     (3, 131_072, 2),
@@ -25,7 +25,7 @@ const PARTS: [(u32, u32, u64); 7] = [
     (65_537, 262_144, 2),
 ];
 
-// In how many parts links are scanned that may be scanned in so many.
+// The number of parts in which links are scanned on this machine, if there may be at most `most`.
 fn parts(rt: &impl Threads, most: u64) -> u64 {
     match available_parallelism(rt) {
         Ok(processors) if processors.get() >= 4 => most,
@@ -34,7 +34,8 @@ fn parts(rt: &impl Threads, most: u64) -> u64 {
     }
 }
 
-// How many blocks a scan of so many links between n vertices takes, how many one by threads, and how many live then.
+// For `count` links between n vertices: the blocks that a scan by one thread allocates, those of a scan by threads, and
+// those still allocated afterwards.
 fn blocks(
     rt: &(impl Abort + Threads + Sync),
     alloc: Global,
@@ -61,9 +62,9 @@ fn blocks_of_scans(
     (by_one, by_threads, memory.live())
 }
 
-// One thread takes a block each for the list, the marks, the table and the names, and threads one for the table of each part.
-// Links are scanned by threads wherever there are processors for it, and a part has at least as many links as there are
-// vertices, so that its table costs no more than its links.
+// One thread allocates a block each for the list, the marks, the table and the names. Threads allocate one for the
+// table of each part. Links are scanned by threads whenever there are processors for it. A part has at least as many
+// links as there are vertices, so that its table costs no more than its links.
 #[test]
 fn a_table_for_each_part(rt: HostRuntime) {
     let alloc = rt.alloc();
@@ -77,10 +78,10 @@ fn a_table_for_each_part(rt: HostRuntime) {
     }
 }
 
-/// Memory that counts its blocks, of which some may be refused.
+/// An allocator that counts its blocks, and that may make some allocations fail.
 type Memory = Refusing<Global>;
 
-// The scan of no links under the labels of n vertices gives no offers.
+// A scan of no links under the labels of n vertices gives no offers.
 fn scan_none<A: Allocator + Copy>(
     rt: &impl Abort,
     alloc: Global,
@@ -91,8 +92,8 @@ fn scan_none<A: Allocator + Copy>(
     expect_offers(rt, &scanner.scan(&[], &labels).expect(rt, "memory"), &[]);
 }
 
-// A scanner asks for its marks once, and again only where there are more labels than they have room for. Those of 7 labels have
-// room for 100.
+// A scanner allocates its marks once, and again only if there are more labels than they have capacity for. The marks of
+// 7 labels have capacity for 100.
 #[test]
 fn the_marks_of_a_scan_are_used_again(rt: HostRuntime) {
     let memory = Refusing::new(rt.alloc(), Refusals::none());
@@ -121,7 +122,7 @@ fn expect_marks<'a>(
     }
 }
 
-// How many blocks a worker takes to keep so many links.
+// How many blocks a worker allocates to keep a shard.
 fn blocks_to_keep<'a>(
     rt: &(impl Abort + Threads + Sync),
     memory: &'a Memory,
@@ -134,7 +135,7 @@ fn blocks_to_keep<'a>(
     memory.given().wrapping_sub(before)
 }
 
-// A shard's list is kept without a copy: it takes no memory, but for a part of a map for the first one.
+// A shard's list is kept without a copy. No memory is allocated for it, except a part of a map for the first shard.
 #[test]
 fn a_shard_is_kept_without_a_copy(rt: HostRuntime) {
     let memory = Refusing::new(rt.alloc(), Refusals::none());
@@ -153,7 +154,7 @@ fn expect_blocks_to_keep<'a>(
     }
 }
 
-// The offers of a worker's answer under these labels, and how many blocks it asks for meanwhile.
+// The offers of a worker's answer under these labels, and how many allocations it makes meanwhile.
 fn answered<'a>(
     rt: &(impl Abort + Threads + Sync),
     memory: &'a Memory,
@@ -166,11 +167,11 @@ fn answered<'a>(
     (offers, memory.asked().wrapping_sub(before))
 }
 
-/// The label of the second of two vertices at an ask, and how many blocks the ask takes.
+/// The label of the second of two vertices in an ask, and how many blocks the ask allocates.
 type Ask = (u32, u64);
 
-// A worker is asked for links between two vertices, under the labels of each by itself, twice under those of one
-// component, and under the first again.
+// A worker gets asks for links between two vertices: with the labels of each by itself, twice with those of one
+// component, and with the first labels again.
 fn expect_asks(rt: &(impl Abort + Threads + Sync), memory: &Memory, by: By, asks: &[Ask]) {
     let mut worker = Worker::new(memory, by);
     expect_asks_of(rt, memory, &mut worker, asks)
@@ -189,7 +190,7 @@ fn expect_asks_of<'a>(
     }
 }
 
-// How many blocks a worker asks for to answer, where the second of two vertices has this label.
+// How many allocations a worker makes to answer, if the second of two vertices has this label.
 fn blocks_of_ask<'a>(
     rt: &(impl Abort + Threads + Sync),
     memory: &'a Memory,
@@ -204,10 +205,12 @@ const BY_ONE: [Ask; 4] = [(2, 5), (1, 2), (1, 2), (2, 3)];
 
 const BY_HALVES: [Ask; 4] = [(2, 3), (1, 2), (1, 0), (2, 3)];
 
-// An answer that offers something takes one block. By one thread the first ask lists the links, in one block, and so does one
-// whose labels make all links live again: with one for the names, and at first one each for the marks and the table, which are
-// used again. By threads each part makes a table, and nothing is listed. The next ask lists no link under the labels of one
-// component, so that no number has a name. A list that has names takes two blocks for them at each later ask.
+// An answer with offers allocates one block. With one thread, the first ask lists the links in one block. So does an
+// ask whose labels make all links live again. Each of these also allocates one block for the names. At first there is
+// one each for the marks and the table, which are used again.
+//
+// With threads, each part makes a table, and nothing is listed. With the labels of one component, the next ask lists no
+// link, so no number has a name. If a list has names, each later ask allocates two blocks for them.
 #[test]
 fn links_laid_aside_are_scanned_no_more(rt: HostRuntime) {
     let memory = Refusing::new(rt.alloc(), Refusals::none());
@@ -220,11 +223,11 @@ fn links_laid_aside_are_scanned_no_more(rt: HostRuntime) {
     expect_asks(&rt, &memory, By::Threads, &by_threads)
 }
 
-// Both directions of a link, beside each other.
+// Both directions of a link, one after the other.
 const DIRECTIONS: [Row; 2] = [(1, 2, 3), (2, 1, 3)];
 
-// A list of the first of them is made before the first scan, in a block for both that is given back for a smaller one: before a
-// block each for the marks, the table, the names and the offers.
+// A list of the first of them is made before the first scan. A block for both links is replaced by a smaller one. Then
+// the marks, the table, the names and the offers get a block each.
 #[test]
 fn links_of_both_directions_are_listed_at_once(rt: HostRuntime) {
     let memory = Refusing::new(rt.alloc(), Refusals::none());
@@ -237,14 +240,14 @@ fn links_of_both_directions_are_listed_at_once(rt: HostRuntime) {
     expect_same(&rt, taken, 6);
 }
 
-/// The labels of three vertices at an ask, and how many blocks the ask asks for.
+/// The labels of three vertices in an ask, and how many allocations the ask makes.
 type CoarserAsk = ([u32; 3], u64);
 
-/// How many links there are between three vertices, and the asks for them.
+/// The number of links between three vertices, and the asks for them.
 type Asked = (u32, [CoarserAsk; 4]);
 
-// A worker is asked for links between three vertices, under the labels of each by itself, twice under those of two
-// components, and under those of one. It answers as a scan does each time.
+// A worker gets asks for links between three vertices: with the labels of each by itself, twice with those of two
+// components, and with those of one. Each time it answers as a scan does.
 fn expect_coarser_asks(
     rt: &(impl Abort + Threads + Sync),
     alloc: Global,
@@ -273,7 +276,7 @@ fn expect_coarser_asks_of<'a>(
     }
 }
 
-// The offers are those of a scan of the worker's links, of which there are so many, under these labels.
+// The offers are those of a scan of the worker's `count` links under these labels.
 fn expect_scanned<A: Allocator>(
     rt: &impl Abort,
     alloc: Global,
@@ -320,9 +323,10 @@ const LISTED: [Asked; 3] = [
     ),
 ];
 
-// The live links are listed, in one block, before the first scan, and numbered: in one block for the marks and one of the table,
-// which are used again, and one for the names. Each later ask takes one for the names and one for what becomes of them, and where
-// links are laid aside and others stay, a smaller one for the list. Each answer that offers something takes one.
+// Before the first scan the live links are listed, in one block, and numbered. That takes one block for the marks and
+// one for the table, which are used again, and one for the names. Each later ask allocates one for the names and one
+// for what becomes of them. If only some links are laid aside, it allocates a smaller one for the list. Each answer
+// with offers allocates one.
 #[test]
 fn live_links_are_listed_once(rt: HostRuntime) {
     for by in [By::OneThread, By::Threads] {
@@ -333,8 +337,8 @@ fn live_links_are_listed_once(rt: HostRuntime) {
     }
 }
 
-// The offers of an engine's answer to an ask for its shard, where each of n vertices is by itself. Where it wants memory it is
-// asked once more.
+// The offers of an engine's answer to an ask for its shard, if each of n vertices is by itself. If the engine runs out
+// of memory, it gets the ask once more.
 fn answered_at_last<'a>(
     rt: &impl Abort,
     memory: &'a Memory,
@@ -359,8 +363,8 @@ fn answered_at_last<'a>(
     panic!(rt; "no answer")
 }
 
-// An engine that is asked three times for the links of a path gives these offers each time. How many blocks were asked for
-// before the second ask, and in all.
+// An engine gets three asks for the links of a path, and gives these offers each time. Returns how many allocations
+// there were before the second ask, and in all.
 fn asked_three_times(
     rt: &impl Abort,
     memory: &Memory,
@@ -382,7 +386,7 @@ fn asked_three_times(
     (before, memory.asked())
 }
 
-// Each block of two asks for a list is refused alone, and the shard is asked again.
+// Each allocation of the second and third ask fails once by itself, and then there is another ask for the shard.
 #[test]
 fn a_list_where_memory_is_wanted(rt: HostRuntime) {
     let n = 4096;

@@ -6,7 +6,7 @@ use test_memory::{Refusals, Refusing};
 use worked_graphs::have_labels;
 use worker_engine::{scan, scan_par};
 
-// A million links between three vertices, which would be worth sixteen threads.
+// A million links between three vertices, which would be enough for sixteen threads.
 #[test]
 fn no_more_tables_than_processors(rt: HostRuntime) {
     let links = falling(&rt, rt.alloc(), 3, 0, 1 << 20);

@@ -1,19 +1,17 @@
-//! Allocations that are refused, one after the other.
+//! Allocations that fail, one after the other.
 use super::memory_counts::{counts, refuses};
 use super::same::expect_same;
 use std::alloc::{AllocError, Global};
 use test_memory::{Found, Refusals, Refusing, refuse_each};
 
-/// Work over memory that may be refused.
+/// Work with an allocator that may fail.
 #[derive(Clone, Copy, Debug, PartialEq)]
 enum Work {
-    /// Makes nothing.
     Nothing,
-    /// Makes two boxes.
     TwoBoxes,
-    /// The same, and passes over a refusal of the second.
+    /// Allocates two boxes, and ignores it if the second allocation fails.
     PassesOver,
-    /// Makes a box, and fails then without a refusal.
+    /// Allocates a box, and then fails although no allocation failed.
     Fails,
 }
 
@@ -37,7 +35,7 @@ fn done(work: Work, memory: &Refusing<Global>) -> Result<(), AllocError> {
     }
 }
 
-// What is found where so many of the work's allocations are refused in turn at the most.
+// What the search finds if at most this many of the work's allocations fail in turn.
 #[test]
 fn each_allocation_is_refused_in_turn(rt: HostRuntime) {
     let searches = [
@@ -58,7 +56,7 @@ fn each_allocation_is_refused_in_turn(rt: HostRuntime) {
     }
 }
 
-// A block that is given back reaches the allocator behind, and a refused allocation asks nothing of it.
+// A freed block goes back to the inner allocator. A failed allocation doesn't call it.
 #[test]
 fn blocks_come_from_the_allocator_behind_and_go_back_to_it(rt: HostRuntime) {
     let behind = Refusing::new(rt.alloc(), Refusals::none());
@@ -80,7 +78,7 @@ fn blocks_come_from_the_allocator_behind_and_go_back_to_it(rt: HostRuntime) {
     );
 }
 
-// A refusal of the allocator behind is one of the allocator before it, which counts no block of it.
+// If the inner allocator fails, so does the outer one, which counts no block for it.
 #[test]
 fn a_refusal_behind_is_passed_on(rt: HostRuntime) {
     let behind = Refusing::new(rt.alloc(), Refusals::only(1));

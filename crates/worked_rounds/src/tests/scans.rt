@@ -1,5 +1,5 @@
-// A worker's scan, by one thread and by threads, beside a plain program: lists with repeats and with weights that many
-// links share, and links that an engine lays aside as components grow.
+// A worker's scan, by one thread and by threads, compared with a plain program. The lists have repeats, and weights
+// that many links share. An engine lays links aside as components grow.
 ghost use Rattle.std.specs.Prelude.{◌<◌};
 ghost use Rattle.frames.specs.FrameValue.{value_of};
 ghost use Rattle.frames.specs.Lawful.{IsLawful};
@@ -16,8 +16,8 @@ use std::thread::Threads;
 use worked_graphs::{Row, have_labels, links_of};
 use worker_engine::{Engine, Scanner, scan, scan_par};
 
-// The offers of links that are few enough and whose ends all have labels. Each way to scan gives the same ones; the
-// scanner may have scanned before.
+// The offers of links that are few enough and whose endpoints all have labels. Each kind of scan gives the same offers.
+// The scanner may have been used before.
 pub(crate) fn scanned(
     rt: &(impl Abort + Threads + Sync),
     alloc: Global,
@@ -33,14 +33,12 @@ pub(crate) fn scanned(
     offers
 }
 
-/// How an engine scans: by one thread, or by threads.
 #[derive(Clone, Copy)]
 pub(crate) enum By {
     OneThread,
     Threads,
 }
 
-/// A worker's engine, and how it hears.
 #[derive(Drop)]
 pub(crate) struct Worker<A: Allocator = Global> {
     engine: Engine<A>,
@@ -55,7 +53,7 @@ impl<A: Allocator + Copy + Send + Sync> Worker<A> {
         }
     }
 
-    // Its reply to a frame, which is lawful.
+    // The worker's reply to a frame. Both have to be lawful.
     pub(crate) fn reply(
         &mut self,
         rt: &(impl Abort + Threads + Sync),
@@ -71,7 +69,7 @@ impl<A: Allocator + Copy + Send + Sync> Worker<A> {
         heard.expect(rt, "memory")
     }
 
-    // It hears a shard with these links, and replies nothing.
+    // The worker gets a shard with these links, and doesn't reply.
     pub(crate) fn keep(
         &mut self,
         rt: &(impl Abort + Threads + Sync),
@@ -86,7 +84,7 @@ impl<A: Allocator + Copy + Send + Sync> Worker<A> {
         expect_same(rt, reply.is_none(), true);
     }
 
-    // The offers that it answers to an ask of this shard under these labels.
+    // The offers of the worker's answer to an ask of this shard with these labels.
     pub(crate) fn answered(
         &mut self,
         rt: &(impl Abort + Threads + Sync),
@@ -104,7 +102,6 @@ impl<A: Allocator + Copy + Send + Sync> Worker<A> {
         }
     }
 
-    // It answers such an ask with these offers.
     pub(crate) fn expect_answer(
         &mut self,
         rt: &(impl Abort + Threads + Sync),
@@ -117,7 +114,6 @@ impl<A: Allocator + Copy + Send + Sync> Worker<A> {
     }
 }
 
-// The offers are these.
 pub(crate) fn expect_offers<A: Allocator>(
     rt: &impl Abort,
     offers: &Offers<A>,
@@ -126,19 +122,17 @@ pub(crate) fn expect_offers<A: Allocator>(
     expect_same(rt, offers.pairs(), expected);
 }
 
-// A scan finds memory, and gives these offers.
 fn expect_given(rt: &impl Abort, given: Result<Offers, AllocError>, expected: &[(u32, u32)]) {
     expect_offers(rt, &given.expect(rt, "memory"), expected);
 }
 
-// The links of arcs whose ends are vertices from 1 to n.
 pub(crate) fn links_between(rt: &impl Abort, alloc: Global, n: u32, arcs: &[Row]) -> Vec<Link> {
     let links = links_of(alloc, n, arcs).expect(rt, "memory");
     links.expect(rt, "arcs")
 }
 
-// The offers by a plain program: the links in ascending order, those that are equal by their places, of which the
-// first that leaves a component is offered for it. So many links stand before them.
+// The offers by a plain program. It sorts the links, equal ones by index, and offers for each component the first link
+// that leaves it. The index of the first link is `from`.
 pub(crate) fn plain_offers(
     rt: &impl Abort,
     alloc: Global,
@@ -160,7 +154,7 @@ pub(crate) fn plain_offers(
     numbered(rt, alloc, firsts.as_slice())
 }
 
-// Links with their places, of which so many stand before them, in ascending order.
+// The links with their indices, from `from` on, in ascending order.
 fn ascending(rt: &impl Abort, alloc: Global, from: u32, links: &[Link]) -> Vec<(Link, u32)> {
     let mut sorted = Vec::new(alloc);
     let mut place = from;
@@ -172,19 +166,18 @@ fn ascending(rt: &impl Abort, alloc: Global, from: u32, links: &[Link]) -> Vec<(
     sorted
 }
 
-// The label of a vertex, if it has one.
 fn label_of(labels: &[u32], vertex: u32) -> Option<u32> {
     labels.get((vertex as usize).checked_sub(1)?).copied()
 }
 
-// The place is offered for the component of this label, if there is one, unless another was before.
+// Offers the index for the component of this label, if there is one, unless another index was offered for it before.
 fn offer(firsts: &mut [Option<u32>], label: u32, place: u32) -> Option<()> {
     let first = firsts.get_mut((label as usize).checked_sub(1)?)?;
     *first = first.or(Some(place));
     Some(())
 }
 
-// The places that there are, each behind the number of its component, from 1 on.
+// The indices that there are, each after the number of its component, counted from 1.
 fn numbered(rt: &impl Abort, alloc: Global, firsts: &[Option<u32>]) -> Vec<(u32, u32)> {
     let mut pairs = Vec::new(alloc);
     let mut component: u32 = 0;
@@ -197,7 +190,7 @@ fn numbered(rt: &impl Abort, alloc: Global, firsts: &[Option<u32>]) -> Vec<(u32,
     pairs
 }
 
-// Components of so many of n neighbours each, named by the first.
+// Components of `size` of n neighbours each, named by the first.
 pub(crate) fn neighbours(rt: &impl Abort, alloc: Global, n: u32, size: u32) -> Labels
     requires { 0 < size }
 {
@@ -211,7 +204,7 @@ pub(crate) fn neighbours(rt: &impl Abort, alloc: Global, n: u32, size: u32) -> L
 
 const MANY: u32 = 10_000;
 
-// Links between 10,000 vertices. The last 3,000 are repeats of the first, and each weight is that of hundreds.
+// Links between 10,000 vertices. The last 3,000 repeat the first ones, and hundreds of links share each weight.
 pub(crate) fn many_links(rt: &impl Abort, alloc: Global) -> Vec<Link> {
     let mut arcs = Vec::new(alloc);
     for i in 0..MANY {
@@ -225,7 +218,7 @@ pub(crate) fn many_links(rt: &impl Abort, alloc: Global) -> Vec<Link> {
     links_between(rt, alloc, MANY, arcs.as_slice())
 }
 
-// The vertices up to 5,000 make components of fifty, and each greater one is a component by itself.
+// The vertices up to 5,000 form components of fifty, and each greater vertex is a component by itself.
 pub(crate) fn many_labels(rt: &impl Abort, alloc: Global) -> Labels {
     let mut list = Vec::new(alloc);
     for i in 0..MANY {
@@ -235,8 +228,8 @@ pub(crate) fn many_labels(rt: &impl Abort, alloc: Global) -> Labels {
     Labels::of_list(list).expect(rt, "labels")
 }
 
-// So many that they are scanned by threads, between 1,007 vertices, each near the next. Each link is repeated some forty
-// times. The lower 32 bits of each weight are nothing.
+// Enough links to be scanned by threads, between 1,007 vertices, each near the next. Each link is repeated about forty
+// times. The lower 32 bits of each weight are 0.
 const NEAR_LINKS: u32 = 300_000;
 
 const PAST_32_BITS: i64 = 1 << 32;
@@ -254,7 +247,8 @@ fn near_links(rt: &impl Abort, alloc: Global) -> Vec<Link> {
     links_between(rt, alloc, NEAR, arcs.as_slice())
 }
 
-// What another program found of the offers: how many there are, the first three, the one at a place, and the last three.
+// What another program found of the offers: how many there are, the first three, the one at an index, and the last
+// three.
 #[derive(Clone, Copy)]
 struct Known {
     count: usize,
@@ -306,7 +300,7 @@ fn expect_offers_of_three(
 
 const TRIANGLE: [Row; 3] = [(1, 2, 5), (2, 3, 5), (1, 3, 5)];
 
-// The offers of these links, behind those of a triangle, are as they are known, and as the plain program finds them.
+// After a scan of a triangle, the offers of these links are the known ones, and those of the plain program.
 fn expect_known_offers(
     rt: &(impl Abort + Threads + Sync),
     alloc: Global,
@@ -334,7 +328,7 @@ fn expect_offers_of_near(rt: &(impl Abort + Threads + Sync), alloc: Global, scan
     expect_known_offers(rt, alloc, scanner, (links.as_slice(), &labels), &OF_NEAR)
 }
 
-// One scanner for lists of any length, some of them scanned by threads.
+// One scanner for lists of any length. Threads scan some of them.
 #[test]
 fn scans_one_after_the_other(rt: HostRuntime) {
     let mut scanner = Scanner::new(rt.alloc());
@@ -342,7 +336,8 @@ fn scans_one_after_the_other(rt: HostRuntime) {
     expect_offers_of_near(&rt, rt.alloc(), &mut scanner)
 }
 
-// Weights whose lower 32 bits are the same, and weights at both limits of 64 bits and beside them: by keys alone.
+// Weights whose lower 32 bits are equal, and weights at and next to both limits of 64 bits. Only whole keys tell them
+// apart.
 #[test]
 fn weights_past_32_bits(rt: HostRuntime) {
     let alloc = rt.alloc();
@@ -374,7 +369,8 @@ fn weights_past_32_bits(rt: HostRuntime) {
     }
 }
 
-// Of weights farther than 2^30 from zero many have one short key. Here all three have one, or lie where keys begin to.
+// Many weights farther than 2^30 from zero share a short key. Here all three weights share one, or are where sharing
+// begins.
 const FAR: i64 = 1 << 30;
 
 const FARTHER: i64 = 1 << 33;
@@ -409,7 +405,7 @@ fn weights_of_one_short_key(rt: HostRuntime) {
     }
 }
 
-// How many neighbours make a component, and how many of two shards are asked for.
+// How many neighbours form a component, and for how many of two shards there are asks.
 const COMPONENTS: [(u32, u32); 9] = [
     (1, 2),
     (2, 2),
@@ -422,7 +418,8 @@ const COMPONENTS: [(u32, u32); 9] = [
     (1, 2),
 ];
 
-// Two shards of many links, asked in turn as components grow, and then under labels that don't coarsen the last.
+// Two shards of many links. There are asks for them in turn as components grow, and then with labels that don't coarsen
+// the last ones.
 #[test]
 fn many_links_laid_aside(rt: HostRuntime) {
     let alloc = rt.alloc();
@@ -447,8 +444,8 @@ fn expect_laid_aside(
     }
 }
 
-// The worker answers an ask of a shard of so many vertices with the offers of its links by the plain program, where
-// components have so many neighbours each.
+// The worker answers an ask of a shard of this many vertices with the offers that the plain program finds. `components`
+// has the number of vertices and the size of each component.
 fn expect_plain(
     rt: &(impl Abort + Threads + Sync),
     alloc: Global,
@@ -464,7 +461,7 @@ fn expect_plain(
     worker.expect_answer(rt, shard.0, labels, expected.as_slice())
 }
 
-// As components grow, fewer and fewer of the links are live. At the first ask there are so many that threads scan them.
+// As components grow, fewer and fewer of the links are live. At the first ask there are enough for a scan by threads.
 #[test]
 fn many_live_links_by_threads(rt: HostRuntime) {
     let alloc = rt.alloc();
@@ -476,7 +473,7 @@ fn many_live_links_by_threads(rt: HostRuntime) {
     near.expect_fewer_and_fewer(&rt, alloc, links.as_slice())
 }
 
-/// A worker that keeps links of near vertices as its only shard, and a scanner beside it.
+/// A worker that keeps the links of near vertices as its only shard, and a scanner to compare with.
 #[derive(Drop)]
 struct Near {
     worker: Worker,
@@ -484,7 +481,8 @@ struct Near {
 }
 
 impl Near {
-    // The worker is sent the links, and answers so as components grow, and then under labels that don't coarsen the last.
+    // The worker gets the links, and answers as the scanner does as components grow, and then with labels that don't
+    // coarsen the last ones.
     fn expect_fewer_and_fewer(
         &mut self,
         rt: &(impl Abort + Threads + Sync),
@@ -498,7 +496,7 @@ impl Near {
         }
     }
 
-    // The worker answers as the scanner scans the links, where components have so many neighbours each.
+    // The worker answers as the scanner scans the links, if each component has `size` neighbours.
     fn expect_scanned(
         &mut self,
         rt: &(impl Abort + Threads + Sync),
@@ -514,7 +512,7 @@ impl Near {
     }
 }
 
-// Lists of about half as many links as there are vertices, and of twice as many as these.
+// Lists of about half as many links as vertices, and of twice as many links as vertices.
 #[test]
 fn half_as_many_links_as_vertices(rt: HostRuntime) {
     let links = near_links(&rt, rt.alloc());
@@ -530,7 +528,7 @@ fn half_as_many_links_as_vertices(rt: HostRuntime) {
     }
 }
 
-// How far the next vertex of a path lies.
+// The distances between the vertices of a path.
 const GAPS: [u32; 10] = [1, 254, 255, 256, 510, 511, 2, 3, 1, 7];
 
 // The last vertex of a path of 6,000 links over such vertices.
@@ -551,7 +549,7 @@ fn far_links(rt: &impl Abort, alloc: Global) -> Vec<Link> {
     links_between(rt, alloc, FAR_APART, arcs.as_slice())
 }
 
-// A shard with links to 6,001 labels of 1,080,001, some near the one before and some far.
+// A shard with links between 6,001 of 1,080,001 labels, some near the one before and some far from it.
 #[test]
 fn links_of_labels_that_lie_far_apart(rt: HostRuntime) {
     let links = far_links(&rt, rt.alloc());
@@ -570,7 +568,6 @@ fn links_of_labels_that_lie_far_apart(rt: HostRuntime) {
     }
 }
 
-// The worker answers an ask of its only shard under these labels with these offers.
 fn expect_under(
     rt: &(impl Abort + Threads + Sync),
     alloc: Global,
@@ -590,7 +587,8 @@ fn links_laid_aside_are_live_again(rt: HostRuntime) {
     }
 }
 
-// The worker is sent a triangle, and asked for it as components grow, and then under labels that don't coarsen the last.
+// The worker gets a triangle, and asks for it as components grow, and then with labels that don't coarsen the last
+// ones.
 fn expect_live_again(rt: &(impl Abort + Threads + Sync), alloc: Global, worker: &mut Worker) {
     let all: &[(u32, u32)] = &[(1, 0), (2, 0), (3, 2)];
     let asked: [(&[u32], &[(u32, u32)]); 5] = [
@@ -605,7 +603,6 @@ fn expect_live_again(rt: &(impl Abort + Threads + Sync), alloc: Global, worker: 
     expect_each(rt, alloc, worker, &asked)
 }
 
-// It answers so, ask by ask.
 fn expect_each(
     rt: &(impl Abort + Threads + Sync),
     alloc: Global,
@@ -617,8 +614,8 @@ fn expect_each(
     }
 }
 
-// Links in both directions, and links between the same two vertices of several weights: a lesser one behind a greater,
-// and the other way round. Between 1 or 2 and 3 or 4, and from these to 5, links of one weight have keys that differ.
+// Links in both directions, and links with several weights between the same two vertices: a lesser one after a greater,
+// and the other way round. Between 1 or 2 and 3 or 4, and from these to 5, links of one weight have different keys.
 const PARALLEL: [Row; 16] = [
     (1, 2, 3),
     (2, 1, 3),
@@ -638,7 +635,7 @@ const PARALLEL: [Row; 16] = [
     (3, 6, 10),
 ];
 
-// The offers of these links under labels that coarsen, and then under labels that don't coarsen the last, twice.
+// The offers of these links with labels that coarsen the ones before, and, twice, with labels that don't.
 const UNDER: [(&[u32], &[(u32, u32)]); 9] = [
     (
         &[1, 2, 3, 4, 5, 5],
@@ -657,7 +654,6 @@ const UNDER: [(&[u32], &[(u32, u32)]); 9] = [
     ),
 ];
 
-// A scan of the whole list under these labels gives these offers.
 fn expect_scan(
     rt: &(impl Abort + Threads + Sync),
     alloc: Global,
@@ -679,14 +675,14 @@ fn expect_scans(rt: &(impl Abort + Threads + Sync), alloc: Global, links: &[Link
     }
 }
 
-// A worker that keeps the list answers so, row by row.
+// A worker that keeps the list answers with the offers of each row.
 fn expect_heard(rt: &(impl Abort + Threads + Sync), alloc: Global, by: By, links: &[Link]) {
     let mut worker = Worker::new(alloc, by);
     worker.keep(rt, 0, links.to_vec(alloc).expect(rt, "memory"));
     expect_each(rt, alloc, &mut worker, &UNDER)
 }
 
-// Of parallel links the least is kept, whichever stands first. A scan of the whole list gives the same offers.
+// The least of parallel links is kept, whichever comes first. A scan of the whole list gives the same offers.
 #[test]
 fn parallel_links_are_laid_aside(rt: HostRuntime) {
     let alloc = rt.alloc();

@@ -1,4 +1,4 @@
-//! A set of shards, to its last one.
+//! A set of shards, up to the last one.
 use super::same::expect_same;
 use claim_board::ShardSet;
 
@@ -25,7 +25,7 @@ fn shards_are_put_in_and_taken_out(rt: HostRuntime) {
     expect_same(&rt, held, expected);
 }
 
-// Every shard, past each inner word.
+// Every shard, across all words of the set.
 #[test]
 fn every_shard_is_held_once(rt: HostRuntime) {
     let mut shards = ShardSet::empty();

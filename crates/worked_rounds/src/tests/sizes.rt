@@ -1,7 +1,7 @@
-// Calls that may answer want of memory, each with ample memory at the sizes at which something in them changes: no link
-// and no label, one, those from which on links are scanned by threads or halved again, with one less and one more, and
-// the most that there may be. A body that gives up at one of these is proved as well as one that doesn't. What is
-// expected is written by a formula, here.
+// Calls that may run out of memory, each with enough memory and at the sizes at which it works in another way. These
+// are no link and no label, and one. Then sizes from which on links are scanned by threads or in more parts, one less
+// and one more, and the greatest allowed size. The proofs allow a call to give up at some size, so only these tests
+// show that it doesn't. Formulas here give the expected results.
 ghost use Rattle.std.specs.Prelude.{◌<◌, ◌^◌};
 
 use super::same::expect_same;
@@ -12,11 +12,10 @@ use std::process::Abort;
 use std::thread::Threads;
 use worker_engine::Scanner;
 
-/// How many vertices and links there are.
 type Size = (u32, u32);
 
-// 131,072 links are scanned in two halves, 262,144 in four parts on four processors, 524,288 in eight on eight, where a part
-// has as many links as there are vertices.
+// 131,072 links are scanned in two parts, 262,144 in four parts on four processors, and 524,288 in eight on eight. But
+// a part has at least as many links as there are vertices.
 const SIZES: [Size; 20] = [
     (0, 0),
     (1, 0),
@@ -40,7 +39,7 @@ const SIZES: [Size; 20] = [
     (3, 524_288),
 ];
 
-// How many links the path of n vertices has; one at the least.
+// The number of links of the path of n vertices, but at least one.
 fn steps(n: u32) -> u32
     ensures some { 0 < result }
     ensures few { result < 2 ^ 20 }
@@ -48,8 +47,8 @@ fn steps(n: u32) -> u32
     if 1 < n && n < 1 << 20 { n - 1 } else { 1 }
 }
 
-// Links that go round the path of n vertices again and again, each lighter than the one before: those from one place on
-// before another.
+// Links that go round the path of n vertices again and again, each lighter than the one before. These are the links
+// from index `from` to before index `to`.
 pub(crate) fn falling<A: Allocator>(
     rt: &impl Abort,
     alloc: A,
@@ -71,7 +70,7 @@ pub(crate) fn falling<A: Allocator>(
     links
 }
 
-// The offers of so many such links: the last ones, once round the path, are the least.
+// The offers of `count` such links. The last ones, once round the path, are the least.
 pub(crate) fn falling_offers(
     rt: &impl Abort,
     alloc: Global,
@@ -84,7 +83,6 @@ pub(crate) fn falling_offers(
     plain_offers(rt, alloc, from, last.as_slice(), labels)
 }
 
-// The labels of n vertices, each by itself.
 pub(crate) fn apart(rt: &impl Abort, alloc: Global, n: u32) -> Labels {
     neighbours(rt, alloc, n, 1)
 }
@@ -98,7 +96,7 @@ fn scans_of_each_size(rt: HostRuntime) {
     }
 }
 
-// Such links are scanned so, each vertex a component by itself.
+// A scan of such links gives these offers, if each vertex is a component by itself.
 fn expect_scan(
     rt: &(impl Abort + Threads + Sync),
     alloc: Global,
@@ -113,7 +111,7 @@ fn expect_scan(
     expect_same(rt, (size, offers.pairs()), (size, expected.as_slice()));
 }
 
-// A worker that keeps such links answers with their offers, where components have so many neighbours each.
+// A worker that keeps such links answers with their offers, if each component has this many neighbours.
 fn expect_answer(
     rt: &(impl Abort + Threads + Sync),
     alloc: Global,
@@ -130,8 +128,8 @@ fn expect_answer(
     expect_same(rt, (size, offers.pairs()), (size, expected.as_slice()));
 }
 
-// It does so by all links under the labels of each vertex, and twice under those of pairs, the second time by the places
-// of half of them.
+// The first ask has the labels of each vertex by itself, and goes over all links. The next two have the labels of
+// pairs, and the second of them goes over half of the links.
 fn expect_answers(rt: &(impl Abort + Threads + Sync), alloc: Global, by: By, size: Size) {
     let mut worker = Worker::new(alloc, by);
     expect_answers_of(rt, alloc, &mut worker, size)
@@ -158,13 +156,11 @@ fn engines_of_each_size(rt: HostRuntime) {
     }
 }
 
-// As many links as a shard may have.
 #[test]
 fn an_engine_keeps_the_longest_shard(rt: HostRuntime) {
     expect_answers(&rt, rt.alloc(), By::Threads, (3, 1 << 24))
 }
 
-// A worker keeps a shard of one link, and is asked for it.
 fn expect_shard(
     rt: &(impl Abort + Threads + Sync),
     alloc: Global,
@@ -175,7 +171,7 @@ fn expect_shard(
     worker.expect_answer(rt, number, apart(rt, alloc, 2), &[(1, 0), (2, 0)])
 }
 
-// An engine keeps as many shards as there may be, each sent twice and asked for behind each time.
+// An engine keeps the greatest allowed number of shards. Each is sent twice, and there is an ask after each time.
 #[test]
 fn as_many_shards_as_there_may_be(rt: HostRuntime) {
     for by in [By::OneThread, By::Threads] {

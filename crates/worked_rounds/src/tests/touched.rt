@@ -1,5 +1,5 @@
-// Scans of a few links under many labels, each over the marks of the scan before. A link marks labels at the front, in the
-// middle or at the end, and no other label.
+// Scans of a few links under many labels, each with the marks of the scan before. A link marks labels near the
+// beginning, in the middle or near the end, and no other label.
 use super::scans::{expect_offers, links_between, neighbours, plain_offers, scanned};
 use super::sizes::apart;
 use link_key::Labels;
@@ -9,8 +9,8 @@ use std::thread::Threads;
 use worked_graphs::Row;
 use worker_engine::Scanner;
 
-// How many vertices there are, and three arcs. A word has marks of 64 labels: of 1,025 the last one is alone in its word, and
-// of 70,000 the last 48 are.
+// The number of vertices, and three arcs. A word has marks of 64 labels. The last of 1,025 labels is the only one in
+// its word, and the last 48 of 70,000 share one.
 const TOUCHED: [(u32, [Row; 3]); 2] = [
     (1025, [(1, 2, 5), (512, 514, 5), (1024, 1025, 5)]),
     (
@@ -19,7 +19,7 @@ const TOUCHED: [(u32, [Row; 3]); 2] = [
     ),
 ];
 
-// No links behind others offer nothing.
+// A scan without links, after other scans, gives no offers.
 fn expect_none_behind(
     rt: &(impl Abort + Threads + Sync),
     alloc: Global,
@@ -30,7 +30,7 @@ fn expect_none_behind(
     expect_offers(rt, &none, &[]);
 }
 
-// The offers of the link of this arc alone.
+// The offers of the single link of this arc.
 fn expect_alone(
     rt: &(impl Abort + Threads + Sync),
     alloc: Global,
@@ -44,7 +44,7 @@ fn expect_alone(
     expect_none_behind(rt, alloc, scanner, labels)
 }
 
-// The offers of the link of each of these arcs alone, and then of all together, under the labels of pairs.
+// The offers of each of these arcs by itself, and then of all together, with the labels of pairs.
 fn expect_each_and_all(
     rt: &(impl Abort + Threads + Sync),
     alloc: Global,
@@ -64,7 +64,7 @@ fn expect_each_and_all(
     expect_none_behind(rt, alloc, scanner, &pairs)
 }
 
-// Each link alone, twice, and between them all three under the labels of pairs.
+// Each link by itself, twice, and in between all three with the labels of pairs.
 #[test]
 fn few_of_many_labels_are_touched(rt: HostRuntime) {
     let mut scanner = Scanner::new(rt.alloc());

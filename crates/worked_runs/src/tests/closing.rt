@@ -1,5 +1,6 @@
-// Books closed in threads: the picks are those of closing in one, and the least of what was offered, whether the offers
-// are worth threads or too few, of equal links and of links of equal weight, and whoever answers first.
+// Books closed by several threads. The picks are those of closing by one thread, and the least of the offered links.
+// This holds for enough offers for threads and for too few, for equal links and links of equal weight, and in any order
+// of answers.
 ghost use Rattle.std.specs.Prelude.{◌≡◌, ◌<◌, ◌≤◌, ◌^◌, length};
 ghost use Rattle.round_core.specs.BookValue.{missing};
 
@@ -14,7 +15,8 @@ use std::thread::Threads;
 use worked_graphs::{all_have_labels, have_labels};
 use worker_engine::scan;
 
-// The link of a shard from a vertex to the next. Five weights make many shards' links equal, and others tie.
+// The link of a shard from a vertex to the next. There are only five weights, so the links of many shards are equal,
+// and others tie.
 fn step(rt: &impl Abort, shard: u32, vertex: u32) -> Link {
     assert!(rt; 0 < vertex && vertex < 1 << 20);
     let drawn = vertex.wrapping_mul(2_654_435_761) ^ shard.wrapping_mul(40_503);
@@ -22,7 +24,7 @@ fn step(rt: &impl Abort, shard: u32, vertex: u32) -> Link {
     Link::of_arc(vertex, vertex + 1, weight).expect(rt, "a link")
 }
 
-// So many shards that each have a link from each of n vertices to the next.
+// `shards` shards, each with a link from each of n vertices to the next.
 pub(crate) fn paths(rt: &impl Abort, alloc: Global, n: u32, shards: u32) -> Vec<Link>
     ensures few { length result.items ≤ 2 ^ 24 }
 {
@@ -36,7 +38,7 @@ pub(crate) fn paths(rt: &impl Abort, alloc: Global, n: u32, shards: u32) -> Vec<
     links
 }
 
-// An answer that offers the first so many links of a path, each for the lower of its ends.
+// An answer that offers the first `count` links of a path, each for its lower endpoint.
 fn first_links(rt: &impl Abort, alloc: Global, shard: u32, count: u32) -> Answer {
     let mut pairs = Vec::new(alloc);
     for place in 0..count {
@@ -51,7 +53,7 @@ fn first_links(rt: &impl Abort, alloc: Global, shard: u32, count: u32) -> Answer
     }
 }
 
-// The book once it has heard each shard offer the first so many of its links, in this order of the shards.
+// The book after each shard has offered its first links, as many as `counts` says, in this order of the shards.
 fn heard<'a>(
     rt: &impl Abort,
     alloc: Global,
@@ -71,7 +73,7 @@ fn heard<'a>(
     book
 }
 
-// The least of the offered links that leave a vertex, by a look at all of them.
+// The least offered link that leaves a vertex, found by going over all of them.
 fn least(rt: &impl Abort, alloc: Global, counts: &[u32], vertex: u32) -> Option<Link> {
     let mut offered = Vec::new(alloc);
     let mut shard = 0u32;
@@ -90,7 +92,8 @@ fn least(rt: &impl Abort, alloc: Global, counts: &[u32], vertex: u32) -> Option<
     offered.first().copied()
 }
 
-// The picks of a round over paths of n vertices are the least offered, closed in threads and in one.
+// The picks of a round over paths of n vertices are the least offered links, if it is closed by several threads or by
+// one.
 fn expect_least<R: Abort + Threads + Sync>(
     rt: &R,
     alloc: Global,
@@ -103,7 +106,7 @@ fn expect_least<R: Abort + Threads + Sync>(
     expect_least_under(rt, alloc, &labels, counts, order)
 }
 
-// So they are under labels, where no link that is offered joins two vertices of one.
+// The same under these labels. No offered link joins two vertices with the same label.
 fn expect_least_under<R: Abort + Threads + Sync>(
     rt: &R,
     alloc: Global,
@@ -124,7 +127,6 @@ fn expect_least_under<R: Abort + Threads + Sync>(
     expect_picks(rt, alloc, &beside, n, counts)
 }
 
-// The picks of n vertices are the least of the links offered.
 fn expect_picks(rt: &impl Abort, alloc: Global, picks: &Picks, n: u32, counts: &[u32])
     requires few { n < 2 ^ 20 }
     requires each_vertex { length picks.now ≡ n }
@@ -135,7 +137,7 @@ fn expect_picks(rt: &impl Abort, alloc: Global, picks: &Picks, n: u32, counts: &
     }
 }
 
-// The book once it has heard the light offers of each shard.
+// The book after it got the light offers of each shard.
 fn heard_light<'a>(rt: &impl Abort, alloc: Global, mut book: RoundBook<'a>) -> RoundBook<'a>
     ensures labels { result.labels ≡ book.entry.labels }
     ensures whole { missing result ≡ 0 }
@@ -155,7 +157,7 @@ fn heard_light<'a>(rt: &impl Abort, alloc: Global, mut book: RoundBook<'a>) -> R
     book
 }
 
-// Of light offers of so many paths of n vertices the picks, closed in threads, are the least of all links.
+// If several threads close a round with the light offers of paths of n vertices, the picks are the least of all links.
 fn expect_least_of_all<R: Abort + Threads + Sync>(rt: &R, alloc: Global, n: u32, shards: u32) {
     assert!(rt; 0 < n && n < 1 << 20 && shards <= 8);
     let labels = Labels::apart(alloc, n).expect(rt, "memory");
@@ -167,8 +169,8 @@ fn expect_least_of_all<R: Abort + Threads + Sync>(rt: &R, alloc: Global, n: u32,
     expect_picks(rt, alloc, &picks, n, counts.as_slice())
 }
 
-// An offer for each vertex, and of these as few as one thread counts, and more; the labels are cut into four parts, of which
-// the last is shorter or as long. The offers of 40,001 vertices are halved twice where they are looked at.
+// An offer for each vertex: as few as one thread counts, and more. The labels are split into four parts, of which the
+// last is shorter or equally long. The offers of 40,001 vertices are halved twice when they are checked.
 #[test]
 fn light_offers_of_one_shard(rt: HostRuntime) {
     for n in [16_383, 16_384, 16_385, 16_387, 40_001] {
@@ -176,14 +178,15 @@ fn light_offers_of_one_shard(rt: HostRuntime) {
     }
 }
 
-// Of 160,008 no pick of a component is above a link that is offered for another.
+// 160,008 light offers. If a link is offered for one component, the pick of the other component that it leaves is no
+// greater.
 #[test]
 fn light_offers_of_many_shards(rt: HostRuntime) {
     expect_least_of_all(&rt, rt.alloc(), 20_001, 8)
 }
 
-// 160,000 offers, 20,000 of each shard: past what one thread counts. The order of answers changes nothing. Each link is
-// offered for its lower end alone, so that some are below the pick of the other.
+// 160,000 offers, 20,000 of each shard, which is more than one thread counts. The order of answers changes nothing.
+// Each link is offered only for its lower endpoint, so that some are less than the pick of the higher one.
 #[test]
 fn many_offers(rt: HostRuntime) {
     let counts = [20_000; 8];
@@ -191,7 +194,7 @@ fn many_offers(rt: HostRuntime) {
     expect_least(&rt, rt.alloc(), 20_001, &counts, &[7, 6, 5, 4, 3, 2, 1, 0])
 }
 
-// As many, of which two answers have nearly all, and one has none.
+// As many offers. Two answers have nearly all of them, and one has none.
 #[test]
 fn answers_of_unequal_length(rt: HostRuntime) {
     let counts = [1, 70_000, 0, 69_999, 5];
@@ -199,13 +202,12 @@ fn answers_of_unequal_length(rt: HostRuntime) {
     expect_least(&rt, rt.alloc(), 70_001, &counts, &[4, 3, 2, 1, 0])
 }
 
-// One answer has them all.
 #[test]
 fn one_answer(rt: HostRuntime) {
     expect_least(&rt, rt.alloc(), 140_001, &[140_000], &[0])
 }
 
-// The longer of two has nearly all.
+// The longer of two answers has nearly all offers.
 #[test]
 fn two_answers_of_unequal_length(rt: HostRuntime) {
     let counts = [140_000, 3_000];
@@ -213,7 +215,7 @@ fn two_answers_of_unequal_length(rt: HostRuntime) {
     expect_least(&rt, rt.alloc(), 140_001, &counts, &[1, 0])
 }
 
-// Labels of the vertices up to n, each its own but for that of the last, which is the one before.
+// The labels of the vertices up to n. Each vertex has its own label, but the last has the label of the one before it.
 fn apart_but_for_the_last(rt: &impl Abort, alloc: Global, n: u32) -> Labels {
     assert!(rt; 1 < n && n < 1 << 20);
     let mut labels = Vec::new(alloc);
@@ -224,7 +226,8 @@ fn apart_but_for_the_last(rt: &impl Abort, alloc: Global, n: u32) -> Labels {
     Labels::of_list(labels).expect(rt, "labels")
 }
 
-// Links to all vertices but the last are offered, whose label is the one before: its own is picked by none.
+// There are offers for all vertices but the last, which has the label of the one before it. So there is no pick for the
+// last vertex.
 #[test]
 fn labels_apart_but_for_the_last(rt: HostRuntime) {
     let alloc = rt.alloc();
@@ -246,7 +249,7 @@ fn no_offer(rt: HostRuntime) {
     expect_least(&rt, rt.alloc(), 5, &[0, 0], &[1, 0])
 }
 
-// The picks of 50 vertices, once a step let go of them.
+// The picks of 50 vertices after a step has cleared them.
 fn picks_let_go(rt: &impl Abort, alloc: Global) -> Picks {
     let links = paths(rt, alloc, 50, 1);
     let cut = Cut::even(alloc, links.as_slice(), 1).expect(rt, "a cut");
@@ -258,7 +261,7 @@ fn picks_let_go(rt: &impl Abort, alloc: Global) -> Picks {
     picks
 }
 
-// A book over picks of which there is none has the picks of its own answer alone, which offers one link.
+// A book that is opened over cleared picks has only the picks of its own answer, which offers one link.
 fn expect_least_over(rt: &impl Abort, alloc: Global, picks: Picks, n: u32) {
     assert!(rt; picks.is_empty() && n < 1 << 20);
     let links = paths(rt, alloc, n, 1);
@@ -272,7 +275,7 @@ fn expect_least_over(rt: &impl Abort, alloc: Global, picks: Picks, n: u32) {
     expect_picks(rt, alloc, &over, n, &[1])
 }
 
-// With as many labels as the picks have, with fewer, and with more.
+// With as many labels as the picks had, with fewer, and with more.
 #[test]
 fn a_book_over_the_picks_of_another(rt: HostRuntime) {
     for n in [50, 30, 80] {
@@ -281,7 +284,7 @@ fn a_book_over_the_picks_of_another(rt: HostRuntime) {
     }
 }
 
-// So it is over picks that were none from the beginning.
+// The same over picks that were never set.
 #[test]
 fn a_book_over_no_picks(rt: HostRuntime) {
     for n in [50, 30, 80] {

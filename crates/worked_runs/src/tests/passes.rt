@@ -1,4 +1,4 @@
-// Whole runs over lanes, each with a worker in memory that is asked in a thread of its own.
+// Whole runs over lanes, each with a worker in memory and a thread of its own for its asks.
 ghost use Rattle.std.specs.Prelude.{◌≡◌, ◌<◌, ◌≤◌, ◌^◌, length, All, IfOk};
 ghost use Rattle.port_rounds.specs.Lanes.{IsIdle};
 
@@ -17,7 +17,6 @@ use worked_graphs::{Row, SMALL_NET, WIDE_WEIGHTS, all_have_labels};
 /// A lane to a worker in memory.
 type Worker<'a> = Lane<Wire<'a, EngineLine<Global>, Global>, Global>;
 
-// A lane to the worker of this number.
 fn lane<'a>(alloc: Global, cut: &'a Cut<'a>, worker: u32) -> Result<Worker<'a>, AllocError>
     requires { worker < 64 }
     ensures cut { IfOk result (λ lane. lane.port.client.cut ≡ cut.now) }
@@ -28,7 +27,6 @@ fn lane<'a>(alloc: Global, cut: &'a Cut<'a>, worker: u32) -> Result<Worker<'a>, 
     Ok(Lane::new(alloc, Wire::new(alloc, line, cut, worker)))
 }
 
-// Lanes to so many workers, numbered from 0.
 fn lanes<'a>(alloc: Global, cut: &'a Cut<'a>, count: u32) -> Result<Vec<Worker<'a>>, AllocError>
     requires { count ≤ 64 }
     ensures count { IfOk result (λ lanes. length lanes.items ≡ count) }
@@ -43,7 +41,7 @@ fn lanes<'a>(alloc: Global, cut: &'a Cut<'a>, count: u32) -> Result<Vec<Worker<'
     Ok(lanes)
 }
 
-// How often the workers of these lanes were asked, each of which is open.
+// How many asks the workers of these lanes got. Each port has to be open.
 fn ask_count(rt: &impl Abort, lanes: Vec<Worker>) -> u64 {
     let mut asks = 0u64;
     for lane in lanes {
@@ -53,10 +51,10 @@ fn ask_count(rt: &impl Abort, lanes: Vec<Worker>) -> u64 {
     asks
 }
 
-/// A run of arcs over so many workers: the forest that it finds, and what it reports.
+/// A run of arcs over this many workers: their number, the arcs, the forest that is found, and the report.
 type Run<'a> = (u32, &'a [Row], &'a [Row], Report);
 
-// The run, whose arcs have these links, goes so.
+// The run over these links, which are those of its arcs, finds this forest and has this report.
 fn expect_run_over<R: Abort + Threads + Wait + Sync>(
     rt: &R,
     alloc: Global,
@@ -76,14 +74,14 @@ fn expect_run_over<R: Abort + Threads + Wait + Sync>(
     expect_links(rt, alloc, &found, n, forest)
 }
 
-// The run goes so.
+// The same, with the links of its arcs.
 fn expect_run(rt: &(impl Abort + Threads + Wait + Sync), alloc: Global, run: Run) {
     let links = links_to_cut(rt, alloc, run.3.vertices, run.1);
     expect_run_over(rt, alloc, links.as_slice(), run)
 }
 
-// What a run reports that closed no port, and scanned shards alone only where it had no workers: of so many vertices and
-// links, rounds and shards, asks and scans, and a forest of this total.
+// The report of a run that closed no port, and in which the coordinator scanned shards only if there were no workers.
+// The arguments are the vertices and links, the rounds and shards, the asks and scans, and the forest's total.
 fn report(size: (u32, u64), cut: (u32, u32), work: (u64, u64), total: i128) -> Report {
     Report {
         vertices: size.0,
@@ -98,8 +96,8 @@ fn report(size: (u32, u64), cut: (u32, u32), work: (u64, u64), total: i128) -> R
     }
 }
 
-// Two workers answer each shard once a round, and none leave each to the coordinator. Of a path of one weight each
-// vertex but the first picks the link to the one before it, so one round merges them all.
+// Two workers answer for each shard once per round. Without workers, the coordinator scans each. If all edges of a path
+// have the same weight, each vertex but the first picks the edge to the one before it, so one round merges them all.
 #[test]
 fn runs_over_lanes(rt: HostRuntime) {
     let alloc = rt.alloc();

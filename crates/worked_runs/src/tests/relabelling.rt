@@ -1,4 +1,4 @@
-// Labels made by a round's picks.
+// Labels that follow from a round's picks.
 ghost use Rattle.std.specs.Prelude.{◌<◌};
 
 use super::rounds::{links_to_cut, opened, picks_of_offers};
@@ -12,10 +12,10 @@ use worked_graphs::{EQUAL_WEIGHTS, Row, SMALL_NET};
 
 const MANY: u32 = 10_000;
 
-/// A round over arcs as one shard: the labels before it, the arcs, the offers of its only answer, and the labels behind it.
+/// A round over arcs as one shard: the labels before it, the arcs, the offers of its only answer, and the labels after
+/// it.
 type Round<'a> = (&'a [u32], &'a [Row], &'a [(u32, u32)], &'a [u32]);
 
-// Such a round makes these labels.
 fn expect_relabelled(rt: &impl Abort, alloc: Global, round: Round) {
     let (before, arcs, pairs, behind) = round;
     let labels = Labels::of_list(before.to_vec(alloc).expect(rt, "memory")).expect(rt, "labels");
@@ -37,10 +37,11 @@ fn labels_that_are_known(rt: HostRuntime) {
     expect_same(&rt, again.as_slice(), [1, 2, 1].as_slice());
 }
 
-// In the first round of the small net each vertex's least link is picked, and in the second the link between the two
-// components that are left. An answer that hides links makes fewer components one, whether or not what it names is
-// least; an empty one makes none. And there may be no vertex, or one. The triangle's first link has joined 1 and 2, and its
-// last one joins 3 to them.
+// In the first round of the small net the least link of each vertex is picked. In the second round it is the link
+// between the two components that are left. An answer that hides links merges fewer components, whether or not its
+// offers are the least. An empty answer merges none. There may be no vertex, or one.
+//
+// In the last rows the triangle's first link has joined 1 and 2, and its last link joins 3 to them.
 #[test]
 fn rounds_of_small_graphs(rt: HostRuntime) {
     let net = SMALL_NET.arcs;
@@ -71,7 +72,7 @@ fn rounds_of_small_graphs(rt: HostRuntime) {
     }
 }
 
-// The labels of many vertices in components of so many neighbours each, named by the first.
+// The labels of many vertices in components of `size` neighbours each, named by the first.
 fn neighbours(rt: &impl Abort, alloc: Global, size: u32) -> Vec<u32>
     requires { 0 < size }
 {
@@ -84,7 +85,8 @@ fn neighbours(rt: &impl Abort, alloc: Global, size: u32) -> Vec<u32>
     labels
 }
 
-// The offers to every second vertex from this one on, which is odd: of the link behind it, or of the one so many before.
+// Offers for every second vertex from `first` on, which is odd. Each offers the link at that vertex, or the one
+// `before` links earlier.
 fn offers_from(rt: &impl Abort, alloc: Global, first: u32, before: u32) -> Vec<(u32, u32)> {
     let mut pairs = Vec::new(alloc);
     for half in first / 2..MANY / 2 {
@@ -96,8 +98,8 @@ fn offers_from(rt: &impl Abort, alloc: Global, first: u32, before: u32) -> Vec<(
     pairs
 }
 
-// A path from vertex 1 on: every second arc is picked, and then the rest. The last vertex, whose number is the greatest,
-// comes to have the least label.
+// A path from vertex 1 on. Every second arc is picked, and then the rest. The last vertex, whose number is the
+// greatest, gets the least label.
 #[test]
 fn ten_thousand_vertices(rt: HostRuntime) {
     let alloc = rt.alloc();

@@ -1,5 +1,5 @@
-// A round's book by example: what the judge says of answers for a triangle of equal weights, that the order of answers
-// changes nothing, and a book that several threads read.
+// The book of a round. `judge` checks answers about a triangle of equal weights, the order of answers changes nothing,
+// and several threads can read a book.
 ghost use Rattle.std.specs.Prelude.{◌≡◌, ◌≤◌, ◌<◌, ◌↔◌, ◌^◌, ℕ, length, All, IsTrue};
 ghost use Rattle.links.specs.Cut.{links_at};
 ghost use Rattle.links.specs.Link.{EndsUpTo};
@@ -26,7 +26,6 @@ fn answer(rt: &impl Abort, alloc: Global, round: u32, shard: u32, pairs: &[(u32,
     }
 }
 
-// The links of the arcs, few enough for any cut.
 pub(crate) fn links_to_cut(rt: &impl Abort, alloc: Global, n: u32, arcs: &[Row]) -> Vec<Link>
     ensures few { length result.items ≤ 2 ^ 30 }
 {
@@ -37,7 +36,6 @@ pub(crate) fn links_to_cut(rt: &impl Abort, alloc: Global, n: u32, arcs: &[Row])
     links
 }
 
-// A book of the round of this number over the cut.
 pub(crate) fn opened<'a>(
     rt: &impl Abort,
     alloc: Global,
@@ -53,7 +51,7 @@ pub(crate) fn opened<'a>(
     book
 }
 
-// The picks of the book's round where its answers offer these, one list for each shard.
+// The picks of the book's round if its answers offer these, with one list for each shard.
 pub(crate) fn picks_of_offers(
     rt: &impl Abort,
     alloc: Global,
@@ -73,7 +71,7 @@ pub(crate) fn picks_of_offers(
     book.close()
 }
 
-// The picks of the book's round where its shards are scanned and answered in this order.
+// The picks of the book's round if its shards are scanned and answered in this order.
 pub(crate) fn picks_of_scans(
     rt: &impl Abort,
     alloc: Global,
@@ -99,7 +97,7 @@ pub(crate) fn picks_of_scans(
     book.close()
 }
 
-// What the judge says of an answer for shard 0, of this round and shard and with these offers.
+// What `judge` returns for an answer to an ask of shard 0, with this round, this shard and these offers.
 fn judged(
     rt: &impl Abort,
     alloc: Global,
@@ -111,7 +109,6 @@ fn judged(
     book.judge(0, &answer)
 }
 
-// The book judges these answers so, one after the other.
 fn expect_judged(
     rt: &impl Abort,
     alloc: Global,
@@ -153,7 +150,7 @@ fn judged_answers(rt: HostRuntime) {
     expect_judged(&rt, alloc, &book, &[(1, 0, &light, Err(Refusal::Double))])
 }
 
-// What the judge allows is taken without a second look, and can't be taken again.
+// An answer that `judge` allows is taken without a second check, and can't be taken again.
 #[test]
 fn an_answer_that_was_judged(rt: HostRuntime) {
     let alloc = rt.alloc();
@@ -181,7 +178,7 @@ fn are_pairs(picks: &Picks) -> bool
     pairs && !picks.is_empty()
 }
 
-// The picks are the same once its three shards have answered, in whatever order.
+// After the three shards have answered, the picks are the same for every order.
 #[test]
 fn answers_in_any_order(rt: HostRuntime) {
     let alloc = rt.alloc();
@@ -204,7 +201,7 @@ fn answers_in_any_order(rt: HostRuntime) {
     }
 }
 
-// In the first round of the triangle 1 and 2 pick the link between them, and 3 that to 1.
+// In the first round of the triangle, 1 and 2 pick the link between them, and 3 picks the link to 1.
 pub(crate) fn are_of_triangle(picks: &Picks) -> bool
     requires { length picks.now ≡ 3 }
 {
@@ -212,7 +209,7 @@ pub(crate) fn are_of_triangle(picks: &Picks) -> bool
     picks.of(1) == least && picks.of(2) == least && picks.of(3) == next
 }
 
-// A book takes any number for its round's, those too that no run over so few vertices comes to: the picks are the same.
+// A book accepts any number of a round, even one that no run over so few vertices reaches. The picks are the same.
 #[test]
 fn books_of_late_rounds(rt: HostRuntime) {
     let alloc = rt.alloc();
@@ -227,7 +224,7 @@ fn books_of_late_rounds(rt: HostRuntime) {
     }
 }
 
-// Where 2 and 3 are joined, both components pick the link from 1 to 2, and 3 names none.
+// If 2 and 3 are joined, both components pick the link from 1 to 2. Vertex 3 names no component.
 fn are_of_two(picks: &Picks) -> bool
     requires { length picks.now ≡ 3 }
 {
@@ -235,8 +232,8 @@ fn are_of_two(picks: &Picks) -> bool
     picks.of(1) == least && picks.of(2) == least && picks.of(3).is_none()
 }
 
-// Each vertex of the triangle is its own label but the last, which is joined to the second: the link between these is none
-// to offer, and the other two leave the second's label and not the last's own.
+// Each vertex of the triangle has its own label, but the last is joined to the second. The link between these two can't
+// be offered. The other two links leave the second vertex's label, not the last vertex's number.
 #[test]
 fn the_last_vertex_is_joined(rt: HostRuntime) {
     let alloc = rt.alloc();
@@ -262,13 +259,12 @@ fn the_last_vertex_is_joined(rt: HostRuntime) {
     expect_same(&rt, are_of_two(&picks), true);
 }
 
-// It has this text.
 pub(crate) fn expect_text(rt: &impl Abort, alloc: Global, fault: &impl Display, text: &str) {
     let shown = format!(in alloc; "{fault}").expect(rt, "memory");
     expect_same(rt, shown.as_str(), text);
 }
 
-// What several threads may read at once.
+// Accepts what several threads may read at once.
 fn lent<B: Sync>(_book: &B) {}
 
 #[test]

@@ -1,4 +1,4 @@
-// A solver's steps on the worked graphs, and whole runs by one thread.
+// A solver's steps on the example graphs, and whole runs by one thread.
 ghost use Rattle.std.specs.Prelude.{◌≡◌, length};
 ghost use Rattle.round_core.specs.Picks.{ArePicksOfHearings};
 
@@ -14,10 +14,11 @@ use worked_graphs::{
     A_PATH_OF_EIGHT, EQUAL_WEIGHTS, Row, SMALL_NET, WIDE_WEIGHTS, all_have_labels, links_of,
 };
 
-/// A round: the order in which its shards are scanned, what it does, and the labels behind it.
+/// A round: the order in which its shards are scanned, what the step returns, and the labels after it.
 type Step<'a> = (&'a [u32], Turn, &'a [u32]);
 
-/// Arcs between vertices 1 to n, cut at these places; the rounds from vertices that are apart on, and the forest.
+/// Arcs between the vertices 1 to n, split at these positions. Then the rounds, from separate vertices on, and the
+/// forest.
 #[derive(Clone, Copy)]
 struct Rounds<'a> {
     n: u32,
@@ -27,7 +28,7 @@ struct Rounds<'a> {
     forest: &'a [Row],
 }
 
-// The picks of the solver's next round, where the cut's shards are scanned in this order.
+// The picks of the solver's next round if the cut's shards are scanned in this order.
 fn next_picks(rt: &impl Abort, alloc: Global, cut: &Cut, order: &[u32], solver: &Solver) -> Picks
     ensures heard { ArePicksOfHearings solver.now.labels result }
     ensures each_vertex { length result ≡ length solver.now.labels }
@@ -36,7 +37,8 @@ fn next_picks(rt: &impl Abort, alloc: Global, cut: &Cut, order: &[u32], solver: 
     picks_of_scans(rt, alloc, book, order)
 }
 
-// A round whose shards are scanned in this order. The labels keep their bytes from its beginning on, the new ones theirs.
+// A round whose shards are scanned in this order. From its beginning the labels store their encoded bytes, and the new
+// labels store theirs.
 fn step(rt: &impl Abort, alloc: Global, cut: &Cut, order: &[u32], solver: &mut Solver) -> Turn {
     let before = solver
         .labels()
@@ -52,7 +54,8 @@ fn step(rt: &impl Abort, alloc: Global, cut: &Cut, order: &[u32], solver: &mut S
     turn
 }
 
-// A step that lets go of the picks does what another does, keeps the labels' bytes as theirs, and leaves no pick.
+// A step that clears the picks gives the same result as one that keeps them. The labels' encoded bytes stay right, and
+// no pick is left.
 fn expect_same_step(
     rt: &impl Abort,
     alloc: Global,
@@ -74,7 +77,7 @@ fn expect_same_step(
     turn
 }
 
-// Whether the labels' bytes are kept, and are theirs: four of each, the highest first.
+// Whether the labels store their encoded bytes: four of each, the highest first.
 fn have_their_bytes(labels: &Labels) -> bool {
     let Some(mut rest) = labels.spelled() else {
         return false;
@@ -88,7 +91,8 @@ fn have_their_bytes(labels: &Labels) -> bool {
     rest.is_empty()
 }
 
-// All steps over a path of so many vertices, by picks that stay and by such as are let go of, and the forests at their ends.
+// All steps over a path of n vertices, with picks that are kept and with picks that are cleared, and the forests at the
+// end.
 fn expect_same_steps(rt: &impl Abort, alloc: Global, n: u32) {
     assert!(rt; 1 < n && n <= 1 << 20);
     let links = paths(rt, alloc, n, 1);
@@ -112,7 +116,6 @@ fn expect_same_steps(rt: &impl Abort, alloc: Global, n: u32) {
     expect_same(rt, found.links() == alone.links(), true);
 }
 
-// Few vertices and many.
 #[test]
 fn steps_in_place(rt: HostRuntime) {
     for n in [40, 140_001] {
@@ -120,7 +123,7 @@ fn steps_in_place(rt: HostRuntime) {
     }
 }
 
-// From vertices that are apart these steps are taken over the cut. The solver behind them.
+// Takes these steps over the cut, from separate vertices on, and returns the solver after them.
 fn taken(rt: &impl Abort, alloc: Global, n: u32, cut: &Cut, steps: &[Step]) -> Solver {
     assert!(rt; n <= 1 << 26);
     let mut solver = Solver::new(alloc, n).expect(rt, "memory");
@@ -136,7 +139,6 @@ fn taken(rt: &impl Abort, alloc: Global, n: u32, cut: &Cut, steps: &[Step]) -> S
     solver
 }
 
-// The rounds go so, and lead to the forest.
 fn expect_rounds(rt: &(impl Abort + Threads + Sync), alloc: Global, rounds: Rounds) {
     let n = rounds.n;
     let links = links_to_cut(rt, alloc, n, rounds.arcs);
@@ -149,7 +151,6 @@ fn expect_rounds(rt: &(impl Abort + Threads + Sync), alloc: Global, rounds: Roun
     expect_same(rt, by_threads.links() == found.links(), true);
 }
 
-// The forest has the links of these arcs.
 pub(crate) fn expect_links(rt: &impl Abort, alloc: Global, found: &Forest, n: u32, arcs: &[Row]) {
     let links = links_of(alloc, n, arcs)
         .expect(rt, "memory")
@@ -157,7 +158,6 @@ pub(crate) fn expect_links(rt: &impl Abort, alloc: Global, found: &Forest, n: u3
     expect_same(rt, found.links() == links.as_slice(), true);
 }
 
-// The shards of a cut in their order.
 fn ascending(rt: &impl Abort, alloc: Global, count: u32) -> Vec<u32> {
     let mut order = Vec::new(alloc);
     for shard in 0..count {
@@ -185,7 +185,7 @@ fn steps_on_the_small_net(rt: HostRuntime) {
     expect_rounds(&rt, rt.alloc(), rounds)
 }
 
-// One round takes the triangle's forest, and the next finds no link to take. The second shard is heard first.
+// One round finds the triangle's forest, and the next finds no link to take. The second shard answers first.
 #[test]
 fn steps_on_the_triangle(rt: HostRuntime) {
     let ones = [1; 3].as_slice();
@@ -203,7 +203,7 @@ fn steps_on_the_triangle(rt: HostRuntime) {
     expect_rounds(&rt, rt.alloc(), rounds)
 }
 
-// No vertex, one, and two, in one shard and in as many as there may be: cut at no place, and at 4,095.
+// No vertex, one, and two. They are in one shard and in the most that are allowed: a cut at no position, and at 4,095.
 #[test]
 fn steps_at_their_bounds(rt: HostRuntime) {
     let alloc = rt.alloc();
@@ -230,9 +230,8 @@ fn steps_at_their_bounds(rt: HostRuntime) {
     }
 }
 
-// Four vertices with the greatest and the least weight that there are, and its forest's links. Vertices 1 and 2 are
-// joined by one of the greatest links, 3 and 4 by the least, and both pairs by the first of the greatest links between
-// them.
+// Four vertices with the greatest and the least weights, and the forest. Vertices 1 and 2 are joined by one of the
+// greatest links, 3 and 4 by the least. The first of the greatest links between the pairs joins both.
 pub(crate) const LIMITS: [Row; 5] = [
     (1, 2, i64::MAX),
     (2, 3, i64::MAX),
@@ -264,7 +263,6 @@ fn steps_at_both_limits_of_weights(rt: HostRuntime) {
     }
 }
 
-// A round whose only answer offers these.
 fn offer(
     rt: &impl Abort,
     alloc: Global,
@@ -277,7 +275,7 @@ fn offer(
     solver.step(&picks)
 }
 
-// A worker that offers one link a round, and hides the third: three vertices can't have a second merging round.
+// A worker that offers one link per round and hides the third. Three vertices can't have a second merging round.
 #[test]
 fn a_round_past_the_bound(rt: HostRuntime) {
     let alloc = rt.alloc();
@@ -298,7 +296,7 @@ fn a_round_past_the_bound(rt: HostRuntime) {
     expect_missed_by_threads(&rt, solver, &cut, Link::of_arc(2, 3, 5));
 }
 
-// The same where threads look for the link.
+// The solver misses this link of the cut, if threads search for it.
 fn expect_missed_by_threads(
     rt: &(impl Abort + Threads + Sync),
     solver: Solver,
@@ -310,7 +308,7 @@ fn expect_missed_by_threads(
     expect_same(rt, is_missed(missed, expected), true);
 }
 
-// Offers of the first so many links of a path, each for the higher of its ends.
+// Offers of the first `count` links of a path, each for its higher endpoint.
 fn first_pairs(rt: &impl Abort, alloc: Global, count: u32) -> Vec<(u32, u32)> {
     let mut pairs = Vec::new(alloc);
     for place in 0..count {
@@ -321,7 +319,7 @@ fn first_pairs(rt: &impl Abort, alloc: Global, count: u32) -> Vec<(u32, u32)> {
     pairs
 }
 
-// A solver that took what these offers pick.
+// A solver after a round with these offers.
 fn solver_behind(rt: &impl Abort, alloc: Global, cut: &Cut, pairs: &[(u32, u32)]) -> Solver {
     let mut solver = Solver::new(alloc, 70_001).expect(rt, "memory");
     let said = offer(rt, alloc, cut, &mut solver, pairs);
@@ -329,7 +327,7 @@ fn solver_behind(rt: &impl Abort, alloc: Global, cut: &Cut, pairs: &[(u32, u32)]
     solver
 }
 
-// The first of the links behind so many is missed.
+// The first link after `count` links is missed.
 fn expect_first_missed(rt: &(impl Abort + Threads + Sync), alloc: Global, cut: &Cut, count: u32) {
     let pairs = first_pairs(rt, alloc, count);
     let solver = solver_behind(rt, alloc, cut, pairs.as_slice());
@@ -338,8 +336,8 @@ fn expect_first_missed(rt: &(impl Abort + Threads + Sync), alloc: Global, cut: &
     expect_missed_by_threads(rt, solver, cut, Link::of_arc(first, first + 1, 1));
 }
 
-// Of a path of so many links the first ones alone are offered. The first of the others is missed, in whichever part of
-// the list threads look for it.
+// Only the first links of a path are offered. The first of the others is missed, in whichever part of the list threads
+// search for it.
 #[test]
 fn the_first_missed_of_many_links(rt: HostRuntime) {
     let alloc = rt.alloc();
@@ -351,7 +349,7 @@ fn the_first_missed_of_many_links(rt: HostRuntime) {
     }
 }
 
-// The links picked, where one worker offers one of the triangle's links for one of its components.
+// The picks if one worker offers one link of the triangle for one of its components.
 #[test]
 fn picks_of_one_offer(rt: HostRuntime) {
     let alloc = rt.alloc();
@@ -374,7 +372,7 @@ fn picks_of_one_offer(rt: HostRuntime) {
     }
 }
 
-// The links picked under these labels of four vertices, where both limits of weights are met.
+// The picks under these labels of four vertices, with both limits of weights.
 #[test]
 fn picks_at_both_limits_of_weights(rt: HostRuntime) {
     let alloc = rt.alloc();
@@ -400,7 +398,6 @@ fn picks_at_both_limits_of_weights(rt: HostRuntime) {
     }
 }
 
-// The links that the solver took miss this link of the cut.
 fn expect_missed(rt: &impl Abort, solver: &Solver, cut: &Cut, expected: Option<Link>) {
     assert!(rt; all_have_labels(cut, solver.labels().n()));
     let missed = solver.finish(cut).err();
@@ -414,10 +411,9 @@ fn is_missed(fault: Option<SolveFault>, expected: Option<Link>) -> bool {
     }
 }
 
-/// How many vertices there are, arcs, and in how many even shards they are; the forest, and the number of merging rounds.
+/// The number of vertices, the arcs, the number of even shards, the forest, and the number of merging rounds.
 type Alone<'a> = (u32, &'a [Row], u32, &'a [Row], u32);
 
-// One thread finds the forest in so many merging rounds.
 fn expect_alone(rt: &impl Abort, alloc: Global, run: Alone) {
     let (n, arcs, shards, forest, merging) = run;
     let links = links_to_cut(rt, alloc, n, arcs);
@@ -428,7 +424,7 @@ fn expect_alone(rt: &impl Abort, alloc: Global, run: Alone) {
     expect_links(rt, alloc, &found, n, forest)
 }
 
-// The path of so many arcs of one weight.
+// A path of `count` arcs of the same weight.
 pub(crate) fn path(rt: &impl Abort, alloc: Global, count: u32) -> Vec<Row> {
     let mut arcs = Vec::new(alloc);
     for v in 0..count {
@@ -439,8 +435,8 @@ pub(crate) fn path(rt: &impl Abort, alloc: Global, count: u32) -> Vec<Row> {
     arcs
 }
 
-// The path of 2^16 vertices whose arc behind vertex v is as heavy as 2 divides v often, by weight: each round makes
-// components of twice as many vertices.
+// A path of 2^16 vertices, in the order of weights. The weight of the arc after vertex v is the number of times that 2
+// divides v. So each round makes components of twice as many vertices.
 fn doubling_path(rt: &impl Abort, alloc: Global) -> Vec<Row> {
     let mut arcs = Vec::new(alloc);
     for weight in 0..16u32 {
@@ -453,8 +449,9 @@ fn doubling_path(rt: &impl Abort, alloc: Global) -> Vec<Row> {
     arcs
 }
 
-// Of the path of eight pairs after one round, fours after two, and one component after three. Of a path of one weight
-// each vertex but the first picks the link to the one before it, so one round merges them all.
+// The path of eight has pairs after one round, groups of four after two, and one component after three. If all edges of
+// a path have the same weight, each vertex but the first picks the edge to the one before it, so one round merges them
+// all.
 #[test]
 fn runs_alone(rt: HostRuntime) {
     let alloc = rt.alloc();
@@ -503,7 +500,7 @@ fn steps_over_ten_thousand_links(rt: HostRuntime) {
     expect_rounds(&rt, alloc, rounds)
 }
 
-// The path of so many arcs, each of them so many times as heavy as the vertex that it leaves.
+// A path of `count` arcs. The weight of each is `times` the number of the vertex that it leaves.
 fn weighted_path(rt: &impl Abort, alloc: Global, count: u32, times: i64) -> Vec<Row> {
     let mut arcs = Vec::new(alloc);
     for v in 0..count {
@@ -515,8 +512,8 @@ fn weighted_path(rt: &impl Abort, alloc: Global, count: u32, times: i64) -> Vec<
     arcs
 }
 
-// Chains of picks as long as the path: where weights ascend each vertex but the first picks the link to the one before
-// it, and where they descend each but the last the link to the one behind it. One round merges all either way.
+// Chains of picks as long as the path. If weights ascend, each vertex but the first picks the link to the one before
+// it. If they descend, each but the last picks the link to the one after it. One round merges all either way.
 #[test]
 fn steps_along_chains_of_picks(rt: HostRuntime) {
     let alloc = rt.alloc();
@@ -545,8 +542,8 @@ fn steps_along_chains_of_picks(rt: HostRuntime) {
     }
 }
 
-// Vertices without links stay by themselves, and what is joined has its least vertex for a label, whichever of its
-// vertices the picks lead to.
+// Vertices without links stay by themselves. The label of a component is its least vertex, whichever of its vertices
+// the picks lead to.
 #[test]
 fn steps_beside_lone_vertices(rt: HostRuntime) {
     let alloc = rt.alloc();

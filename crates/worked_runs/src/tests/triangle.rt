@@ -1,5 +1,5 @@
-// The triangle of equal weights, cut after its second link. What these calls return is what the laws of rounds speak of,
-// as their contracts say: so the premises of these laws can be met. The values were found by hand.
+// The triangle of equal weights, split after its second link. The contracts of these calls say that their results are
+// those in the laws of rounds. So the premises of these laws can be met. The values were worked out by hand.
 ghost use Rattle.std.specs.Prelude.{◌≡◌, length};
 
 use super::rounds::{are_of_triangle, links_to_cut, opened, picks_of_offers, picks_of_scans};
@@ -15,10 +15,9 @@ use worker_engine::scan;
 // The last link is in the second shard.
 const PLACES: [usize; 1] = [2];
 
-// In the first shard 1 and 2 have the link between them, and 3 has that to 2. In the second one 2 has no link.
+// In the first shard, 1 and 2 have the link between them, and 3 has the link to 2. In the second shard, 2 has no link.
 const OFFERS: [&[(u32, u32)]; 2] = [&[(1, 0), (2, 0), (3, 1)], &[(1, 0), (3, 0)]];
 
-// Each shard has one list of light offers.
 #[test]
 fn light_offers_of_the_shards(rt: HostRuntime) {
     let alloc = rt.alloc();
@@ -34,7 +33,8 @@ fn light_offers_of_the_shards(rt: HostRuntime) {
     }
 }
 
-// The lesser of both shards' offers for 3 is picked, and the only one for 2, whichever shard is heard first.
+// The pick for 3 is the lesser of both shards' offers, and the pick for 2 is its only offer, whichever shard answers
+// first.
 #[test]
 fn shards_in_either_order(rt: HostRuntime) {
     let alloc = rt.alloc();
@@ -57,7 +57,7 @@ fn are_of_first_shard(picks: &Picks) -> bool
     picks.of(1) == least && picks.of(2) == least && picks.of(3) == next
 }
 
-// What is picked then isn't the forest. It closes no cycle all the same, and spans.
+// These picks aren't the forest. They still close no cycle, and they span.
 #[test]
 fn hidden_offers_close_no_cycle(rt: HostRuntime) {
     let alloc = rt.alloc();

@@ -1,5 +1,5 @@
-// A wire over lines that end where a test wants it: a worker in memory whose line stops after so many bytes or calls,
-// and stored bytes in place of a worker. The triangle of equal weights is asked in one shard, or in two.
+// A wire over lines that end where a test needs it: a worker in memory whose line stops after some bytes or calls, and
+// stored bytes instead of a worker. The asks are about the triangle of equal weights, in one shard or in two.
 ghost use Rattle.std.specs.Prelude.{◌≡◌, ◌+◌, ◌<◌, ◌≤◌};
 ghost use Rattle.wires.specs.Lines.{HasRoom};
 
@@ -15,7 +15,7 @@ use worked_graphs::{EQUAL_WEIGHTS, Row, have_labels};
 /// The offers of an answer, or why there is none.
 type Reply<'a> = Result<&'a [(u32, u32)], PortFault>;
 
-/// What is done with a wire: an ask of a round for a shard, which is answered so, or it is shut.
+/// A step with a wire: an ask of this round and shard, with its reply, or a call of `shut`.
 #[derive(Clone, Copy)]
 enum Step<'a> {
     Ask(u32, u32, Reply<'a>),
@@ -30,13 +30,13 @@ const HELLO: [u8; 11] = [1, 0, 0, 0, 6, 0, 1, 0, 0, 0, 0];
 
 const NOT_KEPT: [u8; 14] = [5, 0, 0, 0, 9, 0, 0, 0, 1, 0, 0, 0, 5, 2];
 
-// A head of no kind.
+// A head of an unknown kind.
 const NO_KIND: [u8; 5] = [7, 0, 0, 0, 0];
 
-// The triangle's offers, where each vertex is a component by itself.
+// The triangle's offers if each vertex is a component by itself.
 const OFFERS: Reply = Ok(&[(1, 0), (2, 0), (3, 2)]);
 
-// Whether an ask of this round and shard was answered so.
+// Whether this is the reply to an ask of this round and shard.
 fn is_reply(reply: &Result<Answer, PortFault>, asked: (u32, u32), expected: Reply) -> bool {
     match (reply, expected) {
         (Ok(answer), Ok(offers)) => {
@@ -47,7 +47,7 @@ fn is_reply(reply: &Result<Answer, PortFault>, asked: (u32, u32), expected: Repl
     }
 }
 
-// An ask of a round for a shard is answered so, or the port is shut.
+// An ask of this round and shard gets this reply, or the port is shut.
 fn take_step<P: Port<Global>>(rt: &impl Abort, port: &mut P, cut: &Cut, labels: &Labels, step: Step)
     requires { (P.state port.old).cut ≡ cut.now }
     ensures { (P.state port.new).cut ≡ cut.now }
@@ -78,8 +78,7 @@ fn take_steps<P: Port<Global>>(
     }
 }
 
-/// Arcs between vertices 1 to n, in so many even shards; what is done with a wire that asks for them, and how many asks it
-/// counts.
+/// Arcs between the vertices 1 to n, the number of even shards, the steps with a wire, and how many asks it counts.
 #[derive(Clone, Copy)]
 struct Client<'a> {
     n: u32,
@@ -89,7 +88,7 @@ struct Client<'a> {
     asks: u64,
 }
 
-// A new wire over the line transcripts so. What the line is then.
+// A new wire over the line takes the client's steps. Returns the line afterwards.
 fn expect_transcript<L: Line + Drop>(
     rt: &impl Abort,
     alloc: Global,
@@ -110,7 +109,7 @@ fn expect_transcript<L: Line + Drop>(
     wire.into_line()
 }
 
-// Two asks for the whole triangle, of rounds 1 and 2, over a new wire are answered so.
+// Two asks for the whole triangle, of rounds 1 and 2, over a new wire get these replies.
 fn expect_two<L: Line + Drop>(
     rt: &impl Abort,
     alloc: Global,
@@ -133,7 +132,7 @@ fn expect_two<L: Line + Drop>(
     expect_transcript(rt, alloc, client, line, worker);
 }
 
-// The replies to two asks over a line that stops after so much, where the first wants so much, and both so much.
+// The replies to two asks over a line that stops after this much. The first ask needs `first`, and both need `both`.
 fn stopped(after: u64, first: u64, both: u64) -> (Reply<'static>, Reply<'static>) {
     if after < first {
         (DOWN, CLOSED)
@@ -154,8 +153,8 @@ fn a_line_that_stops_after_each_byte(rt: HostRuntime) {
     }
 }
 
-// The calls of two asks over an engine: the hello's head and body, the shard, the ask, the answer's head, its fields and its
-// offers; and then the ask and the answer's three.
+// The calls of two asks over an engine. First there are the hello's head and body, the shard, the ask, the answer's
+// head, its fields and its offers. Then come the ask and the answer's three.
 #[test]
 fn a_line_that_stops_after_so_many_calls(rt: HostRuntime) {
     let alloc = rt.alloc();
@@ -180,7 +179,6 @@ fn a_wire_that_was_shut(rt: HostRuntime) {
     expect_transcript(&rt, alloc, client, line, 0);
 }
 
-// The bytes of some parts, one behind the other.
 fn script(rt: &impl Abort, alloc: Global, parts: &[&[u8]]) -> Vec<u8> {
     let mut bytes = Vec::new(alloc);
     for part in parts {
@@ -189,7 +187,7 @@ fn script(rt: &impl Abort, alloc: Global, parts: &[&[u8]]) -> Vec<u8> {
     bytes
 }
 
-// A wire for this worker hears these parts: so its first ask ends, and it is closed.
+// A wire for this worker gets these parts. The first ask ends with this error, and the wire is closed.
 #[test]
 fn a_script_in_place_of_a_worker(rt: HostRuntime) {
     let alloc = rt.alloc();
@@ -211,12 +209,13 @@ fn a_script_in_place_of_a_worker(rt: HostRuntime) {
     }
 }
 
-// The offers of two shards: of the link of 1 and 2, and of that of 2 and 3, whose weight is past 32 bits.
+// The offers of two shards: one has the link between 1 and 2, and the other the link between 2 and 3, whose weight is
+// past 32 bits.
 const NARROW: Reply = Ok(&[(1, 0), (2, 0)]);
 
 const WIDE: Reply = Ok(&[(2, 0), (3, 0)]);
 
-/// A line that keeps all bytes that are put, and counts the puts.
+/// A line that stores all bytes that are put, and counts the puts.
 #[derive(Drop)]
 struct Keeping<L> {
     line: L,
@@ -244,7 +243,7 @@ impl<L: Line> Line for Keeping<L> {
     ghost serves = { λ s worker is. L.serves s.line worker is };
 }
 
-// A line before this one that keeps what is put.
+// A line that stores what is put, and passes it on to this one.
 fn kept_line<L: Line>(alloc: Global, line: L) -> Keeping<L>
     ensures { L.state result.line ≡ L.state line }
 {
@@ -259,7 +258,6 @@ fn kept_line<L: Line>(alloc: Global, line: L) -> Keeping<L>
 /// A frame: its kind, and the numbers of its body, four bytes each.
 type Numbers<'a> = (u8, &'a [u32]);
 
-// The text of these frames.
 fn text_of(rt: &impl Abort, alloc: Global, frames: &[Numbers]) -> Vec<u8> {
     let mut text = Vec::new(alloc);
     for (kind, numbers) in frames {
@@ -275,7 +273,7 @@ fn text_of(rt: &impl Abort, alloc: Global, frames: &[Numbers]) -> Vec<u8> {
     text
 }
 
-// A new wire over the line transcripts so, and puts these frames meanwhile, each by one put.
+// A new wire over the line takes the client's steps, and puts these frames meanwhile, each by one put.
 fn expect_put<L: Line + Drop>(
     rt: &impl Abort,
     alloc: Global,
@@ -293,10 +291,10 @@ fn expect_put<L: Line + Drop>(
 
 const TOO_OLD: Reply = Err(PortFault::TooOld);
 
-// A path of which the first link weighs 5 and the second 2^31.
+// A path whose first link weighs 5 and whose second weighs 2^31.
 const NARROW_AND_WIDE: [Row; 2] = [(1, 2, 5), (2, 3, 2147483648)];
 
-// Its shards, and asks for them under three labels.
+// Its shards, and asks for them with three labels.
 const NARROW_SHARD: Numbers = (2, &[0, 1, 1, 2, 5]);
 
 const NARROW_ASK: Numbers = (3, &[1, 0, 3, 1, 2, 3]);
@@ -307,8 +305,8 @@ const WIDE_ASK: Numbers = (3, &[1, 1, 3, 1, 2, 3]);
 
 const AGAIN: Numbers = (3, &[2, 1, 3, 1, 2, 3]);
 
-// A session of a worker of the first version, which says its hello and answers the ask for the shard that fits 32 bits.
-// Once a shard needs the second version the wire is closed, before an answer or behind it, and nothing is put for it.
+// A worker of the first version sends its hello and answers the ask for the shard that fits 32 bits. When a shard needs
+// the second version, the wire is closed, before or after an answer, and nothing is put for that shard.
 #[test]
 fn a_worker_of_the_first_version(rt: HostRuntime) {
     let alloc = rt.alloc();
@@ -339,7 +337,7 @@ fn a_worker_of_the_first_version(rt: HostRuntime) {
     }
 }
 
-// An engine is sent both shards, each before its first ask alone.
+// Each shard is sent to an engine only before its first ask.
 #[test]
 fn shards_of_64_bits(rt: HostRuntime) {
     let alloc = rt.alloc();
@@ -365,7 +363,7 @@ fn shards_of_64_bits(rt: HostRuntime) {
     )
 }
 
-// The two shards of the triangle, and asks for them under three labels.
+// The two shards of the triangle, and asks for them with three labels.
 #[test]
 fn each_shard_is_sent_before_its_first_ask_alone(rt: HostRuntime) {
     let alloc = rt.alloc();
@@ -401,8 +399,8 @@ fn each_shard_is_sent_before_its_first_ask_alone(rt: HostRuntime) {
     )
 }
 
-// Two asks under these labels of vertices that are apart, of which the first and the last are linked, over a new wire
-// are answered so. What its line is then.
+// Two asks over a new wire get these replies. Each vertex has its own label, and the first and the last are linked.
+// Returns the line afterwards.
 fn ask_twice<L: Line + Drop>(
     rt: &impl Abort,
     alloc: Global,
@@ -420,7 +418,7 @@ fn ask_twice<L: Line + Drop>(
     wire.into_line()
 }
 
-// How many puts two asks under these labels are, and their bytes.
+// How many puts two asks with these labels need, and their bytes.
 fn puts_under(rt: &impl Abort, alloc: Global, labels: &Labels) -> (usize, Vec<u8>) {
     let line = kept_line(alloc, EngineLine::new(alloc, 0).expect(rt, "memory"));
     let offers = [(1, 0), (labels.n(), 0)];
@@ -429,8 +427,8 @@ fn puts_under(rt: &impl Abort, alloc: Global, labels: &Labels) -> (usize, Vec<u8
     (line.puts, line.kept)
 }
 
-// The shard and each ask is a put; an ask whose labels keep their bytes is two from 64 KiB of labels on. The bytes are
-// the same.
+// The shard and each ask is one put. If labels store their encoded bytes, an ask is two puts from 64 KiB of labels on.
+// The bytes are the same.
 #[test]
 fn labels_with_and_without_their_bytes(rt: HostRuntime) {
     let alloc = rt.alloc();
@@ -444,8 +442,9 @@ fn labels_with_and_without_their_bytes(rt: HostRuntime) {
     }
 }
 
-// The calls of two asks under labels of 64 KiB that keep their bytes: the hello's head and body, the shard, the ask's two
-// parts, the answer's head, its fields and its offers; and then the ask's two and the answer's three.
+// The calls of two asks with labels of 64 KiB that store their encoded bytes. First there are the hello's head and
+// body, the shard, the ask's two parts, the answer's head, its fields and its offers. Then come the ask's two and the
+// answer's three.
 #[test]
 fn a_line_that_stops_between_the_parts_of_an_ask(rt: HostRuntime) {
     let alloc = rt.alloc();
@@ -467,8 +466,8 @@ fn a_line_that_stops_between_the_parts_of_an_ask(rt: HostRuntime) {
 
 const MANY: u32 = 10_000;
 
-// A path of 10,000 links, each as heavy as its lower end: the first vertex is offered the first link, and each other
-// one the link before it.
+// A path of 10,000 links, each as heavy as its lower endpoint. The offer for the first vertex is the first link, and
+// for every other vertex it is the link before it.
 #[test]
 fn a_wire_at_ten_thousand_links(rt: HostRuntime) {
     let alloc = rt.alloc();
@@ -499,7 +498,7 @@ fn a_wire_at_ten_thousand_links(rt: HostRuntime) {
     );
 }
 
-// Asks under no labels and under one, and for the last of as many shards as there may be.
+// Asks with no label and with one, and an ask of the last of the most shards that are allowed.
 #[test]
 fn asks_at_their_bounds(rt: HostRuntime) {
     let alloc = rt.alloc();
@@ -533,7 +532,7 @@ fn asks_at_their_bounds(rt: HostRuntime) {
     }
 }
 
-// Puts these bytes, and gets once: how many bytes came.
+// Puts these bytes, gets once, and returns how many bytes were received.
 fn say(rt: &impl Abort, line: &mut EngineLine<Global>, bytes: &[u8]) -> usize
     requires { line.old.failures + line.old.ends < 100 }
     ensures { line.new.failures + line.new.ends ≤ line.old.failures + line.old.ends + 2 }
@@ -543,17 +542,19 @@ fn say(rt: &impl Abort, line: &mut EngineLine<Global>, bytes: &[u8]) -> usize
     line.get(&mut piece).expect(rt, "a piece")
 }
 
-// Shard 0 of the link 1 2 7, and an ask for it of round 1 under two labels, whose answer has 33 bytes.
+// Shard 0 with the link `1 2 7`, and an ask for it of round 1 with two labels. Its answer has 33 bytes.
 const ASKED: [u8; 50] = [
     2, 0, 0, 0, 20, 0, 0, 0, 0, 0, 0, 0, 1, 0, 0, 0, 1, 0, 0, 0, 2, 0, 0, 0, 7, 3, 0, 0, 0, 20, 0,
     0, 0, 1, 0, 0, 0, 0, 0, 0, 0, 2, 0, 0, 0, 1, 0, 0, 0, 2,
 ];
 
-// A session that heard bytes which begin no frame is over: what is put later adds nothing, and each get finds the end.
+// A session that got bytes which don't begin a frame has ended. Bytes that are put later change nothing, and each get
+// finds the end.
 #[test]
 fn a_session_that_is_over(rt: HostRuntime) {
     let alloc = rt.alloc();
-    // A hello of seven bytes, one of another version, and the first three bytes of a frame, which may go on.
+    // Among them are a hello of seven bytes, a hello of another version, and the first three bytes of a frame that may
+    // continue.
     let sessions: [(&[u8], usize); 8] = [
         (&[], 33),
         (&NO_KIND, 0),

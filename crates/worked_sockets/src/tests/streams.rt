@@ -1,4 +1,4 @@
-// The two ends of a connection.
+// Both sides of a connection.
 
 ghost use Rattle.wires.specs.Lines.{HasRoom};
 ghost use Rattle.tcp_lines.specs.Lines.{line_of};
@@ -17,7 +17,6 @@ fn listen(rt: &impl Net<Listener = TcpListener, Stream = TcpStream>) -> io::Resu
     TcpListener::bind(rt, (Ipv4Addr::LOCALHOST, 0))
 }
 
-// This byte comes over the line.
 fn expect_byte(rt: &impl Abort, line: &mut TcpLine, byte: u8)
     requires { HasRoom (line_of line.old) }
     ensures { HasRoom (line_of line.new) }
@@ -49,7 +48,7 @@ fn a_pair_carries_bytes_both_ways(rt: HostRuntime) {
     expect_same(&rt, line.get(&mut got), Ok(0));
 }
 
-// The far end is closed with a byte that it has got and not read, which breaks the connection.
+// The far side closes while a byte that it has received is still unread. That breaks the connection.
 #[test]
 fn a_line_whose_connection_is_broken_fails(rt: HostRuntime) {
     let listener = listen(&rt).expect(&rt, "a listener");
@@ -63,7 +62,7 @@ fn a_line_whose_connection_is_broken_fails(rt: HostRuntime) {
     expect_same(&rt, line.put(b"more"), Err(LineFault::Failed));
 }
 
-// Another descriptor keeps the socket open after the line's own is closed, as a `close` that closes nothing would.
+// A second descriptor keeps the socket open after the line closed its own, as if `close` had closed nothing.
 #[test]
 fn a_line_ends_its_stream_where_its_socket_stays_open(rt: HostRuntime) {
     let listener = listen(&rt).expect(&rt, "a listener");
@@ -90,7 +89,7 @@ fn a_stranger_who_connected_before_is_refused(rt: HostRuntime) {
     expect_same(&rt, pair(&rt, &another).is_ok(), true);
 }
 
-// A network on which somebody else connects first to so many of the listeners that are made next.
+// A network on which a stranger connects first to each of the next listeners, until `strangers` of them have connected.
 #[derive(Drop)]
 struct Crowded<'a, R> {
     rt: &'a R,
@@ -141,7 +140,7 @@ fn a_pair_of_its_own_is_tried_again_after_up_to_four_strangers(rt: HostRuntime) 
     expect_same(&rt, crowded.strangers.get(), 1);
 }
 
-// A listener whose queue strangers have filled answers nobody, and isn't waited for.
+// Strangers have filled the queue of a listener, so it doesn't respond. The call doesn't wait for it.
 #[test]
 fn a_listener_without_room_cannot_be_connected_to(rt: HostRuntime) {
     let listener = listen(&rt).expect(&rt, "a listener");

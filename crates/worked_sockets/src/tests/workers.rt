@@ -1,4 +1,4 @@
-// Workers in threads at the far ends of connections.
+// Workers in threads on the far sides of connections.
 ghost use Rattle.std.specs.Prelude.{◌≡◌, ◌+◌, ◌≤◌, length, All, OnOk};
 ghost use Rattle.tcp_lines.specs.Lines.{unused};
 
@@ -15,7 +15,7 @@ use std::time::{Duration, Instant};
 use tcp_lines::{TcpLine, Workers, pair};
 use worked_graphs::{EQUAL_WEIGHTS, SMALL_NET, have_labels, links_of};
 
-// An ask of a round for the whole triangle is answered by its offers.
+// An ask for the whole triangle returns the offers of this round.
 fn expect_offers(
     rt: &impl Abort,
     wire: &mut Wire<TcpLine, Global>,
@@ -78,7 +78,7 @@ fn a_worker_who_hangs_up_is_down(rt: HostRuntime) {
     expect_same(&rt, wire.ask(1, 0, &labels).err(), Some(PortFault::Closed));
 }
 
-// What a run over the small net, cut into so many shards, reports: it writes the net's forest.
+// The report of a run over the small net, split into this many shards. The run writes the forest of the net.
 #[tactic(auto, using(crate::proofs::NewLines::unused_room))]
 fn report_of(
     rt: &(impl Threads + Abort + Wait + Sync),
@@ -98,7 +98,7 @@ fn report_of(
     report
 }
 
-// What it reports where each shard of its three rounds was answered.
+// The report of a run in which workers answered for each shard in each of three rounds.
 fn all_answered(shards: u32) -> Report
     requires { shards ≤ 4096 }
 {
@@ -125,8 +125,8 @@ fn each_shard_is_answered_by_one_of_three_workers(rt: HostRuntime) {
     workers.join(&rt);
 }
 
-// A shard and an ask go out one behind the other, and must not wait for the receipt of the first, which the other end
-// may owe for 40 milliseconds.
+// A shard and an ask are sent one after the other. The second must not wait until the first is acknowledged, which the
+// other side may delay for 40 milliseconds.
 #[test]
 fn many_small_shards_take_no_time(rt: HostRuntime) {
     let alloc = rt.alloc();
@@ -148,7 +148,7 @@ fn as_many_workers_as_may_be(rt: HostRuntime) {
     workers.join(&rt);
 }
 
-// One line more.
+// Adds a line to the list.
 #[tactic(auto, using(crate::proofs::NewLines::unused_push))]
 fn add(lines: &mut Vec<TcpLine>, line: TcpLine) -> Result<(), AllocError>
     requires unused { All (λ line. line ≡ unused) lines.old.items }
@@ -160,7 +160,7 @@ fn add(lines: &mut Vec<TcpLine>, line: TcpLine) -> Result<(), AllocError>
     Ok(())
 }
 
-// A worker, and a line whose far end is closed or soon will be: the worker answers all.
+// A run over a worker and a line whose far side is closed or soon will be. The worker answers for all shards.
 fn expect_all_of_the_other<R>(rt: &R, line: TcpLine)
 where
     R: Alloc<A = Global>
@@ -194,7 +194,7 @@ fn a_worker_who_hangs_up_leaves_its_shards_to_the_other(rt: HostRuntime) {
     expect_all_of_the_other(&rt, line)
 }
 
-// The same where its thread hangs up, at whatever time that is.
+// The same if a thread hangs up on its side, no matter when.
 #[test]
 fn a_thread_that_drops_its_stream_leaves_its_shards_to_the_other(rt: HostRuntime) {
     let listener = TcpListener::bind(&rt, (Ipv4Addr::LOCALHOST, 0)).expect(&rt, "a listener");

@@ -1,5 +1,5 @@
-// Answers that come by pieces: 64 KiB have 8,192 offers. Their bytes are written by a formula, and flaws are put into them
-// where a piece begins, ends or is in the middle, and between two pieces.
+// Answers in pieces: 64 KiB have 8,192 offers. A formula gives their bytes. Flaws are put where a piece begins or ends,
+// in the middle of one, and between two pieces.
 ghost use Rattle.std.specs.Prelude.{◌^◌, ◌<◌};
 
 use super::same::expect_same;
@@ -10,14 +10,13 @@ use link_key::Offers;
 use std::alloc::Global;
 use std::process::Abort;
 
-// Which number of the body is the component of the offer at this place, or what follows the offers before it.
+// The index in the body of the component of this offer. It is also the number of numbers before that offer.
 fn number_at(place: u32) -> usize
     ensures { result < 2 ^ 40 }
 {
     3 + 2 * place as usize
 }
 
-// It is the answer of round 5 and shard 6 with these offers.
 fn expect_offers(rt: &impl Abort, frame: Frame, expected: &[(u32, u32)]) {
     match frame {
         Frame::Answer(answer) => {
@@ -28,7 +27,7 @@ fn expect_offers(rt: &impl Abort, frame: Frame, expected: &[(u32, u32)]) {
     }
 }
 
-// The bytes of this answer, made of so many offers at a time, are these.
+// Making the answer from this many offers at a time gives these bytes.
 fn expect_put(rt: &impl Abort, alloc: Global, answer: &Answer, at_a_time: usize, bytes: &[u8]) {
     let offers = answer.offers.pairs();
     assert!(rt; offers.len() <= 1 << 25);
@@ -61,7 +60,8 @@ fn answers_made_by_pieces(rt: HostRuntime) {
     }
 }
 
-// Bytes of an answer are read as it, whole, by sevens and by one, and no byte behind them is taken.
+// The bytes of an answer are read as that answer: as a whole, seven at a time and one at a time. The byte after them
+// isn't read.
 fn expect_read(rt: &impl Abort, alloc: Global, count: u32) {
     let (pairs, numbers) = answer_of(rt, alloc, count);
     let mut bytes = frame_bytes(rt, alloc, 4, numbers.as_slice());
@@ -86,8 +86,8 @@ fn answers_by_pieces(rt: HostRuntime) {
     }
 }
 
-// An answer of 20,000 offers whose component at this place is another number; refused behind all of it, and torn where it
-// ends before that, also just behind the flaw.
+// An answer of 20,000 offers in which one offer has another component. It is rejected after all of its bytes. If the
+// stream ends before that, even right after the flaw, it is torn.
 fn expect_bad_component(rt: &impl Abort, alloc: Global, place: u32, component: u32) {
     let (_, numbers) = answer_of(rt, alloc, 20_000);
     let mut numbers = numbers;
@@ -101,8 +101,8 @@ fn expect_bad_component(rt: &impl Abort, alloc: Global, place: u32, component: u
     expect_refused(rt, alloc, bytes.as_slice(), came)
 }
 
-// The component of a place is that place, counted from 1. So it is the one before it, a lesser one, or the one behind it: in
-// the first piece, in the middle one and in the last, and where one piece ends and the next begins.
+// The component of offer `place` is `place` + 1. The flaw is the component before it, a lesser one, or the one after
+// it. The offers are in the first, the middle and the last piece, and at the ends of pieces.
 #[test]
 fn components_that_do_not_ascend(rt: HostRuntime) {
     for place in [
@@ -116,7 +116,6 @@ fn components_that_do_not_ascend(rt: HostRuntime) {
     }
 }
 
-// An answer of 9,000 offers that counts others.
 fn expect_bad_count(rt: &impl Abort, alloc: Global, count: u32) {
     let (_, numbers) = answer_of(rt, alloc, 9_000);
     let mut numbers = numbers;

@@ -1,10 +1,10 @@
-// Readers and writers of std that fail once: the failure is answered, and nothing is tried again.
+// Readers and writers of std that fail once. The failure is returned, and the call isn't tried again.
 use super::same::expect_same;
 use byte_streams::{Failed, FillFault, PutFault, Sink, Source, Uncounted, fill, put};
 use std::io;
 use std::io::{ErrorKind, Read, Write};
 
-// A reader whose first read is interrupted, and which then gives its bytes.
+// A reader whose first read is interrupted. After that it gives its bytes.
 #[derive(Drop)]
 struct InterruptedReader<'a> {
     has_failed: bool,
@@ -21,7 +21,7 @@ impl Read for InterruptedReader<'_> {
     }
 }
 
-// A writer whose first write is interrupted, which then takes its bytes, and whose flushes fail.
+// A writer whose first write is interrupted. After that it takes bytes, and its flushes fail.
 #[derive(Drop)]
 struct InterruptedWriter {
     has_failed: bool,

@@ -1,4 +1,4 @@
-// Frames and their bytes, and each refusal.
+// Frames and their bytes, and each error.
 use super::next_frames::next_bytes;
 use super::same;
 use super::same::expect_same;
@@ -28,12 +28,12 @@ const ANSWER: [u8; 41] = [
     0, 0, 0, 0, 0, 3, 0, 0, 0, 2,
 ];
 
-// Shard 0 with the link of 1 and 2 of weight 2^31.
+// Shard 0 with a link between 1 and 2 of weight 2^31.
 const SHARD64: [u8; 29] = [
     6, 0, 0, 0, 24, 0, 0, 0, 0, 0, 0, 0, 1, 0, 0, 0, 1, 0, 0, 0, 2, 0, 0, 0, 0, 128, 0, 0, 0,
 ];
 
-// Shard 0 without links, as if a weight of theirs were past 32 bits.
+// Shard 0 without links, in the form for weights past 32 bits.
 const EMPTY_SHARD64: [u8; 13] = [6, 0, 0, 0, 8, 0, 0, 0, 0, 0, 0, 0, 0];
 
 const FAULT: [u8; 14] = [5, 0, 0, 0, 9, 0, 0, 0, 1, 0, 0, 0, 5, 2];
@@ -49,7 +49,7 @@ fn triangle(rt: &impl Abort, alloc: Global) -> Vec<Link> {
     links
 }
 
-// The frame's text is these bytes, and it is what they are read as, and no more is taken.
+// Encoding the frame gives these bytes, and reading them gives the frame. The byte after them isn't read.
 fn expect_text(rt: &impl Abort, alloc: Global, frame: &Frame, bytes: &[u8]) {
     expect_same(rt, text_of(rt, alloc, frame).as_slice(), bytes);
     let mut text = Vec::from_slice(alloc, bytes).expect(rt, "memory");
@@ -60,7 +60,6 @@ fn expect_text(rt: &impl Abort, alloc: Global, frame: &Frame, bytes: &[u8]) {
     expect_same(rt, source, [77].as_slice());
 }
 
-// The frame is a hello of this version and worker.
 pub(crate) fn expect_hello(rt: &impl Abort, frame: Frame, fields: (u16, u32)) {
     match frame {
         Frame::Hello { version, worker } => expect_same(rt, (version, worker), fields),
@@ -68,7 +67,6 @@ pub(crate) fn expect_hello(rt: &impl Abort, frame: Frame, fields: (u16, u32)) {
     }
 }
 
-// It is this shard.
 pub(crate) fn expect_shard(rt: &impl Abort, frame: Frame, of: u32, expected: &[Link]) {
     match frame {
         Frame::Shard { number, links } => {
@@ -79,7 +77,6 @@ pub(crate) fn expect_shard(rt: &impl Abort, frame: Frame, of: u32, expected: &[L
     }
 }
 
-// It is an ask of this round and shard, under these labels.
 fn expect_ask(rt: &impl Abort, frame: Frame, of: (u32, u32), expected: &[u32]) {
     match frame {
         Frame::Ask {
@@ -95,7 +92,6 @@ fn expect_ask(rt: &impl Abort, frame: Frame, of: (u32, u32), expected: &[u32]) {
     }
 }
 
-// It is the answer of this round and shard with these offers.
 fn expect_answer(rt: &impl Abort, frame: Frame, of: (u32, u32), pairs: &[(u32, u32)]) {
     match frame {
         Frame::Answer(answer) => {
@@ -106,7 +102,6 @@ fn expect_answer(rt: &impl Abort, frame: Frame, of: (u32, u32), pairs: &[(u32, u
     }
 }
 
-// It is a fault with these fields.
 fn expect_fault(rt: &impl Abort, frame: Frame, fields: (u32, u32, u8)) {
     match frame {
         Frame::Fault { round, shard, code } => expect_same(rt, (round, shard, code), fields),
@@ -157,8 +152,8 @@ fn shard_of_a_triangle(rt: HostRuntime) {
     expect_text(&rt, rt.alloc(), &frame, &SHARD)
 }
 
-// One link of a weight past 32 bits, at each end of them, and beside one that fits; weights of which the lower 32 bits
-// are nothing, and three whose lower 32 bits are the same.
+// One link with a weight past 32 bits: the weights next to the range of 32 bits, and a wide weight next to one that
+// fits. Then weights whose lower 32 bits are 0, and three whose lower 32 bits are equal.
 #[test]
 fn shards_of_64_bits(rt: HostRuntime) {
     let rows: [(&[(u32, u32, i64)], &[u8]); 5] = [
@@ -210,7 +205,7 @@ fn shards_of_64_bits(rt: HostRuntime) {
     }
 }
 
-// The least and the greatest weight of 32 bits: a shard of them is one of version 1.
+// The least and the greatest weight of 32 bits. A shard with them has the form of version 1.
 #[test]
 fn shards_of_the_last_weights_of_32_bits(rt: HostRuntime) {
     let rows: [(i64, [u8; 4]); 2] = [
@@ -304,8 +299,8 @@ fn asks_of_few_labels(rt: HostRuntime) {
     }
 }
 
-// Behind whatever labels an ask comes, its own are read; labels that are none are refused behind those that they differ
-// from in one number too.
+// An ask is read with its own labels, whatever the labels of the ask before. Unlawful labels are rejected too, even if
+// they differ from the earlier labels in only one number.
 #[test]
 fn an_ask_behind_another(rt: HostRuntime) {
     let lasts: [&[u32]; 5] = [&[], &[1], &[1, 2, 3], &[1, 1, 3], &[1, 2, 3, 4]];
@@ -338,7 +333,6 @@ fn answer_of_three_offers(rt: HostRuntime) {
     expect_answer(&rt, read, (1, 0), &pairs);
 }
 
-// Its head, and the bytes of its offers.
 #[test]
 fn parts_of_an_answer(rt: HostRuntime) {
     let pairs = Vec::from_slice(rt.alloc(), &[(1, 0), (2, 0), (3, 2)]).expect(&rt, "memory");
@@ -366,7 +360,7 @@ fn fault_for_a_shard_not_held(rt: HostRuntime) {
     expect_text(&rt, rt.alloc(), &frame, &FAULT)
 }
 
-// Each text, with these bytes put at their places, is refused with this fault.
+// Each text, with these bytes put at these indices, is rejected with this error.
 fn expect_refused(
     rt: &impl Abort,
     alloc: Global,
@@ -409,12 +403,12 @@ fn fields_that_are_refused(rt: HostRuntime) {
     let rows: [(&[u8], &[(usize, u8)]); 28] = [
         (&HELLO, &[(10, 64)]),
         (&FAULT, &[(13, 4)]),
-        // Weights of 64 bits that all fit 32: 5, and the least and the greatest that do.
+        // Weights of 64 bits that all fit 32 bits: 5, and the least and the greatest that do.
         (&SHARD64, &[(25, 0), (28, 5)]),
         (&SHARD64, &[(25, 127), (26, 255), (27, 255), (28, 255)]),
         (&SHARD64, &[(21, 255), (22, 255), (23, 255), (24, 255)]),
-        // The rules of a shard: its number, its count, and a link's ends, which are from 1 to 2^26 and ascend. One without
-        // links has no weight past 32 bits.
+        // The rules of a shard: its number, its count, and the endpoints of a link, which ascend from 1 to 2^26. A
+        // shard without links has no weight past 32 bits.
         (&SHARD64, &[(7, 16)]),
         (&SHARD64, &[(12, 2)]),
         (&SHARD64, &[(16, 0)]),
@@ -426,28 +420,28 @@ fn fields_that_are_refused(rt: HostRuntime) {
         // There are 4,096 shards, numbered from 0.
         (&SHARD, &[(7, 16)]),
         (&ASK, &[(11, 16)]),
-        // A count that isn't that of the items behind it, one less and one more.
+        // A count that is one less or one more than the number of items after it.
         (&SHARD, &[(12, 2)]),
         (&SHARD, &[(12, 4)]),
         (&ASK, &[(16, 2)]),
         (&ASK, &[(16, 4)]),
         (&ANSWER, &[(16, 2)]),
         (&ANSWER, &[(16, 4)]),
-        // A link's ends are from 1 to 2^26, and ascend.
+        // The endpoints of a link are from 1 to 2^26, and ascend.
         (&SHARD, &[(16, 0)]),
         (&SHARD, &[(17, 4), (20, 1)]),
         (&SHARD, &[(16, 3)]),
         (&SHARD, &[(16, 2)]),
         // Vertex 3 with the label of vertex 2, whose own label is 1.
         (&ASK, &[(24, 1), (28, 2)]),
-        // Components that descend, and one that stands twice.
+        // Components that descend, and one that is listed twice.
         (&ANSWER, &[(20, 2), (28, 1)]),
         (&ANSWER, &[(28, 1)]),
     ];
     expect_refused(&rt, rt.alloc(), FrameFault::BadField, &rows)
 }
 
-// At most 2^24 links, 2^26 labels and 2^25 offers, and whole ones.
+// At most 2^24 links, 2^26 labels and 2^25 offers, and only whole ones.
 #[test]
 fn heads(rt: HostRuntime) {
     let rows = [
@@ -493,7 +487,7 @@ fn body_of_a_fault(rt: HostRuntime) {
     );
 }
 
-// A read that fails is answered at each place where it comes.
+// A failed read is returned wherever it occurs.
 #[test]
 fn reads_that_fail(rt: HostRuntime) {
     for passes in 0..29 {

@@ -1,4 +1,4 @@
-// Frames read of a source of which it is known what it gave, and not what will come.
+// Frames from a source whose contract reports the bytes that it gave, but not those to come.
 ghost use Rattle.std.specs.Prelude.{Some, None, ◌≡◌, ◌<◌, ◌-◌, ◌^◌};
 
 use super::frames_codec::{expect_hello, expect_shard};
@@ -10,7 +10,7 @@ use std::alloc::Global;
 use std::process::Abort;
 use test_memory::{Refusals, Refusing};
 
-// A source over memory of which the bytes are known that it gave, and nothing else.
+// A source in memory. Contracts see only the bytes that it gave.
 #[derive(Drop)]
 struct GivenAlone(FusedSource);
 
@@ -33,7 +33,7 @@ const SHARD: [u8; 25] = [
     2, 0, 0, 0, 20, 0, 0, 0, 7, 0, 0, 0, 1, 0, 0, 0, 1, 0, 0, 0, 2, 0, 0, 0, 5,
 ];
 
-// A source of these bytes, in pieces of three, that fails once it gave `passes` of them.
+// A source that gives these bytes in pieces of three, and fails after `passes` bytes.
 fn source_of(rt: &impl Abort, alloc: Global, bytes: &[u8], passes: usize) -> GivenAlone
     ensures { (result.0.failures ≡ 0) × (result.0.ends ≡ 0) }
 {
@@ -60,15 +60,15 @@ fn frames_that_follow_each_other_are_read_one_by_one(rt: HostRuntime) {
     );
 }
 
-// Bytes that end, or a read that fails once so many were given, and what is answered.
+// Bytes that end, or a read that fails after this many bytes, and the error.
 #[test]
 fn each_fault_is_answered_where_it_comes(rt: HostRuntime) {
     let rows: [(&[u8], usize, FrameFault); 21] = [
-        // A stream that ends is torn but between frames.
+        // A stream that ends is torn, unless it ends between frames.
         (&[], 100, FrameFault::Ended),
         (&HELLO[..3], 100, FrameFault::Torn),
         (&HELLO[..10], 100, FrameFault::Torn),
-        // A read fails behind each byte.
+        // A read fails after each byte.
         (&HELLO, 0, FrameFault::Device),
         (&HELLO, 1, FrameFault::Device),
         (&HELLO, 2, FrameFault::Device),
@@ -80,13 +80,13 @@ fn each_fault_is_answered_where_it_comes(rt: HostRuntime) {
         (&HELLO, 8, FrameFault::Device),
         (&HELLO, 9, FrameFault::Device),
         (&HELLO, 10, FrameFault::Device),
-        // A bad head is refused by its kind and then its length.
+        // A bad head: first its kind is checked, then its length.
         (&[7, 0, 0, 0, 6], 100, FrameFault::BadKind),
         (&[6, 0, 0, 0, 6], 100, FrameFault::BadLength),
         (&[0, 0, 0, 0, 7], 100, FrameFault::BadKind),
         (&[1, 0, 0, 0, 7], 100, FrameFault::BadLength),
         (&[4, 0, 0, 0, 13], 100, FrameFault::BadLength),
-        // A bad body by its version and then its fields.
+        // A bad body: first its version is checked, then its fields.
         (
             &[1, 0, 0, 0, 6, 0, 3, 0, 0, 0, 64],
             100,
@@ -105,7 +105,7 @@ fn each_fault_is_answered_where_it_comes(rt: HostRuntime) {
     }
 }
 
-// The links are the only growth of a shard. A shard of another count is refused before memory for its links is asked for.
+// A shard allocates only the list of its links. A shard with a wrong count is rejected before that allocation.
 #[test]
 fn want_of_memory_is_answered_for_a_good_head_and_good_fields(rt: HostRuntime) {
     expect_refused(&rt, rt.alloc(), &SHARD, 1, FrameFault::Memory);
@@ -114,7 +114,7 @@ fn want_of_memory_is_answered_for_a_good_head_and_good_fields(rt: HostRuntime) {
     expect_refused(&rt, rt.alloc(), &two_links, 1, FrameFault::BadField)
 }
 
-// The bytes are refused so in memory whose allocations from this number on are refused.
+// The bytes are rejected with this error if all allocations from this number on fail.
 fn expect_refused(rt: &impl Abort, alloc: Global, bytes: &[u8], number: u64, fault: FrameFault) {
     let memory = Refusing::new(alloc, Refusals::since(number));
     let mut source = source_of(rt, alloc, bytes, 100);

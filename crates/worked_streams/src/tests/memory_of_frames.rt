@@ -1,4 +1,4 @@
-// Frames that are read from bytes: their list's blocks. Frames that are written: the text's one block.
+// The blocks of a list that is read from a frame, and the one block of a frame that is written.
 use super::same::expect_same;
 use super::sizes::frame_bytes;
 use frames::{FrameFault, decode_body, decode_head, encode, encode_ask, read_frame};
@@ -24,13 +24,13 @@ const ANSWER: [u8; 33] = [
 
 const FAULT: [u8; 14] = [5, 0, 0, 0, 9, 0, 0, 0, 1, 0, 0, 0, 5, 2];
 
-// The second link's ends are equal.
+// The endpoints of the second link are equal.
 const SHARD_WITH_A_LOOP: [u8; 37] = [
     2, 0, 0, 0, 32, 0, 0, 0, 0, 0, 0, 0, 2, 0, 0, 0, 1, 0, 0, 0, 2, 0, 0, 0, 5, 0, 0, 0, 3, 0, 0,
     0, 3, 0, 0, 0, 5,
 ];
 
-// The label of vertex 3 is 2, whose own label is 1.
+// The label of vertex 3 is 2, but the label of vertex 2 is 1.
 const ASK_WITHOUT_LABELS: [u8; 29] = [
     3, 0, 0, 0, 24, 0, 0, 0, 1, 0, 0, 0, 0, 0, 0, 0, 3, 0, 0, 0, 1, 0, 0, 0, 1, 0, 0, 0, 2,
 ];
@@ -43,14 +43,14 @@ const ANSWER_THAT_DESCENDS: [u8; 33] = [
 
 const FAULT_WITH_CODE_4: [u8; 14] = [5, 0, 0, 0, 9, 0, 0, 0, 1, 0, 0, 0, 5, 4];
 
-// Why no frame is read in this memory; then how many blocks were handed out, and how many of them live.
+// Returns why no frame is read with this allocator, how many blocks it provided, and how many are still allocated.
 fn refused(memory: &Refusing<Global>, bytes: &[u8]) -> (Option<FrameFault>, u64, u64) {
     let mut source = bytes;
     let fault = read_frame(memory, &mut source).err();
     (fault, memory.given(), memory.live())
 }
 
-// The frame is refused with this fault, blocks were handed out, and none of them lives.
+// The frame is rejected with this error. Blocks were allocated for it, and all are freed.
 fn expect_nothing_lives(rt: &impl Abort, alloc: Global, bytes: &[u8], expected: FrameFault) {
     let memory = Refusing::new(alloc, Refusals::none());
     let (fault, given, live) = refused(&memory, bytes);
@@ -65,7 +65,7 @@ fn a_refused_body_is_dropped(rt: HostRuntime) {
     expect_nothing_lives(&rt, rt.alloc(), &ANSWER_THAT_DESCENDS, bad);
 }
 
-// A fault's fields take no memory.
+// The fields of a fault need no memory.
 #[test]
 fn a_refused_fault_takes_no_memory(rt: HostRuntime) {
     let memory = Refusing::new(rt.alloc(), Refusals::none());
@@ -78,7 +78,7 @@ fn a_torn_body_is_dropped(rt: HostRuntime) {
     expect_nothing_lives(&rt, rt.alloc(), &ASK[..28], FrameFault::Torn);
 }
 
-// While the frame lives, so do this many blocks and no more, and none once it is dropped.
+// While the frame exists, exactly this many blocks are allocated, and none after it is dropped.
 fn expect_blocks(rt: &impl Abort, alloc: Global, bytes: &[u8], blocks: u64) {
     let memory = Refusing::new(alloc, Refusals::none());
     let mut source = bytes;
@@ -97,7 +97,7 @@ fn a_frame_keeps_its_list_alone(rt: HostRuntime) {
     expect_blocks(&rt, rt.alloc(), &FAULT, 0);
 }
 
-// Each allocation of an ask of two pieces refused in turn: the fault is want of memory, and nothing lives.
+// Each allocation of an ask of two pieces fails in turn. The error is out of memory, and no block is left.
 #[test]
 fn what_came_before_a_refusal_is_dropped(rt: HostRuntime) {
     let labels = Labels::apart(rt.alloc(), 20_000).expect(&rt, "memory");
@@ -109,7 +109,7 @@ fn what_came_before_a_refusal_is_dropped(rt: HostRuntime) {
     }
 }
 
-// A head and fields promise many items, and this one comes again and again, `count` times, and then one byte.
+// The head and the fields announce many items. This item follows `count` times, and then a single byte.
 fn expect_given(
     rt: &impl Abort,
     alloc: Global,
@@ -129,8 +129,8 @@ fn expect_given(
     expect_same(rt, (count, found), (count, expected));
 }
 
-// The links of a shard are given room for one piece before any has come, and then a new block, twice as large, only once
-// that one is full. Behind a link that is refused no more room is asked for.
+// The links of a shard first get a block for one piece. A new block, twice as large, is allocated only when that one is
+// full. After an unlawful link no more blocks are allocated.
 #[test]
 fn links_are_given_room_as_they_come(rt: HostRuntime) {
     let head = [2, 12, 0, 0, 8, 0, 0, 0, 0, 1, 0, 0, 0];
@@ -141,7 +141,8 @@ fn links_are_given_room_as_they_come(rt: HostRuntime) {
     }
 }
 
-// The labels of an ask likewise, 16,384 a piece, whether they are labels or not; and none where the count isn't theirs.
+// The same for the labels of an ask, with 16,384 labels per piece, lawful or not. If the count is wrong, nothing is
+// allocated.
 #[test]
 fn labels_are_given_room_as_they_come(rt: HostRuntime) {
     let head = [3, 16, 0, 0, 12, 0, 0, 0, 1, 0, 0, 0, 0, 4, 0, 0, 0];
@@ -154,7 +155,8 @@ fn labels_are_given_room_as_they_come(rt: HostRuntime) {
     }
 }
 
-// The offers of an answer likewise, 8,192 a piece, whether they ascend or not; and none where the count isn't theirs.
+// The same for the offers of an answer, with 8,192 per piece, ascending or not. If the count is wrong, nothing is
+// allocated.
 #[test]
 fn offers_are_given_room_as_they_come(rt: HostRuntime) {
     let head = [4, 16, 0, 0, 12, 0, 0, 0, 1, 0, 0, 0, 0, 2, 0, 0, 0];
@@ -167,8 +169,8 @@ fn offers_are_given_room_as_they_come(rt: HostRuntime) {
     }
 }
 
-// Frames of this kind with these fields, and behind them so many items, are read so: each takes so many blocks, and none
-// lives once it is dropped.
+// Reads frames of this kind with these fields and numbers of items. Each allocates this many blocks, and none is left
+// after it is dropped.
 fn expect_read(
     rt: &impl Abort,
     alloc: Global,
@@ -191,8 +193,8 @@ fn expect_read(
     }
 }
 
-// A list that came whole goes over into a smaller block where its last piece isn't full, so that it keeps the room that it
-// fills: the links of a shard, and the offers of an answer, here such as are refused then.
+// A list whose last piece isn't full moves to a smaller block when it is complete, so that no capacity is wasted. This
+// holds for the links of a shard and for the offers of an answer. The offers here are rejected afterwards.
 #[test]
 fn a_list_keeps_no_room_that_it_does_not_fill(rt: HostRuntime) {
     let shards = [(5_461, 1), (5_462, 3), (8_191, 3), (10_922, 2), (10_923, 4)];
@@ -208,7 +210,7 @@ fn a_list_keeps_no_room_that_it_does_not_fill(rt: HostRuntime) {
     expect_read(&rt, rt.alloc(), 4, &[1, 0], &[1, 2], &answers, bad);
 }
 
-// A text is given its whole room once, whatever its size, and a body's list so many blocks.
+// Writing a frame allocates one block, whatever its size. Reading the body allocates this many blocks for the list.
 fn expect_one_block(rt: &impl Abort, alloc: Global, bytes: &[u8], listed: u32) {
     let memory = Refusing::new(alloc, Refusals::none());
     let Some((first, body)) = bytes.split_first_chunk::<5>() else {
@@ -225,7 +227,7 @@ fn expect_one_block(rt: &impl Abort, alloc: Global, bytes: &[u8], listed: u32) {
     expect_same(rt, memory.given(), 1 + u64::from(listed));
 }
 
-// A list that comes by pieces has room for more at first, and then a block of its size.
+// A list that is read in pieces has more capacity than it needs at first, and then moves to a block of its size.
 #[test]
 fn a_text_is_given_one_block(rt: HostRuntime) {
     let labels = Labels::apart(rt.alloc(), 20_000).expect(&rt, "memory");

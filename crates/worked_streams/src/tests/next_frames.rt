@@ -1,6 +1,7 @@
-// The next frame behind an ask, beside what is read of the same bytes alone: labels that come again, that differ in one
-// place, that coarsen or part what was joined, that are none, and streams that end or fail inside a piece. 16,384 labels are compared at a time, so the 80,001
-// labels here come in five pieces.
+// The next frame after an ask, compared with the frame that the same bytes give without a previous ask. The labels are
+// the same, differ at one vertex, coarsen the earlier ones, separate vertices that were joined, or are unlawful.
+// Streams end or fail inside a piece. 16,384 labels are compared at a time, so the 80,001 labels here are read in five
+// pieces.
 ghost use Rattle.std.specs.Prelude.{◌≤◌};
 
 use super::frames_codec::labels_of;
@@ -15,12 +16,12 @@ use test_memory::{Refusals, Refusing};
 
 const COUNT: u32 = 80_001;
 
-// The vertices at which labels differ: in the first piece, at the ends of pieces and beside them, and in the last one alone.
+// The vertices at which labels differ: in the first piece, at and next to the ends of pieces, and in the last piece.
 const PLACES: [u32; 9] = [
     2, 16_383, 16_384, 16_385, 40_000, 65_536, 65_537, 80_000, 80_001,
 ];
 
-// What the next frame says behind these labels, as bytes.
+// The bytes that the next frame stands for, if these are the labels of the previous ask.
 pub(crate) fn next_bytes(
     rt: &impl Abort,
     alloc: Global,
@@ -44,7 +45,7 @@ pub(crate) fn next_bytes(
     }
 }
 
-// Each vertex has its own label, but this one, which has that of the vertex before; vertex 0 is none.
+// Each vertex has its own label, but this one has the label of the vertex before it. If it is 0, all have their own.
 fn labels_but(rt: &impl Abort, alloc: Global, vertex: u32) -> Labels {
     let mut list = Vec::with_capacity(alloc, COUNT as usize).expect(rt, "memory");
     for before in 0..COUNT {
@@ -55,13 +56,12 @@ fn labels_but(rt: &impl Abort, alloc: Global, vertex: u32) -> Labels {
     Labels::of_list(list).expect(rt, "labels")
 }
 
-// An ask of shard 7 in round 5.
 fn ask(rt: &impl Abort, alloc: Global, labels: &Labels) -> Vec<u8> {
     encode_ask(alloc, 5, 7, labels).expect(rt, "memory")
 }
 
-// Behind these labels the bytes say what they say alone, or are refused for the same fault; the source fails once it gave
-// so many of them.
+// After an ask with these labels the bytes give the same frame as by themselves, or the same error. The source fails
+// after `passes` bytes.
 fn expect_as_alone(rt: &impl Abort, alloc: Global, bytes: &[u8], passes: usize, last: &Labels) {
     for piece in [1000, usize::MAX] {
         assert!(rt; 1 <= piece);
@@ -82,7 +82,8 @@ fn expect_as_alone(rt: &impl Abort, alloc: Global, bytes: &[u8], passes: usize, 
     }
 }
 
-// What an ask is said to be behind another one: one under the same labels, under labels that coarsen them, or under others.
+// How an ask is described in terms of the previous one: with the same labels, with labels that coarsen them, or with
+// others.
 #[derive(Clone, Copy, PartialEq, Eq, Debug)]
 enum Said {
     Again,
@@ -90,7 +91,8 @@ enum Said {
     Other,
 }
 
-// An ask under these labels, behind those, is said to be this. It takes one block, but for the same labels none.
+// After an ask with the labels `last`, the ask is described like this. It allocates one block, or none for the same
+// labels.
 fn expect_ask(rt: &impl Abort, alloc: Global, labels: &Labels, last: &Labels, said: Said) {
     let bytes = ask(rt, alloc, labels);
     let memory = Refusing::new(alloc, Refusals::none());
@@ -114,8 +116,8 @@ fn labels_that_come_again_take_no_memory(rt: HostRuntime) {
     }
 }
 
-// Labels that differ in one place are given one block, of their whole size, wherever that place is. Where two vertices are
-// joined that were apart they coarsen, and not the other way round.
+// Labels that differ at one vertex get one block of their whole size, whichever vertex it is. They coarsen if two
+// vertices are joined that were separate, but not the other way round.
 #[test]
 fn labels_that_differ_in_one_place(rt: HostRuntime) {
     let last = labels_but(&rt, rt.alloc(), 0);
@@ -126,7 +128,7 @@ fn labels_that_differ_in_one_place(rt: HostRuntime) {
     }
 }
 
-// Labels that join two vertices and part two others don't coarsen, whichever piece each of them stands in.
+// Labels that join two vertices and separate two others don't coarsen, whichever pieces the vertices are in.
 #[test]
 fn labels_that_part_what_was_joined(rt: HostRuntime) {
     for (joined, parted) in [(2, 80_001), (80_001, 2), (16_384, 16_385), (65_537, 16_384)] {
@@ -136,7 +138,8 @@ fn labels_that_part_what_was_joined(rt: HostRuntime) {
     }
 }
 
-// Behind two pairs that were joined: all four, the same pairs, one of them alone, and a pair that is parted and joined anew.
+// After labels with two joined pairs: all four joined, the same pairs, only one of the pairs, and a pair whose vertex
+// joins the other pair.
 #[test]
 fn labels_behind_joined_vertices(rt: HostRuntime) {
     let last = labels_of(&rt, rt.alloc(), &[1, 1, 3, 3]);
@@ -152,8 +155,8 @@ fn labels_behind_joined_vertices(rt: HostRuntime) {
     }
 }
 
-// The stream ends inside the fields, inside a piece, or at the end of one, before the place that differs and behind it;
-// and so does one whose source fails there.
+// The stream ends inside the fields, inside a piece, or at the end of a piece, before and after the vertex that
+// differs. Or the source fails there.
 #[test]
 fn a_stream_cut_inside_a_piece(rt: HostRuntime) {
     let last = labels_but(&rt, rt.alloc(), 0);
@@ -172,7 +175,8 @@ fn a_stream_cut_inside_a_piece(rt: HostRuntime) {
     }
 }
 
-// An ask that has these bytes from a place on, whole, cut, and from a source that fails. Whole it has an unlawful field.
+// An ask with these bytes from an index on: as a whole, cut off, and from a source that fails. As a whole it has an
+// unlawful field.
 fn expect_unlawful(
     rt: &impl Abort,
     alloc: Global,
@@ -197,8 +201,8 @@ fn expect_unlawful(
     expect_as_alone(rt, alloc, bytes.as_slice(), usize::MAX, last)
 }
 
-// A shard's number out of range, a count that is not that of the labels, and labels that are none: in the first, a middle
-// and the last piece, behind labels that are the same in all other places or in none of some.
+// A shard number out of range, a count that differs from the number of labels, and numbers that are no labels. They are
+// in the first, a middle and the last piece. All other labels are the same as before, or some differ.
 #[test]
 fn an_ask_with_an_unlawful_field(rt: HostRuntime) {
     let apart = labels_but(&rt, rt.alloc(), 0);
@@ -220,7 +224,7 @@ fn an_ask_with_an_unlawful_field(rt: HostRuntime) {
     }
 }
 
-// Where no memory is left for labels that differ, that is the fault; another ask under the same labels needs none.
+// If there is no memory for labels that differ, that is the error. An ask with the same labels allocates nothing.
 #[test]
 fn no_memory_for_labels_that_differ(rt: HostRuntime) {
     let last = labels_but(&rt, rt.alloc(), 0);

@@ -1,24 +1,23 @@
-// The search for refusals that are passed over and for blocks that are left: work with one flaw is found to have it, at
-// its allocation, and work without one to have none. Past a hundred allocations too.
+// The search for failed allocations that work ignores, and for blocks that it leaves. If the work has one flaw, the
+// search finds it at its allocation, also after more than a hundred. If it has none, the search finds none.
 use super::same::expect_same;
 use std::alloc::{AllocError, Global};
 use std::mem::forget;
 use test_memory::{Found, Refusing, refuse_each};
 
-// What work does where the second block of a pair is refused, other than to fail.
+// What work does, other than fail, if the second block of a pair can't be allocated.
 #[derive(Clone, Copy)]
 enum Flaw {
     None,
     PassesOver,
-    // It asks once more, as a collection that makes do with less.
+    // It tries once more, as a collection does that can work with less memory.
     AsksAgain,
-    // It asks once more, and never gives back what it is given then: seen only where that one refusal stands alone.
+    // It tries once more, and never frees that block. This shows only if the single allocation fails.
     KeepsTheSecond,
-    // It asks once more, and where that is refused too never gives back the first: seen only where all are refused.
+    // It tries once more, and if that fails too, never frees the first block. This shows only if all allocations fail.
     KeepsTheFirst,
 }
 
-// Two blocks, which are given back.
 fn pair(memory: &Refusing<Global>, flaw: Flaw) -> Result<(), AllocError> {
     let first = Box::new(memory, 7u8)?;
     if Box::new(memory, 8u8).is_ok() {
@@ -45,7 +44,7 @@ fn pair(memory: &Refusing<Global>, flaw: Flaw) -> Result<(), AllocError> {
     }
 }
 
-// So many pairs, one behind the other; that of this number, counted from 1, has the flaw.
+// `count` pairs, one after the other. The pair of number `flawed`, counted from 1, has the flaw.
 fn pairs(memory: &Refusing<Global>, count: u64, flawed: u64, flaw: Flaw) -> Result<(), AllocError> {
     for before in 0..count {
         let here = if before + 1 == flawed {

@@ -1,5 +1,5 @@
-// Shards that go out and come by pieces: 64 KiB have 5,461 links with weights of 32 bits, and 4,096 with weights of 64.
-// Their bytes are written by a formula, and flaws are put into them where a piece begins, ends or is in the middle.
+// Shards in pieces: 64 KiB have 5,461 links with weights of 32 bits, or 4,096 with weights of 64 bits. A formula gives
+// their bytes. Flaws are put where a piece begins or ends, and in the middle of one.
 ghost use Rattle.std.specs.Prelude.{◌^◌, ◌<◌};
 
 use super::same::expect_same;
@@ -10,7 +10,7 @@ use link_key::{Link, Shard};
 use std::alloc::Global;
 use std::process::Abort;
 
-// Around one piece of either spelling, and more than two.
+// Around the size of one piece of either form, and more than two pieces.
 const COUNTS: [u32; 6] = [4_095, 4_096, 4_097, 5_461, 5_462, 10_000];
 
 fn kind_of(weights: Weights) -> u8 {
@@ -20,7 +20,7 @@ fn kind_of(weights: Weights) -> u8 {
     }
 }
 
-// Which number of the body is the first of the link at this place, or what follows the links before it.
+// The index in the body of the first number of this link. It is also the number of numbers before that link.
 fn number_at(weights: Weights, place: u32) -> usize
     ensures { result < 2 ^ 40 }
 {
@@ -31,7 +31,6 @@ fn number_at(weights: Weights, place: u32) -> usize
     }
 }
 
-// What is read of a source that gives so many bytes at a time.
 pub(super) fn read_by(
     rt: &impl Abort,
     alloc: Global,
@@ -47,7 +46,6 @@ pub(super) fn read_by(
     read_frame(alloc, &mut { source })
 }
 
-// It is this shard.
 fn expect_links(rt: &impl Abort, frame: Frame, of: u32, expected: &[Link]) {
     match frame {
         Frame::Shard { number, links } => {
@@ -58,7 +56,7 @@ fn expect_links(rt: &impl Abort, frame: Frame, of: u32, expected: &[Link]) {
     }
 }
 
-// The text of these bytes' shard, made of so many links at a time, is these bytes.
+// Making the shard from this many links at a time gives these bytes.
 #[tactic(auto, using(frames::proofs::Spelled::fit_of))]
 fn expect_put(rt: &impl Abort, alloc: Global, shard: &Shard, at_a_time: usize, bytes: &[u8]) {
     assert!(rt; shard.number < 4096 && shard.links.len() <= 1 << 24);
@@ -77,7 +75,8 @@ fn expect_put(rt: &impl Abort, alloc: Global, shard: &Shard, at_a_time: usize, b
     expect_same(rt, text.as_slice() == bytes, true);
 }
 
-// Bytes of a shard are read as it, whole, by sevens and by one, and no byte behind them is taken.
+// The bytes of a shard are read as that shard: as a whole, seven at a time and one at a time. The byte after them isn't
+// read.
 fn expect_read(rt: &impl Abort, alloc: Global, weights: Weights, count: u32) {
     let (links, numbers) = path(rt, alloc, weights, 7, count);
     let mut bytes = frame_bytes(rt, alloc, kind_of(weights), numbers.as_slice());
@@ -111,8 +110,8 @@ fn shards_by_pieces(rt: HostRuntime) {
     }
 }
 
-// Bytes of a frame with a flaw are refused behind all of them, and where they end before that, the stream is torn: behind
-// `came` of them, and one byte before their end.
+// A frame with a flaw is rejected after all of its bytes. If the stream ends before that, it is torn: after `came`
+// bytes, or one byte before the end.
 pub(super) fn expect_refused(rt: &impl Abort, alloc: Global, bytes: &[u8], came: usize) {
     for piece in [1, 7, usize::MAX] {
         let found = read_by(rt, alloc, bytes, piece).err();
@@ -132,7 +131,7 @@ pub(super) fn expect_refused(rt: &impl Abort, alloc: Global, bytes: &[u8], came:
     expect_same(rt, source, [77].as_slice());
 }
 
-// A shard whose link at this place has one end twice.
+// A shard in which the endpoints of this link are equal.
 fn expect_bad_link(rt: &impl Abort, alloc: Global, weights: Weights, count: u32, place: u32) {
     let (_, numbers) = path(rt, alloc, weights, 7, count);
     let mut numbers = numbers;
@@ -148,7 +147,7 @@ fn expect_bad_link(rt: &impl Abort, alloc: Global, weights: Weights, count: u32,
     expect_refused(rt, alloc, bytes.as_slice(), came)
 }
 
-// In the first piece, in the next, and in the last, at their ends and inside.
+// In the first, the next and the last piece, at their ends and inside.
 #[test]
 fn bad_links(rt: HostRuntime) {
     for place in [0, 2_000, 5_460, 5_461, 8_000, 10_921, 10_922, 11_999] {
@@ -159,7 +158,6 @@ fn bad_links(rt: HostRuntime) {
     }
 }
 
-// A shard whose number or count isn't lawful.
 fn expect_bad_fields(rt: &impl Abort, alloc: Global, weights: Weights, number: u32, count: u32) {
     let (_, numbers) = path(rt, alloc, weights, 7, 6_000);
     let mut numbers = numbers;
@@ -190,7 +188,7 @@ fn bad_fields(rt: HostRuntime) {
     }
 }
 
-// A path whose weights all fit 32 bits, as a shard with weights of 64.
+// A path whose weights all fit 32 bits, as a shard with weights of 64 bits.
 fn narrow_as_wide(rt: &impl Abort, alloc: Global, count: u32) -> Vec<u8> {
     let mut numbers = Vec::from_slice(alloc, &[7, count]).expect(rt, "memory");
     assert!(rt; count <= 1 << 24);

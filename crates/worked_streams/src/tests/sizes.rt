@@ -1,9 +1,10 @@
-// Frames at the size of every inner piece, one less and one more, up to twice the largest of them and past it. A body that
-// gives up at some size is proved as well as one that doesn't. What is expected is written by a formula, here.
+// Frames at the size of every internal buffer, one less and one more, up to twice the largest of them and above. The
+// proofs allow a call to give up at some size, so only these tests show that it doesn't. Formulas here give the
+// expected results.
 //
-// Labels are turned into bytes 1,024 at a time. The links of a shard are read in pieces of 5,461, or 4,096 with weights of
-// 64 bits, and the offers of an answer in pieces of 8,192. Another body is read in pieces of 65,536 bytes: 12 and 4 for each
-// label are just so many for 16,381 labels.
+// Labels are encoded 1,024 at a time. The links of a shard are read in pieces of 5,461, or of 4,096 if weights have 64
+// bits. The offers of an answer are read in pieces of 8,192. Any other body is read in pieces of 65,536 bytes. An ask
+// has 12 bytes and 4 per label, so 16,381 labels fill one piece exactly.
 use super::next_frames::next_bytes;
 use super::same::expect_same;
 use byte_streams::FusedSource;
@@ -15,13 +16,13 @@ use link_key::{Labels, Link, Offers, Shard};
 use std::alloc::Global;
 use std::process::Abort;
 
-// Four bytes, the highest first.
+// Appends four bytes, the highest first.
 fn put_number(rt: &impl Abort, text: &mut Vec<u8>, number: u32) {
     text.extend_from_slice(&number.to_be_bytes())
         .expect(rt, "memory");
 }
 
-// The text of a frame of this kind, whose body is these numbers.
+// The bytes of a frame of this kind, whose body is these numbers.
 pub(super) fn frame_bytes(rt: &impl Abort, alloc: Global, kind: u8, numbers: &[u32]) -> Vec<u8> {
     assert!(rt; numbers.len() < 1 << 30);
     let mut text = Vec::from_slice(alloc, &[kind]).expect(rt, "memory");
@@ -32,13 +33,13 @@ pub(super) fn frame_bytes(rt: &impl Abort, alloc: Global, kind: u8, numbers: &[u
     text
 }
 
-// The text of a frame, which is lawful.
+// The bytes of a frame, which has to be lawful.
 pub(super) fn text_of(rt: &impl Abort, alloc: Global, frame: &Frame) -> Vec<u8> {
     assert!(rt; frame.is_lawful());
     encode(alloc, frame).expect(rt, "memory")
 }
 
-// The frame's text is these bytes, and it is what they are read as, whole, in pieces, and as a head and a body.
+// Encoding the frame gives these bytes. Reading them gives the frame: as a whole, in pieces, and as a head and a body.
 fn expect_text(rt: &impl Abort, alloc: Global, frame: &Frame, bytes: &[u8]) {
     let slow = FusedSource::new(
         Vec::from_slice(alloc, bytes).expect(rt, "memory"),
@@ -65,18 +66,16 @@ fn expect_encoded(rt: &impl Abort, alloc: Global, frame: &Frame, bytes: &[u8]) {
     expect_same(rt, (count, text.as_slice() == bytes), (count, true));
 }
 
-// So many numbers have 32 bits.
 const HALF: u64 = 1 << 32;
 
-// How many bits the weights of a shard have.
 #[derive(Clone, Copy)]
 pub(super) enum Weights {
     Of32,
     Of64,
 }
 
-// The links of a path from vertex 1 on, and their shard's numbers. The first has the least weight of so many bits, and the
-// others those from the greatest down. A weight of 64 bits is two numbers, the higher first.
+// The links of a path from vertex 1 on, and the numbers of their shard. The first link has the least weight of this
+// many bits. The weights of the others descend from the greatest. A weight of 64 bits is two numbers, the higher first.
 pub(super) fn path(
     rt: &impl Abort,
     alloc: Global,
@@ -154,13 +153,12 @@ fn shards_of_so_many_links(rt: HostRuntime) {
     }
 }
 
-// Each vertex has its own label.
 fn apart(rt: &impl Abort, alloc: Global, count: u32) -> Labels {
     assert!(rt; count <= 1 << 26);
     Labels::apart(alloc, count).expect(rt, "memory")
 }
 
-// The bytes of the ask of round 5 for shard 4095 under so many labels.
+// The bytes of the ask of round 5 for shard 4095 with this many labels.
 fn ask_bytes(rt: &impl Abort, alloc: Global, count: u32) -> Vec<u8> {
     let mut numbers = Vec::from_slice(alloc, &[5, 4095, count]).expect(rt, "memory");
     for before in 0..count {
@@ -169,7 +167,7 @@ fn ask_bytes(rt: &impl Abort, alloc: Global, count: u32) -> Vec<u8> {
     frame_bytes(rt, alloc, 3, numbers.as_slice())
 }
 
-// These bytes are read behind the ask under these labels.
+// After an ask with these labels, these bytes are read as the frame that they encode.
 fn expect_behind(rt: &impl Abort, alloc: Global, bytes: &[u8], behind: &Labels) {
     let again = read_next(alloc, &mut { bytes }, behind.as_slice()).expect(rt, "a frame");
     let same = next_bytes(rt, alloc, &again, behind);
@@ -177,7 +175,7 @@ fn expect_behind(rt: &impl Abort, alloc: Global, bytes: &[u8], behind: &Labels) 
     expect_same(rt, found, (bytes.len(), behind.n(), true));
 }
 
-// An ask of so many labels, and read behind another one and behind itself.
+// An ask of `count` labels, read after an ask of `before` labels and after itself.
 fn expect_ask(rt: &impl Abort, alloc: Global, before: u32, count: u32) {
     let labels = apart(rt, alloc, count);
     let bytes = ask_bytes(rt, alloc, count);
@@ -219,7 +217,7 @@ fn asks_of_so_many_labels(rt: HostRuntime) {
     }
 }
 
-// The offers of the components from 1 on, and the numbers of their answer.
+// Offers for the components from 1 on, and the numbers of their answer.
 pub(super) fn answer_of(rt: &impl Abort, alloc: Global, count: u32) -> (Vec<(u32, u32)>, Vec<u32>) {
     let mut pairs = Vec::new(alloc);
     let mut numbers = Vec::from_slice(alloc, &[5, 6, count]).expect(rt, "memory");

@@ -28,7 +28,7 @@ fn puts_into_a_vector(rt: HostRuntime) {
     expect_same(&rt, sink.as_slice(), b"p sp 6 5\n".as_slice());
 }
 
-// Texts past every piece in which bytes are read or written anywhere, into a vector that grows, and out of a slice again.
+// Texts larger than any buffer for reading or writing: put into a vector that grows, and filled from a slice again.
 #[test]
 fn texts_of_any_size_go_in_and_out(rt: HostRuntime) {
     for size in [65_535_u64, 65_536, 65_537, 1_000_000] {
@@ -51,7 +51,7 @@ fn texts_of_any_size_go_in_and_out(rt: HostRuntime) {
     }
 }
 
-// Five bytes in pieces of two: `passes` of them come before the source fails.
+// Five bytes in pieces of two. `passes` of them are read before the source fails.
 #[test]
 fn source_fails_after_its_passes(rt: HostRuntime) {
     for passes in 0..5 {
@@ -92,7 +92,7 @@ fn source_ends_before_its_passes(rt: HostRuntime) {
     expect_same(&rt, source.read(&mut buf), Ok(0));
 }
 
-// Nine bytes in pieces of two: the sink takes `passes` of them.
+// Nine bytes in pieces of two. The sink takes `passes` of them.
 #[test]
 fn sink_fails_after_its_passes(rt: HostRuntime) {
     let text = b"p sp 6 5\n";
@@ -127,7 +127,7 @@ fn stopped_sink_takes_nothing_more(rt: HostRuntime) {
     expect_same(&rt, put(&mut sink, text), Ok(()));
 }
 
-// Bytes wait until the next flush, those that it began with too.
+// Bytes stay in the buffer until the next flush, including those that it began with.
 #[test]
 fn buffered_sink_keeps_bytes_until_a_flush(rt: HostRuntime) {
     let mut sink = BufferedSink::new(Vec::from_slice(rt.alloc(), b"p ").expect(&rt, "memory"));
@@ -152,7 +152,7 @@ fn wraps_other_readers_and_writers(rt: HostRuntime) {
     expect_same(&rt, sink.0.as_slice(), b"hell".as_slice());
 }
 
-// A directory fails at its first read, an empty device ends there, a full one fails at its first write.
+// A directory fails at its first read, an empty device ends there, and a full device fails at its first write.
 #[test]
 fn devices_fail_and_end(rt: HostRuntime) {
     let mut buf = [0; 1];

@@ -1,11 +1,12 @@
--- Neighbours in order are enough, since the order is transitive; and no link is below itself.
+-- It is enough to compare neighbours, because the order is transitive. The links are distinct, because no link is below
+-- itself.
 use Rattle.std.proofs.Common.{rules, ◌<◌, lt_trans, nat_lt, Bool, ap, arith}
 use Rattle.std.proofs.lemmas.List.Sorted.{answers_always}
 use Rattle.links.specs.declared.links.Link.{Link}
 use Rattle.links.proofs.Neighbours.{all_pairs_by_neighbours}
 use Rattle.worked_examples.proofs.tests.lists.have_lows_ascending.Goals as goal
 
--- the test for the order of two links by their lower ends
+-- the test that orders two links by their lower endpoints
 abbrev is_below : Link → Link → Bool
 is_below l m = nat_lt l.low m.low
 
