@@ -105,7 +105,6 @@ impl<A: Allocator + Copy + Send + Sync> KeptShard<A> {
     ///
     /// A scan by threads takes 8 bytes per vertex for each part. The call fails only if it is out of memory, and can
     /// then be made again.
-    /// again after it.
     pub fn offers_par<R: Threads + Sync>(
         &mut self,
         rt: &R,
