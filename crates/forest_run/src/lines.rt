@@ -125,8 +125,8 @@ fn solve_lines<
 /// So is a line if there is no memory for an ask, or if its worker's version has no frame for a shard. Its shards are
 /// asked of the other lines, or scanned here if none is left, so the run never fails because of a line.
 ///
-/// If a line was new, with known bytes, an error is the cause only if one of these is true of its last ask, and of no
-/// ask before it:
+/// A line that was new, with known bytes, is given up for an error only if one of these holds for its last ask, and for
+/// no ask before it:
 /// - The ask counted a failure or an end.
 /// - It brought bytes that fit the error.
 /// - There was no memory for it.
@@ -180,8 +180,8 @@ pub fn run_lines<
     ensures lawful { (bytes : List ℕ) → HasFile bytes (S.state source.old) (S.state source.new)
         → MeansGraph bytes → IsNoRefusal result }
 
-    // Over such lines, and if the graph of the file can be split as requested, a run fails only for lack of memory or
-    // because of an error of the sink.
+    // Over such lines, and if the file's graph can be split as requested, a run fails only for lack of memory or because
+    // of an error of the sink.
     ensures ends_well { AreServed L.Line lines.items → EndsWell cutting.entry result
         (known S.state W.state source.old sink.old) (known S.state W.state source.new sink.new) }
 
