@@ -180,8 +180,8 @@ pub fn run_lines<
     ensures lawful { (bytes : List ℕ) → HasFile bytes (S.state source.old) (S.state source.new)
         → MeansGraph bytes → IsNoRefusal result }
 
-    // Over such lines, and if the file's graph can be split as requested, a run fails only for lack of memory or because
-    // of an error of the sink.
+    // Over such lines, and if the file's graph can be split as requested, a run fails only for lack of memory or
+    // because of an error of the sink.
     ensures ends_well { AreServed L.Line lines.items → EndsWell cutting.entry result
         (known S.state W.state source.old sink.old) (known S.state W.state source.new sink.new) }
 

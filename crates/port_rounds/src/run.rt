@@ -127,11 +127,11 @@ impl<
 /// round at a time. In each lane it takes memory for an answer about each shard. It makes at most log2 n merging
 /// rounds, and one more.
 ///
-/// It fails if
-/// - a round with picks is past the bound,
-/// - a round has no picks, but the links taken don't connect the endpoints of a link of the cut, the first of which is
-///   reported,
-/// - or it is out of memory.
+/// It returns these errors:
+/// - `Rounds` if a round with picks is past the bound.
+/// - `Missed` if a round has no picks, but the links taken don't connect the endpoints of a link of the cut. It names
+///   the first such link.
+/// - `Memory` if it is out of memory.
 pub fn solve<
     'a,
     A: Allocator + Copy + Send + Sync,

@@ -22,7 +22,7 @@ pub record ArePicks (labels : List ℕ) (S : LinkSet) (picks : List (Option Link
   pub ends : (l : Link) → Picked picks l → l.high ≤ length labels
   pub least : (c : ℕ) → IsVertex (length labels) c → IsPickOf labels S c (pick_of picks c)
 
--- the picks of some answers that were heard
+-- the picks of any answers that were heard
 abbrev pub ArePicksOfHearings : List ℕ → List (Option Link) → Type 0
 ArePicksOfHearings labels picks = (heard : List Hearing) × ArePicks labels (IsNamed heard) picks
 

@@ -69,5 +69,5 @@ impl<A: Allocator + Copy> Listed<A> {
     }
 }
 
-// In place of a name that isn't written yet.
+// Stored instead of a name that isn't written yet.
 const NO_NAME: u32 = 0;

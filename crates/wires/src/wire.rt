@@ -149,8 +149,8 @@ impl<'a, L: Line, A: Allocator + Copy> Port<A> for Wire<'a, L, A> {
         // A closed wire does nothing.
         ensures closed { self.old.is_open ≡ false → self.new ≡ self.old }
 
-        // Over a faithful line no reply is garbled and no hello is wrong. The worker's only faults are a lack of
-        // memory, and that it is too old.
+        // Over a faithful line no reply is garbled and no hello is wrong. A fault of the worker says that it is out of
+        // memory, and the worker may be too old.
         ensures blameless { IfErr result (λ e. IsHonestWire L.Line self.old → IsBlameless e) }
     {
         if !self.is_open {

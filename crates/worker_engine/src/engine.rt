@@ -94,7 +94,7 @@ impl<A: Allocator + Copy> Engine<A> {
         }
     }
 
-    // Stores a shard's links under its number, in place of earlier ones.
+    // Stores a shard's links under its number, and replaces earlier ones.
     fn keep(&mut self, number: u32, links: Links<A>) -> Result<(), AllocError>
         requires { IsShard number links }
         ensures kept { OnOk result (shelf_of self.new ≡ shelf_with (shelf_of self.old) (ShardFrame number links)) }

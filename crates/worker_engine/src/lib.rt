@@ -8,8 +8,8 @@
 //! ```
 //!
 //! What it promises:
-//! - [`Engine::hear`], or [`Engine::hear_par`] by threads, stores a shard in place of an earlier one of its number, and
-//!   replies to an ask by what is stored. It changes nothing at another frame, or if it is out of memory.
+//! - [`Engine::hear`], or [`Engine::hear_par`] by threads, stores a shard, which replaces an earlier one of its number,
+//!   and replies to an ask by what is stored. It changes nothing at another frame, or if it is out of memory.
 //! - [`serve`] writes what a session of [`frames::VERSION`] owes for the frames of a stream, or a prefix of that if it
 //!   ends early. A longer stream owes no other beginning, in any version ([`worker_replies::laws`]).
 //!
