@@ -1,4 +1,4 @@
--- What a run over lines did, by what its steps say.
+-- What a run over lines did, derived from what its steps say.
 use Rattle.std.proofs.Common.{◌≡◌, ℕ, zero, suc, ◌+◌, ◌<◌, ◌≤◌, ◌^◌, ◌⊎◌, inl, inr, true, List, [], ◌∷◌, length, get_or, take, None, Ok, Err, refl, ap, subst, ◌∙◌, arith}
 use Rattle.std.specs.Prelude.{All, Contains, Vec}
 use Rattle.std.proofs.lemmas.List.{length-append, get_or_append_left, get_or-append-add}
@@ -38,14 +38,14 @@ use Rattle.forest_run.proofs.Transcripts.{have_transcripts}
 
 -- ---- cuts
 
--- where the ends of the list's links are vertices those of each shard's are
+-- if the endpoints of the list's links are vertices, so are those of each shard's
 pub shards_ends : (n : ℕ) (shards : List (List Link)) → EndsUpTo n (joined shards) → All (EndsUpTo n) shards
 shards_ends n [] ends i d b = absurd (omega arith)
 shards_ends n (s ∷ shards) ends zero d b = λ i e within. subst (λ l. l.high ≤ n) (get_or_append_left s (joined shards) e i within) (ends i e (omega (arith, length-append s (joined shards))))
 shards_ends n (s ∷ shards) ends (suc k) d b =
     shards_ends n shards (λ i e within. subst (λ l. l.high ≤ n) (get_or-append-add s (joined shards) i e) (ends (length s + i) e (omega (arith, length-append s (joined shards))))) k d (omega arith)
 
--- a graph has so few links that the text of its forest is counted whole
+-- a graph has so few links that the length of its forest's text can be counted
 pub few_enough : (n m : ℕ) → n ≤ m → m ≤ MAX_ARCS → n ≤ 2 ^ 55
 few_enough n m less few = omega (arith, less, few)
 
@@ -58,7 +58,7 @@ open_all {L = L} (lane ∷ lanes) opened =
     let here : count_if lane.port.is_open ≡ 1 = ap count_if (opened 0 lane (omega arith)) in
     omega (arith, sum_by-cons (λ (l : LaneState (WireState L)). count_if (port_of l.port).is_open) lane lanes, here, open_all lanes (λ i d b. opened (suc i) d (omega arith)))
 
--- what a run says of a graph that it found a forest of
+-- what a run says about a graph of which it found a forest
 module _ {L A : Type 0} (over : Line.Ghosts L) (cutting : Cutting) (graph : GraphValue) (shards : List (List Link)) (is : IsCutOf cutting graph.links shards) (before after : List L) (forest : List Link) (report : Report)
     (solved : FindsOverLines A over graph.vertices shards before after forest report) where
   opened_all : open_count port_of solved.lanes ≡ length before
@@ -130,16 +130,16 @@ module _ (cutting : Cutting) (graph : GraphValue) (s t : SourceState) (a : SinkS
   solve_served X shards is (solving.Missed link) none = absurd (cc)
   solve_served X shards is solving.Memory none = unsolved (λ g. IsServedFault cutting g fault.Memory) graph s t a read is.allowed
 
--- a cut that is allowed is refused for want of memory alone
+-- a cut that is allowed fails only for lack of memory
 pub cut_unhindered : (cutting : Cutting) (links others : ℕ) (why : CutFault) → IsCutFault (cut_refusal cutting links) why → links ≡ others → cut_refusal cutting others ≡ None
     → why ≡ cut.Memory
 cut_unhindered cutting links others why refused same allowed = search arith
 
--- a sink that took a part of the text and then had a setback isn't one that had none
+-- a sink that took a part of the text and then failed isn't one that had no error
 pub had_setback : (written : ℕ) (text : List ℕ) (a b : SinkState) → PrefixWentOut written text a b → ¬ HadNoSetback a b
 had_setback written text a b part no_failure = absurd (omega (arith, took_unhindered 1 (take part.count text) a b no_failure part.took))
 
--- ---- a forest whose text went out in part
+-- ---- a forest whose text was written in part
 
 pub lines_broken_off : {L A : Type 0} (over : Line.Ghosts L) (cutting : Cutting) (graph : GraphValue) (before : List L) (forest : List Link) (report : Report) (after : Vec L A)
     (written n : ℕ) (s t : SourceState) (a b : SinkState) → IsReadOf MAX_BYTES (Ok graph) s t → IsSpanning graph forest → length forest ≤ 2 ^ 55 → n ≡ graph.vertices

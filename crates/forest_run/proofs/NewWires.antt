@@ -1,4 +1,4 @@
--- New wires over lines, and the lines out of them again.
+-- New wires over lines, and how the lines are taken out of them again.
 use Rattle.std.proofs.Common.{◌≡◌, ℕ, suc, ◌+◌, ◌<◌, ◌^◌, ◌⊎◌, inl, inr, List, [], ◌∷◌, ◌++◌, length, get_or, take, drop, sym, ap, subst, ◌∙◌, arith, append_assoc}
 use Rattle.std.specs.Prelude.{All, Some, reverse}
 use Rattle.std.proofs.lemmas.Bool.{cases_lt}
@@ -65,14 +65,14 @@ module _ {L : Type 0} (state : L → LineState) (cut : List (List Link)) (all : 
         room = (All-pop (λ l. HasRoom (state l)) left rest (Some line) e some.room).0;
       }
 
-  -- the room of the line that comes next, and how many lanes there are before it
+  -- the next line can count further, and how many lanes precede it
   pub next_room : (lanes : List (LaneState (WireState L))) (left rest : List L) (line : L) → left ≡ rest ++ line ∷ [] → SomeLanes lanes left → HasRoom (state line)
   next_room lanes left rest line e some = (All-pop (λ l. HasRoom (state l)) left rest (Some line) e some.room).1
 
   pub lanes_number : (lanes : List (LaneState (WireState L))) (left : List L) → SomeLanes lanes left → length lanes + length left ≡ length all
   lanes_number lanes left some = search (arith, length-append, length-map, length-reverse)
 
--- ---- the lines out of the lanes
+-- ---- the lines are taken out of the lanes
 
 module _ {L : Type 0} where
   pub line_out : (all : List L) (lines : List L) (left rest : List (LaneState (WireState L))) (lane : LaneState (WireState L)) → left ≡ rest ++ lane ∷ []
@@ -93,7 +93,7 @@ module _ {L : Type 0} (over : Line.Ghosts L) where
   new_honest line cut worker wire new fresh known carries =
       (subst (λ w. over.faithful wire.client.line w) (sym new.worker_is) (subst (λ l. over.faithful l worker) (sym new.line_is) carries), ((over.state line).ends, [], inl ([], new_calm line cut worker wire new fresh known)))
 
-  -- over lines that are served each wire is honest
+  -- over lines that are served, each wire is honest
   pub served_honest : (lines : List L) (cut : List (List Link)) (lanes : List (LaneState (WireState L))) → AreNewLanes lines cut lanes → AreServed over lines
       → AreHonest (IsHonestWire over) lanes
   served_honest lines cut lanes new served i d b =
@@ -102,7 +102,7 @@ module _ {L : Type 0} (over : Line.Ghosts L) where
       let fresh = served.0 i line within in
       new_honest (get_or lines i line) cut i (get_or lanes i d).port (new.each i line d within) fresh.0 fresh.1 (served.1 i line within)
 
--- ---- what a run asks of new wires' lanes, and what it leaves of them
+-- ---- what a run asks of the lanes of new wires, and what they are after it
 
 module _ {L : Type 0} where
   pub new_cut : (lines : List L) (cut : List (List Link)) (lanes : List (LaneState (WireState L))) → AreNewLanes lines cut lanes
@@ -113,7 +113,6 @@ module _ {L : Type 0} where
       → All (λ (lane : LaneState (WireState L)). (port_of lane.port).asks < 2 ^ 63) lanes
   new_counts lines cut lanes new k d b = (let none = (new.each k d.port.client.line d (let e = new.number in omega arith)).asks in omega arith)
 
--- the whole list was written
 pub written_back : {X : Type 0} (n : ℕ) (xs ys : List X) → length ys ≡ n → take n (ys ++ drop (length ys) xs) ≡ ys
 written_back n xs ys e = take_at ys (drop (length ys) xs) n e
 

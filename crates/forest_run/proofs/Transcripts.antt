@@ -1,4 +1,4 @@
--- What was said and heard over lines whose wires stayed open.
+-- What was sent and got over lines whose wires stayed open.
 use Rattle.std.proofs.Common.{◌≡◌, ◌≢◌, ℕ, zero, suc, ◌<◌, ◌≤◌, Bool, true, false, List, [], ◌∷◌, length, get_or, refl, sym, ap, subst, ◌∙◌, arith}
 use Rattle.std.specs.Prelude.{Contains, Option, sum_by}
 use Rattle.std.proofs.lemmas.List.{append-nil, length-map, get_or-map}
@@ -27,7 +27,7 @@ use Rattle.forest_run.proofs.NewWires.{new_sound}
 
 -- ---- lists
 
--- a list of what there is at each place
+-- a list of what exists at each index
 choose : {X : Type 0} (n : ℕ) (R : ℕ → X → Type 0) → ((i : ℕ) → i < n → (x : X) × R i x) → (xs : List X) × (length xs ≡ n) × ((i : ℕ) (d : X) → i < n → R i (get_or xs i d))
 choose {X = X} zero R some = ([], refl, λ i d b. absurd (omega arith))
 choose {X = X} (suc n) R some =
@@ -46,7 +46,7 @@ same_sums f g (x ∷ xs) [] same each = absurd (omega (arith, same))
 same_sums f g (x ∷ xs) (y ∷ ys) same each =
     omega (arith, sum_by-cons f x xs, sum_by-cons g y ys, each 0 x y (omega arith), same_sums f g xs ys (omega (arith, same)) (λ i d e b. each (suc i) d e (omega arith)))
 
--- the exchange that an answer is of
+-- the exchange to which an answer belongs
 exchange_with : (exchanges : List Exchange) (t : AnswerValue) → Contains (answers_of exchanges) t → (e : Exchange) × Contains exchanges e × (e.answer ≡ t)
 exchange_with [] t h = absurd (omega (arith, h.1))
 exchange_with (e ∷ exchanges) t (zero, b, is) = (e, (0, omega arith, refl), is)
@@ -55,7 +55,7 @@ exchange_with (e ∷ exchanges) t (suc k, b, is) = (let r = exchange_with exchan
 is_one : (b : Bool) → count_if b ≡ 1 → b ≡ true
 is_one a1 a2 = search arith
 
--- where as many ports are open as there are, each is
+-- if as many ports are open as there are, each is open
 each_open : {P : Type 0} (is : P → Bool) (xs : List P) → length xs ≤ sum_by (λ x. count_if (is x)) xs → (i : ℕ) (d : P) → i < length xs → is (get_or xs i d) ≡ true
 each_open {P = P} is [] many i d b = absurd (omega arith)
 each_open {P = P} is (x ∷ xs) many zero d b =
@@ -71,7 +71,7 @@ each_open {P = P} is (x ∷ xs) many (suc i) d b =
 
 module _ {L A : Type 0} (over : Line.Ghosts L) (n : ℕ) (cut : List (List Link)) (before after : List L) (forest : List Link) (report : Report)
     (solved : FindsOverLines A over n cut before after forest report) where
-  -- what was said and heard over the line at a place, and how often it was asked
+  -- what was sent and got over the line at an index, and how often it was asked
   record IsTranscriptAt (i : ℕ) (said : Transcript) : Type 0 where
     pub each : (line : L) → HasTranscript cut i (over.state (get_or after i line)) said
     pub answers : solved.went.went.rounds.answers_at i ≡ answers_of said.1
@@ -118,7 +118,6 @@ module _ {L A : Type 0} (over : Line.Ghosts L) (n : ℕ) (cut : List (List Link)
         same_place (x ∷ xs) zero d e b = refl
         same_place (x ∷ xs) (suc i) d e b = same_place xs i d e (omega arith)
 
-    -- a new wire was never asked
     none_asked : (lanes : List (LaneState (WireState L))) → ((i : ℕ) (d : LaneState (WireState L)) → i < length lanes → (get_or lanes i d).port.asks ≡ 0) → ask_count port_of lanes ≡ 0
     none_asked [] none = refl
     none_asked (lane ∷ lanes) none =

@@ -21,15 +21,15 @@ use Rattle.port_rounds.specs.Solved.{FindsForest, RefusesRun}
 abbrev pub AreFresh : {L : Type 0} → (L → LineState) → List L → Type 0
 AreFresh state lines = All (λ line. IsFresh (state line) × HasKnownBytes (state line)) lines
 
--- the line at each place is faithful for the worker of that number
+-- the line at each index is faithful for the worker of that number
 abbrev pub AreFaithful : {L : Type 0} → Line.Ghosts L → List L → Type 0
 AreFaithful over lines = (worker : ℕ) (d : _) → worker < length lines → over.faithful (slice_index_or lines worker d) worker
 
--- each line is new, its bytes are known, and they are so
+-- each line is new, with known bytes, and faithful for its worker
 abbrev pub AreServed : {L : Type 0} → Line.Ghosts L → List L → Type 0
 AreServed over lines = AreFresh over.state lines × AreFaithful over lines
 
--- lanes with a new wire over each line: the wire at each place is for the worker of that number
+-- lanes with a new wire over each line: the wire at each index is to the worker of that number
 pub record AreNewLanes {L : Type 0} (lines : List L) (cut : List (List Link)) (lanes : List (LaneState (WireState L))) : Type 0 where
   pub number : length lanes ≡ length lines
   pub each : (worker : ℕ) (line : L) (lane : LaneState (WireState L)) → worker < length lines
@@ -42,23 +42,24 @@ lines_of lanes = map (λ lane. lane.port.client.line) lanes
 
 -- ---- what a run does to them
 
--- what a wire over this line, which was new before a run, is after it: it is of this worker, and it is known why it was shut if
--- it is, whatever the other lines are
+-- What a wire over this line, which was new before a run, is after it. It is to this worker, and if it was closed it is
+-- known why, whatever the other lines are.
 pub record IsLeftWire {L : Type 0} (over : Line.Ghosts L) (worker : ℕ) (line : L) (wire : WireState L) : Type 0 where
   pub worker_is : wire.client.worker ≡ worker
-  -- where the line was new, with known bytes, from the ends on that it had found before the run
+  -- if the line was new, with known bytes, and counting from the ends that it had found before the run
   pub sound : IsFresh (over.state line) → HasKnownBytes (over.state line)
       → (exchanges : List Exchange) × IsSoundWire over.state wire (over.state line).ends exchanges
-  -- and where it carries its worker's session too
+  -- and if it carries its worker's session too
   pub honest : IsFresh (over.state line) → HasKnownBytes (over.state line) → over.faithful line worker → IsHonestWire over wire
 
--- the wires that lanes with new wires over these lines have after a run: each is of the worker of its place
+-- the wires that lanes with new wires over these lines have after a run: each is to the worker of its index
 abbrev pub AreLeftWires : {L : Type 0} → Line.Ghosts L → List L → List (LaneState (WireState L)) → Type 0
 AreLeftWires {L = L} over lines ended =
     (worker : ℕ) (line : L) (lane : LaneState (WireState L)) → worker < length lines
     → IsLeftWire over worker (slice_index_or lines worker line) (slice_index_or ended worker lane).port
 
--- over new wires a run of their lanes found this forest of the cut's links, for the vertices 1 to n; the lines were taken out again in their order
+-- Over new wires, a run of their lanes found this forest of the cut's links, for the vertices 1 to `n`. The lines were
+-- taken out again in their order.
 pub record FindsOverLines {L : Type 0} (A : Type 0) (over : Line.Ghosts L) (n : ℕ) (cut : List (List Link)) (before after : List L)
     (forest : List Link) (report : Report) : Type 0 where
   pub lanes : List (LaneState (WireState L))
@@ -68,7 +69,7 @@ pub record FindsOverLines {L : Type 0} (A : Type 0) (over : Line.Ghosts L) (n : 
   pub wires : AreLeftWires over before ended
   pub lines_are : after ≡ lines_of ended
 
--- over new wires the rounds of a run were answered so that the solver refuses them by this fault
+-- over new wires, the solver rejects the answers in the rounds of a run with this error
 pub record RefusesOverLines {L : Type 0} (A : Type 0) (over : Line.Ghosts L) (n : ℕ) (cut : List (List Link)) (lines : List L)
     (fault : SolveFault) : Type 0 where
   pub lanes : List (LaneState (WireState L))
@@ -79,13 +80,15 @@ pub record RefusesOverLines {L : Type 0} (A : Type 0) (over : Line.Ghosts L) (n 
 
 -- ---- the bytes on the lines
 
--- what was said with a worker: the frames that were sent, and the asks among them with their answers
+-- what was exchanged with a worker: the frames that were sent, and the asks among them with their answers
 abbrev pub Transcript : Type 0
 Transcript = List FrameValue × List Exchange
 
--- all that was said over a new line with this worker about shards of the cut: these frames were sent, shards that were asked for
--- there, once each and before their first ask, and the asks of these exchanges, and nothing else; and the worker's hello and
--- the answers of the exchanges got, and nothing else, or nothing where no hello came
+-- All that was exchanged over a new line with this worker about shards of the cut:
+-- - These frames were sent, and nothing else: each shard that was asked about, once and before its first ask, and the
+--   asks of the exchanges.
+-- - The worker's hello and the answers of the exchanges were got, and nothing else; or nothing at all, if no hello
+--   came.
 pub record HasTranscript (cut : List (List Link)) (worker : ℕ) (line : LineState) (said : Transcript) : Type 0 where
   pub client : Client
   pub worker_is : client.worker ≡ worker
@@ -93,13 +96,14 @@ pub record HasTranscript (cut : List (List Link)) (worker : ℕ) (line : LineSta
   pub cut_is : client.cut ≡ cut
   pub in_step : MatchesLine client said.0 said.1
 
--- an answer that was heard names the link
+-- an answer that came names the link
 abbrev pub IsNamedInTranscripts : List (List Link) → List Transcript → Link → Type 0
 IsNamedInTranscripts cut transcripts l =
     (said : Transcript) × (exchange : Exchange)
     × Contains transcripts said × Contains said.1 exchange × Names (hearing_of cut exchange.answer) l
 
--- what was said and heard over all lines, at each place: so many asks in all, and each link of the forest is named by one of the answers
+-- What was sent and got over all lines, at each index. There are `asked` asks in all, and one of the answers names each
+-- link of the forest.
 pub record HaveTranscripts {L : Type 0} (state : L → LineState) (cut : List (List Link)) (forest : List Link) (asked : ℕ)
     (lines : List L) : Type 0 where
   pub transcripts : List Transcript

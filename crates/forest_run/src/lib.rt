@@ -1,21 +1,24 @@
-//! A whole run over lines to workers, from the bytes of a `.gr` file to the text of its minimum spanning forest. It goes in
-//! rounds; ferries, one for each open port, ask for light offers, in threads (no contract says so). What callers need
-//! beside it is handed on: runs without workers of `plain_run`, rounds over any ports of `port_rounds`.
+//! A whole run over lines to workers, from the bytes of a `.gr` file to the text of its minimum spanning forest.
+//!
+//! A run goes in rounds. Ferries, one for each open port, ask for light offers in threads of their own (no contract
+//! says so). Runs without workers are re-exported from `plain_run`, and rounds over any ports from `port_rounds`.
 //!
 //! ```text
-//!     run_lines      read (gr_text), cut, a wire and a lane a line (wires), solve (port_rounds), write (gr_text)
+//!     run_lines      read (gr_text), cut, a wire and a lane per line (wires), solve (port_rounds), write (gr_text)
 //! ```
 //!
 //! What it promises:
-//! - A run that ends well has read a whole file that means a graph, and written just the text of a forest of its links.
-//!   A malformed file is refused by its first fault; at any other fault a prefix of such a text went out.
-//! - Over lines that carry their workers' sessions it is the minimum one; over any lines it spans.
-//! - A new line with known bytes is given up only for a fault that fits these and its counts, or an answer that the
-//!   round's book refuses.
+//! - A run that succeeds has read a whole file that describes a graph, and written exactly the text of a forest of its
+//!   links. A malformed file is rejected with its first error. After any other error, a prefix of such a text was
+//!   written.
+//! - Over lines that carry their workers' sessions, the forest is the minimum one; over any lines, it spans.
+//! - A new line with known bytes is given up only for an error that fits these and its counts, or for an answer that
+//!   the round's book rejects.
 //!
-//! Where to start a change: `specs/LinesRun` says what a run over lines finds and reports, `WiredLines` what lines were
-//! asked and answered, `Cuttings` how links are cut. What a run does to its streams stands in `plain_run`, what rounds do
-//! to ports in `port_rounds`.
+//! Where to make a change:
+//! - `specs/LinesRun` says what a run over lines finds and reports, `specs/WiredLines` what lines were asked and
+//!   answered, and `specs/Cuttings` how links are split.
+//! - What a run does to its streams is in `plain_run`, and what rounds do to ports in `port_rounds`.
 #![tactic(auto)]
 
 mod cutting;

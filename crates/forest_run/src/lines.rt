@@ -1,4 +1,3 @@
-//! A run over lines to workers, from the bytes of a file to the text of its forest.
 ghost use Rattle.std.specs.Prelude.{◌≡◌, ℕ, ◌⊎◌, ◌≤◌, List, [], length, All, IfOk, IfErr, OnOk, vec_capacity};
 ghost use Rattle.limits.specs.declared.TheConstants.{MAX_ARCS, MAX_VERTICES, MAX_WORKERS};
 ghost use Rattle.byte_streams.specs.Streams.{IsFlushed};
@@ -26,7 +25,7 @@ use std::sync::Wait;
 use std::thread::Threads;
 use wires::{Line, Wire};
 
-// Cuts the links as it was asked for.
+// Splits the links as requested.
 fn cut_links<'a, A: Allocator + Copy>(
     alloc: A,
     links: &'a [Link],
@@ -42,7 +41,8 @@ fn cut_links<'a, A: Allocator + Copy>(
     }
 }
 
-// A lane with a new wire over each line, the wire at place i for worker i. `lines` is left empty, and keeps its room.
+// Makes a lane with a new wire over each line. The wire at index `i` is to worker `i`. `lines` is left empty, with its
+// memory.
 fn open_lanes<'a, L: Line + Drop, A: Allocator + Copy>(
     alloc: A,
     cut: &'a Cut<'a, A>,
@@ -63,7 +63,7 @@ fn open_lanes<'a, L: Line + Drop, A: Allocator + Copy>(
     Ok(lanes)
 }
 
-// The lines of the lanes, in their order, into `lines`, which has room for them.
+// Moves the lines of the lanes, in their order, into `lines`, which has the capacity for them.
 fn close_lanes<'a, L: Line + Drop, A: Allocator + Copy>(
     mut lanes: Vec<Lane<Wire<'a, L, A>, A>, A>,
     lines: &mut Vec<L, A>,
@@ -78,7 +78,6 @@ fn close_lanes<'a, L: Line + Drop, A: Allocator + Copy>(
     }
 }
 
-// The run's fault for a fault of its rounds.
 fn run_fault_for(fault: SolveFault) -> RunFault
     ensures { result ≡ run_fault fault }
 {
@@ -89,7 +88,7 @@ fn run_fault_for(fault: SolveFault) -> RunFault
     }
 }
 
-// Finds a spanning forest of the cut's links over new wires, and takes the lines out of them.
+// Finds a spanning forest of the cut's links over new wires, and takes the lines out of these.
 fn solve_lines<
     'a,
     L: Line + Send + Drop,
@@ -117,24 +116,33 @@ fn solve_lines<
 }
 
 /// Reads a graph of at most [`limits::MAX_BYTES`] bytes, finds its minimum spanning forest over lines to workers, and
-/// writes the forest's text. It answers what the run did, and the lines as it left them, in their order.
+/// writes the forest's text. It returns what the run did, and the lines as it left them, in their order.
 ///
-/// The links are cut as `cutting` says, and the worker at line i, numbered from 0, is asked for the light offers of one
-/// shard after another, as [`solve`] says. A line that fails, over which something else than an answer comes, or an
-/// answer that the round's book refuses, one of whose asks finds no memory, or whose worker has a version that has no
-/// frame for a shard, is given up for good, and its shards are asked of the others; where none is left they are scanned
-/// here. So a failing line is never the run's fault. A line that was new, with known bytes, is given up for a fault
-/// only where its last ask counted a failure or an end, brought bytes that fit the fault, found no memory, or needed a
-/// frame that its worker's version hasn't, and no ask before did. Where all lines carry the sessions of their workers
-/// the links are the minimum spanning forest, and no line is given up but one that is down, whose worker is too old for
-/// a shard, or for want of memory here or at its worker; whatever comes over them, the links close no cycle and span
-/// those of the file.
+/// The links are split as `cutting` says. The worker at line `i`, numbered from 0, is asked about the light offers of
+/// one shard after another, as in [`solve`].
 ///
-/// It waits for the workers' answers. It reads and writes by as many threads as there are processors. The forest is whole
-/// before the first byte is written; after a fault the lines are dropped. It takes a list of the links, the places of the
-/// cut, 600 bytes for each line and less than 128 KiB, or 4 bytes a vertex where the labels find no memory for bytes of
-/// their own, what [`solve`] takes, and what [`read_graph_par`] and [`write_forest_par`] take for their threads; the time
-/// of a round is that of scanning the links once, shared by the workers.
+/// A line is given up for good if it fails or brings anything but an answer, or if the round's book rejects an answer.
+/// So is a line if there is no memory for an ask, or if its worker's version has no frame for a shard. Its shards are
+/// asked of the other lines, or scanned here if none is left, so the run never fails because of a line.
+///
+/// A line that was new, with known bytes, is given up for an error only if one of these holds for its last ask, and for
+/// no ask before it:
+/// - The ask counted a failure or an end.
+/// - It brought bytes that fit the error.
+/// - There was no memory for it.
+/// - It needed a frame that its worker's version doesn't have.
+///
+/// If all lines carry the sessions of their workers, the links are the minimum spanning forest. Then a line is given up
+/// only if it is down, if its worker is too old for a shard, or if memory runs out here or at its worker. Whatever
+/// comes over the lines, the links close no cycle and span those of the file.
+///
+/// It waits for the workers' answers. It reads and writes by as many threads as there are processors. The forest is
+/// complete before the first byte is written. After an error the lines are dropped.
+///
+/// It takes memory for a list of the links, the indices of the cut, and 600 bytes and less than 128 KiB per line. If
+/// there is no memory to store the bytes of the labels, each line takes 4 bytes per vertex instead. It also takes what
+/// [`solve`] takes, and what [`read_graph_par`] and [`write_forest_par`] take for their threads. The time of a round is
+/// that of one scan of the links, shared by the workers.
 pub fn run_lines<
     S: Source,
     W: Sink,
@@ -154,29 +162,30 @@ pub fn run_lines<
     requires few { length lines.items ≤ MAX_WORKERS }
     requires room { All (λ line. HasRoom (L.state line)) lines.items }
 
-    // Whatever the workers answer: the source was read to its end, and exactly the text of a spanning forest went out, or
-    // the fault says what was done. At the end, where a write failed, and where what came over the lines makes no forest,
-    // each line was asked as its worker, and where it was given up it is known why.
+    // Whatever the workers answer: the source was read to its end and exactly the text of a spanning forest was
+    // written, or the error says what was done. Take a run that succeeds, fails on a write, or fails because what came
+    // over the lines makes no forest. In it each line was asked as its worker, and it is known why a line was given up.
     ensures ran { RanLines L.Line cutting.entry lines.items result
         (known S.state W.state source.old sink.old) (known S.state W.state source.new sink.new) }
 
-    // Where each line is new and carries its worker's session: the minimum spanning forest, after as many rounds as merge
-    // components. `ran` says so too, of the forest and the report that it speaks of.
+    // If each line is new and carries its worker's session: the minimum spanning forest, after as many rounds as merge
+    // components. `ran` says so too, about the forest and the report that it names.
     ensures served { AreServed L.Line lines.items → RanServed cutting.entry result
         (known S.state W.state source.old sink.old) (known S.state W.state source.new sink.new) }
 
-    // A file that means nothing is refused by its first fault, where no read fails; one that means a graph isn't.
+    // A file that doesn't describe a graph is rejected with its first error, if no read fails; one that does isn't
+    // rejected.
     ensures malformed { (bytes : List ℕ) → HasFile bytes (S.state source.old) (S.state source.new)
         → MeansNothing bytes → IsFirstFaultOf bytes result }
     ensures lawful { (bytes : List ℕ) → HasFile bytes (S.state source.old) (S.state source.new)
         → MeansGraph bytes → IsNoRefusal result }
 
-    // Over such lines, where the cut of the file's graph is allowed, only want of memory and a setback of the sink can
-    // hinder a run.
+    // Over such lines, and if the file's graph can be split as requested, a run fails only for lack of memory or
+    // because of an error of the sink.
     ensures ends_well { AreServed L.Line lines.items → EndsWell cutting.entry result
         (known S.state W.state source.old sink.old) (known S.state W.state source.new sink.new) }
 
-    // After a run that ends well no byte of a sink that knows which wait for a flush does, and it can be written again.
+    // After a successful run, no byte waits for a flush, in a sink that knows which do; and it can be written again.
     ensures flushed { OnOk result (IsFlushed (W.unflushed sink.new)) }
     ensures again { OnOk result (W.can_write sink.new) }
 {

@@ -1,4 +1,4 @@
--- An answer whose offers come by pieces.
+-- An answer whose offers arrive in pieces.
 use Rattle.std.proofs.Common.{◌≡◌, ℕ, ◌+◌, ◌*◌, ◌≤◌, List, [], ◌∷◌, ◌++◌, length, All, refl, sym, ap, subst, ◌∙◌, append_assoc, arith}
 use Rattle.std.specs.List.{flat_map}
 use Rattle.std.proofs.lemmas.List.{length-append}
@@ -19,9 +19,9 @@ use Rattle.frames.proofs.Listed.{offer_more, fits_more}
 use Rattle.frames.proofs.Decoded.{answer_refused, answer_begun, answer_found, answer_unsorted}
 use Rattle.frames.proofs.Pieces.{list_came, list_refused, list_cut, list_stopped, list_late}
 
--- ---- offers pushed
+-- ---- offers are appended
 
--- one more offer, of the bytes that are left
+-- another offer, from the bytes that are left
 pub pushed_offer : (new old before more : List Offer) (component place : ℕ) (bytes rest rest' rest'' : List ℕ) → new ≡ old ++ (component, place) ∷ [] → old ≡ before ++ more
     → flat_map offer_text more ++ rest ≡ bytes → All FitsOffer more → FitsOffer (component, place) → rest ≡ u32_text component ++ rest' → rest' ≡ u32_text place ++ rest''
     → (next : List Offer) × (new ≡ before ++ next) × (flat_map offer_text next ++ rest'' ≡ bytes) × All FitsOffer next
@@ -54,7 +54,7 @@ module _ (r s c k : ℕ) (x y z : SourceState) (came : Gave 0 0 (u32_text r ++ (
     unfolding u32_text
     begun offers count = answer_begun r s c offers (omega (arith, counted, count))
 
-    -- less than all offers came, or memory was wanting
+    -- less than all offers came, or memory ran out
     pub answer_stopped : (fault : FrameFault) → IsStopped fault (8 * k) y z → IsBodyRefused fault 4 (12 + 8 * k) x z
     answer_stopped fault stopped = list_stopped 4 (12 + 8 * k) (8 * k) (u32_text r ++ (u32_text s ++ u32_text c)) long x y z came fault stopped begun
 
@@ -70,7 +70,7 @@ module _ (r s c k : ℕ) (x y z : SourceState) (came : Gave 0 0 (u32_text r ++ (
           list_came 4 (12 + 8 * k) (8 * k) (u32_text r ++ (u32_text s ++ u32_text c)) long x y z came (AnswerFrame (record { round = r; shard = s; offers = os })) bytes count behind
           (answer_found r s c bytes os wide_r wide_s (omega (arith, counted, few)) (omega (arith, ap length spelled, items_length offer_text 8 offer_length os, count, counted)) spelled (subst (All FitsOffer) (sym same) are.fit) ascending)
 
-      -- pairs came that are no offers
+      -- pairs came that aren't offers
       pub no_answer_came : IsU32 c → (AreOffers pairs → ⊥) → IsBodyRefused BadField 4 (12 + 8 * k) x z
       unfolding u32_text
       no_answer_came wide_c never = search (arith, list_refused, long, answer_unsorted)

@@ -1,4 +1,4 @@
--- Labels of an ask that coarsen those of the last one, a piece at a time.
+-- Labels of an ask that coarsen those of the last one, one piece at a time.
 use Rattle.std.proofs.Common.{◌≡◌, ℕ, ◌+◌, ◌*◌, ◌-◌, ◌/◌, ◌≤◌, List, ◌++◌, length, take, drop, Bool, Option, Some, None, Vec, refl, sym, ap, subst, ◌∙◌, arith}
 use Rattle.std.specs.Prelude.{◌≢◌, ◌↔◌, IsTrue, IfSome, IfNone}
 use Rattle.std.specs.List.{flat_map}
@@ -12,7 +12,7 @@ use Rattle.frames.specs.NextFrame.{AreCoarserUpTo, AreOthers, HearsMore, numbers
 use Rattle.frames.proofs.Texts.{u32_length, three_length, items_length}
 use Rattle.frames.proofs.NextFrames.{bytes_of}
 
--- the label of one of the first vertices, whatever stands behind them
+-- the label of one of the first vertices, whatever follows them
 label_front : (front more : List ℕ) (v : ℕ) → 1 ≤ v → v ≤ length front → label_of (front ++ more) v ≡ label_of front v
 label_front front more v one to = get_or-append front more 0 (v - 1) (omega arith)
 
@@ -22,14 +22,14 @@ labelled_front front more v one to is = search (arith, label_front)
 labelled_back : (front more : List ℕ) (v : ℕ) → 1 ≤ v → v ≤ length front → IsLabelled (front ++ more) v → IsLabelled front v
 labelled_back front more v one to is = search (arith, label_front)
 
--- behind so many numbers that came, so many more
+-- `k` numbers came, after `came` others
 pub record CameMore {A : Type 0} (last : List ℕ) (came k : ℕ) (before after : Option (Vec ℕ A)) (more : List ℕ) : Type 0 where
   pub within : came + k ≤ length last
   pub counted : length (numbers_of_ask (take came last) before) ≡ came
   pub long : length (numbers_of_ask (take (came + k) last) after) ≡ came + k
   pub is : numbers_of_ask (take (came + k) last) after ≡ numbers_of_ask (take came last) before ++ more
 
--- those of the bytes that were heard
+-- those that the bytes encode
 pub came_more : {A : Type 0} (last : List ℕ) (came k : ℕ) (piece : List ℕ) (before after : Option (Vec ℕ A)) → length piece ≡ 4 * k → came + k ≤ length last
     → length (numbers_of_ask (take came last) before) ≡ came → (heard : HearsMore last came piece before after) → CameMore last came k before after heard.more
 came_more last came k piece before after count within counted heard = search (arith, length-append, bytes_of)
@@ -39,7 +39,7 @@ module _ (last : List ℕ) (are : AreLabels last) where
   pub same_coarser : (to : ℕ) → to ≤ length last → AreCoarserUpTo last last to
   same_coarser to within = search arith
 
-  -- numbers with more behind them
+  -- numbers that are followed by more
   pub coarser_on : (front more : List ℕ) → length front ≤ length last → AreCoarserUpTo last front (length front) → AreCoarserUpTo last (front ++ more) (length front)
   coarser_on front more within is = record {
     labelled = λ v one most. labelled_front front more v one most (is.labelled v one most);
@@ -59,7 +59,7 @@ module _ (last : List ℕ) (are : AreLabels last) where
   pub coarser_of : (numbers : List ℕ) → AreLabels numbers → Coarsens numbers last → AreCoarserUpTo last numbers (length last)
   coarser_of numbers labels coarsens = search arith
 
-  -- labels that were seen not to
+  -- labels that don't coarsen them, as was checked
   pub others_dont : (numbers : List ℕ) → AreLabels numbers → (AreCoarserUpTo last numbers (length last) → ⊥) → (rd sh r s : ℕ) (labels : List ℕ)
       → AskFrame rd sh numbers ≡ AskFrame r s labels → ¬ Coarsens labels last
   others_dont numbers of never rd sh r s labels is coarsens = search (arith, coarser_of)
@@ -72,7 +72,7 @@ module _ (last : List ℕ) (are : AreLabels last) where
       (coarser_off (take to last) (drop to last) (omega (arith, long, within))
       (subst (λ (ns : List ℕ). AreCoarserUpTo last ns (length (take to last))) (sym (take-append-drop to last)) (same_coarser (length (take to last)) (omega (arith, long, within)))))
 
-  -- the numbers that came so far, and so many more
+  -- the numbers that came so far, and `k` more
   module _ {A : Type 0} (before after : Option (Vec ℕ A)) (came k : ℕ) (more : List ℕ) (heard : CameMore last came k before after more) where
     pub others_within : IfSome after (λ list. (came ≤ length list.items) × (length list.items ≤ length last))
     others_within = search arith
@@ -94,15 +94,15 @@ module _ (last : List ℕ) (are : AreLabels last) where
         up_to : (ns : List ℕ) (n m : ℕ) → m ≤ n → AreCoarserUpTo last ns n → AreCoarserUpTo last ns m
         up_to ns n m le are = record { labelled = λ v one most. are.labelled v one (omega arith); coarser = λ v one most. are.coarser v one (omega arith) }
 
--- the numbers of an ask, once all came
+-- the numbers of an ask after all came
 pub all_of_ask : {A : Type 0} (last : List ℕ) (came : ℕ) (numbers : Option (Vec ℕ A)) → length last ≤ came → numbers_of_ask (take came last) numbers ≡ numbers_of_ask last numbers
 all_of_ask a1 a2 a3 a4 = search (arith, take_all)
 
--- and are others than the last ones
+-- and they differ from the last ones
 pub all_others : {A : Type 0} (last : List ℕ) (came : ℕ) (numbers : Option (Vec ℕ A)) → length last ≤ came → AreOthers last came numbers → IfSome numbers (λ list. list.items ≢ last)
 all_others a1 a2 a3 a4 a5 = search (arith, take_all)
 
--- a frame of another length asks for as many other labels
+-- a frame of another length asks with another number of labels
 pub other_length : (v : FrameValue) (kind len : ℕ) (s t : SourceState) (last : List ℕ) → BodyCame v kind len s t → (kind ≡ 3 → len ≡ 12 + 4 * length last → ⊥)
     → (r sh : ℕ) (labels : List ℕ) → v ≡ AskFrame r sh labels → ¬ Coarsens labels last
 other_length v kind len s t last came never r sh labels is coarsens = search (arith, three_length, items_length, u32_length)

@@ -1,4 +1,4 @@
--- What the fields of a body say of the frames that have it.
+-- What the fields of a body say about the frames that have it.
 use Rattle.std.proofs.Common.{◌≡◌, ℕ, ◌*◌, ◌<◌, ◌≤◌, ◌≢◌, List, [], ◌∷◌, ◌++◌, length, take, get_or, All, refl, sym, ap, subst, ◌∙◌, append-nil, arith, inl, inr}
 use Rattle.std.specs.Int.{w16, from_be_bytes}
 use Rattle.std.specs.List.{flat_map, AllByRecursion}
@@ -62,11 +62,11 @@ module _ (s : Spelling) (n c : ℕ) (links : List ℕ) where
         never lawful.number (sym count ∙ sym (counted_in s (length links) (length ls) links-are) ∙ counted_in s (length links) k long),
   )
 
-  -- bytes that are those of no links
+  -- bytes that encode no links
   pub shard_unlinked : IsU32 n → IsU32 c → AreNoLinks (spelled_in s) links → BodyRefused BadField (kind_in s) (u32_text n ++ (u32_text c ++ links))
   shard_unlinked wide wide' none = search (arith, no_hello, shard_parts)
 
-  -- links that are to go in the other spelling
+  -- links that belong in the other spelling
   pub shard_of_another_kind : (ls : List Link) → IsU32 n → IsU32 c → Spells s ls links → spelling_of ls ≢ s → BodyRefused BadField (kind_in s) (u32_text n ++ (u32_text c ++ links))
   shard_of_another_kind ls wide wide' spelled other = (
     no_hello s (u32_text n ++ (u32_text c ++ links)),

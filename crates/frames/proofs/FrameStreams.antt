@@ -1,4 +1,4 @@
--- Texts of lawful frames, joined together, read in one way.
+-- Joined texts of lawful frames can be read in one way only.
 use Rattle.std.proofs.Common.{◌≡◌, ℕ, ◌<◌, ◌≤◌, List, [], ◌∷◌, ◌++◌, length, take, drop, refl, sym, ap, subst, ◌∙◌, ⊎_elim, append_assoc, append-nil, take-append-drop, arith}
 use Rattle.std.proofs.lemmas.Bool.{cases_lt}
 use Rattle.std.proofs.lemmas.Grind.{flat_map-append}
@@ -25,11 +25,10 @@ pub lawful_back : (fs gs : List FrameValue) → AreLawful (fs ++ gs) → AreLawf
 lawful_back [] gs all = all
 lawful_back (f ∷ fs) gs all = lawful_back fs gs all.1
 
--- a frame's text isn't empty
 pub text_some : (v : FrameValue) (more : List ℕ) → [] ≡ text_of v ++ more → ⊥
 text_some v more none = cc
 
--- what begins with frames' texts and is no more than other frames' texts: those frames begin with these
+-- if a stream with the frames `gs` begins with the texts of the frames `fs`, then `gs` begins with `fs`
 pub prefix_frames : (fs gs : List FrameValue) (tail rest : List ℕ) → AreLawful fs → AreLawful gs → BeginsNone rest → texts_of fs ++ tail ≡ texts_of gs ++ rest
     → (hs : List FrameValue) × (gs ≡ fs ++ hs) × (tail ≡ texts_of hs ++ rest)
 prefix_frames [] gs tail rest first second none same = (gs, refl, same)
@@ -43,18 +42,18 @@ prefix_frames (f ∷ fs) (g ∷ gs) tail rest first second none same =
 pub none_begins_none : BeginsNone []
 none_begins_none v more lawful same = text_some v more same
 
--- the same where nothing is behind the other frames
+-- the same if nothing follows the other frames
 pub prefix_of_frames : (fs gs : List FrameValue) (tail : List ℕ) → AreLawful fs → AreLawful gs → texts_of fs ++ tail ≡ texts_of gs
     → (hs : List FrameValue) × (gs ≡ fs ++ hs) × (tail ≡ texts_of hs)
 prefix_of_frames fs gs tail first second same =
     let (hs, is, left) = prefix_frames fs gs tail [] first second none_begins_none (same ∙ sym (append-nil (texts_of gs))) in
     (hs, is, left ∙ append-nil (texts_of hs))
 
--- the texts of lawful frames have just these frames
+-- the texts of lawful frames have exactly these frames
 pub frames_of_texts : (fs : List FrameValue) → AreLawful fs → AreFramesOf (texts_of fs) fs
 frames_of_texts fs lawful = record { lawful = lawful; rest = []; split = sym (append-nil (texts_of fs)); no_more = none_begins_none }
 
--- the same frames stand in a stream however they are looked for
+-- a stream has the same frames, however they are found
 pub same_frames : (stream : List ℕ) (fs gs : List FrameValue) → AreFramesOf stream fs → AreFramesOf stream gs → gs ≡ fs
 same_frames stream fs gs first second =
     let (hs, is, left) = prefix_frames fs gs first.rest second.rest first.lawful second.lawful second.no_more (sym first.split ∙ second.split) in
@@ -66,7 +65,7 @@ same_frames stream fs gs first second =
 pub only_frames_of_texts : (fs gs : List FrameValue) → AreLawful fs → AreFramesOf (texts_of fs) gs → gs ≡ fs
 only_frames_of_texts fs gs lawful are = same_frames (texts_of fs) fs gs (frames_of_texts fs lawful) are
 
--- a text that is no longer than a stream's prefix and begins the stream begins that prefix
+-- a text that begins a stream and is no longer than a prefix of it begins that prefix
 begins_prefix : (text prefix rest behind : List ℕ) → length text ≤ length prefix → prefix ++ rest ≡ text ++ behind
     → (prefix' : List ℕ) × (prefix ≡ text ++ prefix') × (prefix' ++ rest ≡ behind)
 begins_prefix text prefix rest behind fits same =
@@ -75,7 +74,7 @@ begins_prefix text prefix rest behind fits same =
     let split : prefix ≡ text ++ drop n prefix = sym (take-append-drop n prefix) ∙ ap (λ (t : List ℕ). t ++ drop n prefix) first in
     (drop n prefix, split, append_cancel_left text (drop n prefix ++ rest) behind (sym (append_assoc text (drop n prefix) rest) ∙ ap (λ (t : List ℕ). t ++ rest) (sym split) ∙ same))
 
--- a prefix of a stream with these frames has the first of them
+-- a prefix of a stream has the first of the stream's frames
 pub prefix_frames_exist : (prefix rest behind : List ℕ) (all : List FrameValue) → AreLawful all → BeginsNone behind → prefix ++ rest ≡ texts_of all ++ behind
     → (some : List FrameValue) × (more : List FrameValue) × (all ≡ some ++ more) × AreFramesOf prefix some
 prefix_frames_exist prefix rest behind [] lawful none same = (
@@ -118,6 +117,6 @@ pub prefix_has_prefix_frames : (prefix rest : List ℕ) (all : List FrameValue) 
     → (some : List FrameValue) × (more : List FrameValue) × (all ≡ some ++ more) × AreFramesOf prefix some
 prefix_has_prefix_frames prefix rest all are = prefix_frames_exist prefix rest are.rest all are.lawful are.no_more are.split
 
--- what a reader refuses, where neither a read failed nor memory was wanting, begins with no lawful frame
+-- bytes that a reader rejects, without a failed read or a lack of memory, begin with no lawful frame
 pub refused_begins_none : (fault : FrameFault) (bytes : List ℕ) → IsOfStream fault → StreamRefused fault bytes → BeginsNone bytes
 refused_begins_none fault bytes of_stream refused v m is at = never_refused v m fault is of_stream (subst (StreamRefused fault) at refused)

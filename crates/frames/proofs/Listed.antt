@@ -57,7 +57,7 @@ numbers_found bytes numbers whole fits fit spelled =
 pub three_joined : (all a b c x y z : List ℕ) → all ≡ a ++ (b ++ (c ++ [])) → a ≡ x → b ≡ y → c ≡ z → all ≡ x ++ (y ++ z)
 three_joined all a b c x y z is first second third = search (arith, append-nil)
 
--- texts of three fields, put one behind the other
+-- texts of three fields, one after the other
 pub three_put : (t0 t1 t2 t3 a b c x y z : List ℕ) → t1 ≡ t0 ++ a → t2 ≡ t1 ++ b → t3 ≡ t2 ++ c → a ≡ x → b ≡ y → c ≡ z → t3 ≡ t0 ++ (x ++ (y ++ z))
 three_put t0 t1 t2 t3 a b c x y z e1 e2 e3 first second third = search (arith, append_assoc)
 
@@ -88,7 +88,7 @@ pub link_unlike : (weighed : ℤ → List ℕ) (low high : ℕ) (bytes rest rest
     → (1 ≤ low → low < high → high ≤ 2 ^ 26 → ⊥) → IsNoLink (λ l. u32_text l.low ++ (u32_text l.high ++ weighed l.weight)) bytes
 link_unlike weighed low high bytes rest rest' wide wide' first second never l same = search (arith, two_prefix)
 
--- the weight is made of these bits
+-- the weight is that of these bits
 pub link_back : (low high bits : ℕ) (z : ℤ) (bytes rest rest' rest'' : List ℕ) → IsU32 bits → z ≡ cast_signed w32 bits → length bytes ≡ 12
     → bytes ≡ u32_text low ++ rest → rest ≡ u32_text high ++ rest' → rest' ≡ u32_text bits ++ rest'' → u32_text low ++ (u32_text high ++ i32_text z) ≡ bytes
 link_back low high bits z bytes rest rest' rest'' wide is len first second third = search (arith, nil_from_length, length-append, u32_length, append-nil, of_z-to_z)
@@ -98,7 +98,7 @@ pub wide_link_back : (low high : ℕ) (z : ℤ) (bytes rest rest' rest'' : List 
 wide_link_back low high z bytes rest rest' rest'' len first second third = search (arith, nil_from_length, length-append, u32_length, i64_length, append-nil)
 
 module _ (spelled : Link → List ℕ) (size : ℕ) (some : 0 < size) (each : (l : Link) → length (spelled l) ≡ size) where
-  -- behind links that were read, bytes that no link has
+  -- after links that were read, bytes that encode no link
   none_behind : (read links : List Link) (prefix behind : List ℕ) → length prefix ≡ size → IsNoLink spelled prefix
       → flat_map spelled links ≡ flat_map spelled read ++ (prefix ++ behind) → ⊥
   none_behind read [] prefix behind len none same =
@@ -115,7 +115,7 @@ module _ (spelled : Link → List ℕ) (size : ℕ) (some : 0 < size) (each : (l
 
 -- ---- offers, written
 
--- the bytes of one more, behind those of the first offers
+-- the bytes of another offer, after those of the first ones
 pub offer_put : (bytes cell : List ℕ) (offers : List Offer) (i k : ℕ) (d : Offer) → length bytes ≡ 8 * length offers → i < length offers → cell ≡ offer_text (get_or offers i d)
     → take (8 * i) bytes ≡ flat_map offer_text (take i offers) → take (8 * (i + 1)) (put_mid (8 * i) k bytes cell) ≡ flat_map offer_text (take (i + 1) offers)
 offer_put bytes cell offers i k d room more is so_far =

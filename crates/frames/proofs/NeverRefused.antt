@@ -1,4 +1,4 @@
--- What begins with a lawful frame's text is not refused.
+-- Bytes that begin with a lawful frame's text aren't rejected.
 use Rattle.std.proofs.Common.{◌≡◌, ℕ, ◌+◌, ◌*◌, List, [], ◌∷◌, ◌++◌, length, refl, sym, ap, subst, ◌∙◌, append_assoc, arith, inl, inr}
 use Rattle.std.specs.Int.{w16, from_be_bytes}
 use Rattle.std.specs.List.{flat_map}
@@ -45,7 +45,6 @@ possible_of (FaultFrame r s c) lawful =
     let long : length (body_of (FaultFrame r s c)) ≡ 9 = omega (arith, length-append (u32_text r) (u32_text s ++ c ∷ []), length-append (u32_text s) (c ∷ []), u32_length r, u32_length s) in
     grind (arith, long)
 
--- a lawful hello is of one of the versions
 lawful_version : (v : FrameValue) → IsLawful v → IsOtherVersion (kind_of v) (body_of v) → ⊥
 lawful_version (HelloFrame v w) lawful other =
     other.1 (subst IsVersion (sym (ap (from_be_bytes w16) (take_at (u16_text v) (u32_text w) 2 (u16_length v)) ∙ u16_again v (omega (arith, lawful.version.to_this)))) lawful.version)

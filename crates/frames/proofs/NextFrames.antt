@@ -1,4 +1,4 @@
--- A frame behind an ask, from its head and its body.
+-- A frame after an ask, from its head and its body.
 use Rattle.std.proofs.Common.{◌≡◌, ℕ, ◌+◌, ◌*◌, ◌<◌, ◌≤◌, ◌^◌, List, ◌∷◌, ◌++◌, length, take, drop, get_or, All, refl, sym, ap, subst, ◌∙◌, inl, inr, arith}
 use Rattle.std.specs.Prelude.{◌≢◌, Result, Ok, Err, OnOk, is_ok, if◌then◌else◌}
 use Rattle.std.specs.List.{flat_map}
@@ -25,7 +25,7 @@ use Rattle.frames.proofs.Texts.{u32_length, items_length}
 use Rattle.frames.proofs.Pieces.{list_came, list_refused, list_cut, list_stopped, list_late}
 use Rattle.frames.proofs.Decoded.{ask_refused, ask_begun, ask_found, ask_unlabelled}
 
--- ---- a head and what came behind it
+-- ---- a head and the body after it
 
 pub frame_behind : (v : FrameValue) (kind len : ℕ) (s t u : SourceState) → Gave 0 0 (kind ∷ u32_text len) s t → BodyCame v kind len t u
     → IsLawful v × Gave 0 0 (text_of v) s u
@@ -35,13 +35,13 @@ pub refused_behind : (fault : FrameFault) (kind len : ℕ) (s t u : SourceState)
     → IsBodyRefused fault kind len t u → IsReadRefused fault s u
 refused_behind a1 a2 a3 a4 a5 a6 a7 a8 a9 a10 = search (arith, cut_refused, body_refused)
 
--- ---- the numbers of an ask, a piece at a time
+-- ---- the numbers of an ask, one piece at a time
 
--- numbers and the next ones, the same that stand there
+-- numbers, and the same next ones as in the last ask
 pub same_more : (last : List ℕ) (came k : ℕ) → take (came + k) last ≡ take came last ++ take k (drop came last)
 same_more last came k = take-add came k last
 
--- where the next ones have other bytes than those of the last ask, they aren't either
+-- if the next numbers have other bytes than those of the last ask, all of them differ
 pub others_here : (last more new piece : List ℕ) (came k : ℕ) → flat_map u32_text more ≡ piece → flat_map u32_text (take k (drop came last)) ≢ piece
     → new ≡ take came last ++ more → new ≢ take (came + k) last
 others_here last more new piece came k spelled other is same = search (arith, append_cancel_left, same_more)
@@ -50,7 +50,6 @@ others_here last more new piece came k spelled other is same = search (arith, ap
 pub more_text : (before more after piece : List ℕ) → after ≡ before ++ more → flat_map u32_text more ≡ piece → flat_map u32_text after ≡ flat_map u32_text before ++ piece
 more_text before more after piece is spelled = search (arith, flat_map-append)
 
--- numbers of four bytes
 pub all_fit : (numbers : List ℕ) → ((i : ℕ) → get_or numbers i 0 < 2 ^ 32) → All IsU32 numbers
 all_fit numbers fit = λ k d within. subst IsU32 (get_or_default numbers k 0 d within) (fit k)
 
@@ -69,17 +68,16 @@ pub pushed : {T E : Type 0} (result : Result T E) (new old read numbers piece : 
     → (flat_map u32_text numbers ≡ piece) × All IsU32 numbers → OnOk result ((more : List ℕ) × (new ≡ old ++ more) × (flat_map u32_text more ≡ piece) × All IsU32 more)
 pushed a1 a2 a3 a4 a5 a6 a7 a8 a9 = search arith
 
--- how many bytes numbers have
 pub bytes_of : (numbers : List ℕ) → length (flat_map u32_text numbers) ≡ 4 * length numbers
 bytes_of numbers = omega (arith, items_length u32_text 4 u32_length numbers)
 
--- so many bytes, and then some of the next
+-- bytes of a body, and then less than the rest
 pub stopped_in : (fault : FrameFault) (count len : ℕ) (body : List ℕ) (x y z : SourceState) → length body + count ≤ len → Gave 0 0 body x y → IsCutShort fault count y z → IsStopped fault len x z
 stopped_in fault count len body x y z within first cut =
     let all = cut_more fault count len body x y z within first cut in
     record { bytes = all.bytes; gave = all.gave; within = omega (arith, all.short); short = inr all.short; cause = all.cause }
 
--- so many bytes, and no memory
+-- bytes of a body, and no memory for more
 pub stopped_at : (len : ℕ) (body piece : List ℕ) (x y z : SourceState) → length body + length piece ≤ len → Gave 0 0 body x y → Gave 0 0 piece y z → IsStopped Memory len x z
 stopped_at len body piece x y z within first second = record {
   bytes = body ++ piece;
@@ -107,7 +105,7 @@ module _ (r s c n : ℕ) (x y z : SourceState) (came : Gave 0 0 (u32_text r ++ (
       (ask_refused r s c behind.bytes wide_r wide_s wide_c (λ low count. never low (omega (arith, count, behind.counted))))
 
   module _ (low : s < MAX_SHARDS) (counted : c ≡ n) where
-    -- less than all labels came, or memory was wanting
+    -- less than all labels came, or memory ran out
     pub ask_stopped : (fault : FrameFault) → IsStopped fault (4 * n) y z → IsBodyRefused fault 3 (12 + 4 * n) x z
     unfolding u32_text
     ask_stopped fault stopped =

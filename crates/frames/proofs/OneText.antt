@@ -1,5 +1,5 @@
--- Each lawful frame has one text: the kind and the length come first, so the bodies part where they end,
--- and each body's fields part one after the other.
+-- Each lawful frame has one text. The kind and the length come first, so two equal streams have bodies of the same
+-- length. The fields of a body are then equal one after the other.
 use Rattle.std.proofs.Common.{◌≡◌, ℕ, suc, ◌+◌, ◌-◌, ◌^◌, ◌<◌, ◌≤◌, ◌≢◌, Bool, true, false, cond, List, [], ◌∷◌, ◌++◌, length, get_or, refl, sym, ap, ◌∙◌, append_assoc, arith, inl, inr}
 use Rattle.std.specs.List.{flat_map, AllByRecursion}
 use Rattle.std.proofs.lemmas.Bool.{cases_Bool, cases_cond}
@@ -79,7 +79,7 @@ fault_same r r' s s' c c' wide wide' wide_s wide_s' same = search (arith, two_pr
 
 -- ---- bodies of one kind
 
--- a shard has no other kind than its two
+-- a shard has no kind other than its two
 pub shard_kind : (kind n : ℕ) (ls : List Link) → kind ≢ 2 → kind ≢ 6 → kind_of (ShardFrame n ls) ≡ kind → ⊥
 shard_kind kind n ls not_two not_six is = elim (cases_cond (are_narrow ls) 2 6 (kind_of (ShardFrame n ls)) refl) [ inl two ↦ not_two (sym is ∙ two) | inr six ↦ not_six (sym is ∙ six) ]
 

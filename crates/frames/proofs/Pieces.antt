@@ -1,4 +1,4 @@
--- Bodies that come by pieces: fields, and behind them a list.
+-- Bodies that arrive in pieces: fields, and a list after them.
 use Rattle.std.proofs.Common.{◌≡◌, ℕ, ◌+◌, List, [], ◌++◌, length, sym, ap, subst, ◌∙◌, append-nil, inl, inr, arith}
 use Rattle.std.proofs.lemmas.Bool.{cases_lt}
 use Rattle.std.proofs.lemmas.List.{length-append, nil_from_length}
@@ -34,9 +34,9 @@ unpassed_so_many fault m n x y is cut = subst (λ (k : ℕ). IsCutShort fault k 
 pub stopped_so_many : (fault : FrameFault) (m n : ℕ) (x y : SourceState) → m ≡ n → IsStopped fault m x y → IsStopped fault n x y
 stopped_so_many fault m n x y is stopped = subst (λ (k : ℕ). IsStopped fault k x y) is stopped
 
--- ---- fields, and the bytes of a list behind them
+-- ---- fields, and the bytes of a list after them
 
--- numbers that fill some bytes
+-- two numbers that fill the bytes
 two_filled : (bytes rest none : List ℕ) (a b : ℕ) → length bytes ≡ 8 → bytes ≡ u32_text a ++ rest → rest ≡ u32_text b ++ none → bytes ≡ u32_text a ++ u32_text b
 two_filled bytes rest none a b eight first second = search (arith, nil_from_length, length-append, u32_length, append-nil)
 
@@ -54,7 +54,7 @@ module _ (kind len m : ℕ) (fields : List ℕ) (long : length fields + m ≡ le
   list_came v list count behind is =
       whole_came v kind len (fields ++ list) x z (omega (arith, length-append fields list, count, long)) (gave_more 0 0 fields list x y z came behind) is
 
-  -- the list came, and the body is refused
+  -- the list came, and the body is rejected
   pub list_refused : (fault : FrameFault) (list : List ℕ) → length list ≡ m → Gave 0 0 list y z → BodyRefused fault kind (fields ++ list) → IsBodyRefused fault kind len x z
   list_refused fault list count behind refused =
       whole_refused fault kind len (fields ++ list) x z (omega (arith, length-append fields list, count, long)) (gave_more 0 0 fields list x y z came behind) refused
@@ -63,13 +63,13 @@ module _ (kind len m : ℕ) (fields : List ℕ) (long : length fields + m ≡ le
   pub list_cut : (fault : FrameFault) → IsCutShort fault m y z → IsBodyRefused fault kind len x z
   list_cut fault cut = inl (cut_more fault m len fields x y z (omega (arith, long)) came cut)
 
-  -- memory was asked for behind the fields
+  -- memory was requested after the fields
   pub list_late : (fault : FrameFault) → ((list : List ℕ) → length list ≡ m → IsListBegun kind (fields ++ list)) → WantsLate fault kind len x
   list_late fault begun memory body left count =
       let (list, rest, is) = consumes-known x.left y.left body fields left came.left in
       subst (IsListBegun kind) (sym is) (begun list (omega (arith, ap length is, length-append fields list, count, long)))
 
-  -- less than it came, or memory was wanting
+  -- less than the list came, or memory ran out
   pub list_stopped : (fault : FrameFault) → IsStopped fault m y z → ((list : List ℕ) → length list ≡ m → IsListBegun kind (fields ++ list)) → IsBodyRefused fault kind len x z
   list_stopped fault stopped begun = elim (cases_lt (length stopped.bytes) m) [
     | inl short ↦ list_cut fault (record { bytes = stopped.bytes; gave = stopped.gave; short = short; cause = stopped.cause })

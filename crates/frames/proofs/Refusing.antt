@@ -1,4 +1,4 @@
--- Bytes that are refused, whatever follows them.
+-- Bytes that are rejected, whatever follows them.
 use Rattle.std.proofs.Common.{◌≡◌, ℕ, ◌<◌, ◌≤◌, ◌⊎◌, List, ◌++◌, take, drop, Option, Some, None, IfSome, sym, ap, subst, ◌∙◌, arith, inl, inr}
 use Rattle.std.specs.Int.{w32, from_be_bytes}
 use Rattle.std.specs.Io.KnownBytes.{Consumes}
@@ -35,7 +35,7 @@ module _ (bytes rest : List ℕ) where
   body_more : (fault : FrameFault) → HasBody bytes → BodyRefused fault (kind_at bytes) (body_at bytes) → BodyRefused fault (kind_at (bytes ++ rest)) (body_at (bytes ++ rest))
   body_more fault body refused = search (arith, body_same, kind_same)
 
--- a stream that begins with a refused head or frame is refused
+-- a stream that begins with a rejected head or frame is rejected
 pub refused_more : (fault : FrameFault) (bytes rest : List ℕ) → IsOfStream fault → ends_of fault ≡ 0 → StreamRefused fault bytes → StreamRefused fault (bytes ++ rest)
 refused_more BadKind bytes rest of_stream whole refused = (longer bytes rest refused.0, head_more bytes rest BadKind refused.0 refused.1)
 refused_more BadLength bytes rest of_stream whole refused = (longer bytes rest refused.0, head_more bytes rest BadLength refused.0 refused.1)

@@ -1,4 +1,4 @@
--- A shard whose links come by pieces.
+-- A shard whose links arrive in pieces.
 use Rattle.std.proofs.Common.{◌≡◌, ◌≢◌, ℕ, ◌+◌, ◌-◌, ◌*◌, ◌/◌, ◌%◌, ◌<◌, ◌≤◌, List, ◌++◌, length, Option, Some, None, Vec, sym, ap, subst, ◌∙◌, arith}
 use Rattle.std.proofs.lemmas.List.{length-append}
 use Rattle.byte_streams.specs.Streams.{SourceState, Gave}
@@ -42,7 +42,7 @@ module _ (s : Spelling) (kind len most : ℕ) (kind_is : kind_in s ≡ kind) (sa
   pub late_by_head : (fault : FrameFault) → WantsLate fault (kind_in s) (8 + size_in s * most) x → WantsLate fault kind len x
   late_by_head fault late = subst (λ (k : ℕ). WantsLate fault k len x) kind_is (subst (λ (m : ℕ). WantsLate fault (kind_in s) m x) (sym says.length_is) late)
 
--- ---- links heard
+-- ---- links are taken
 
 mul-add : (s : Spelling) (n k : ℕ) → size_in s * (n + k) ≡ size_in s * n + size_in s * k
 mul-add a1 a2 a3 = search arith
@@ -58,7 +58,7 @@ module _ {A : Type 0} (s : Spelling) (bytes piece : List ℕ) (whole : length pi
     are = are;
   }
 
-  -- nothing more is heard once some link was refused
+  -- no link is taken after bytes that aren't a link's
   pub hears_none : HeardLinks {A = A} s bytes None → HeardLinks {A = A} s (bytes ++ piece) None
   hears_none heard = more None None heard (none_before s bytes piece heard.count heard.counted heard.are)
 
@@ -89,7 +89,7 @@ module _ (s : Spelling) (n c k : ℕ) (x y z : SourceState) (came : Gave 0 0 (u3
     unfolding u32_text
     begun links count = shard_begun s n c links low (count ∙ ap (λ (m : ℕ). size_in s * m) (sym counted))
 
-    -- less than all links came, or memory was wanting
+    -- less than all links came, or memory ran out
     pub shard_stopped : (fault : FrameFault) → IsStopped fault (size_in s * k) y z → IsBodyRefused fault (kind_in s) (8 + size_in s * k) x z
     shard_stopped fault stopped = list_stopped (kind_in s) (8 + size_in s * k) (size_in s * k) (u32_text n ++ u32_text c) long x y z came fault stopped begun
 
@@ -117,7 +117,7 @@ module _ (s : Spelling) (n c k : ℕ) (x y z : SourceState) (came : Gave 0 0 (u3
             (list_refused (kind_in s) (8 + size_in s * k) (size_in s * k) (u32_text n ++ u32_text c) long x y z came BadField bytes long_enough behind
             (shard_of_another_kind s n c bytes list.items wide_n wide_c are other))
 
-        -- no links came
+        -- bytes came that encode no links
         pub no_links_came : links ≡ None → IsBodyRefused BadField (kind_in s) (8 + size_in s * k) x z
         unfolding u32_text
         no_links_came is =

@@ -25,7 +25,7 @@ spelled_length a1 a2 = search (arith, link_length, wide_link_length)
 pub length_in : (s : Spelling) (links : List Link) → length (flat_map (spelled_in s) links) ≡ size_in s * length links
 length_in s links = items_length (spelled_in s) (size_in s) (spelled_length s) links
 
--- so many bytes are of so many links
+-- this many bytes are those of this many links
 pub counted_in : (s : Spelling) (len count : ℕ) → len ≡ size_in s * count → len / size_in s ≡ count
 counted_in a1 a2 a3 a4 = search arith
 
@@ -75,7 +75,7 @@ spelled_same a1 a2 a3 a4 a5 a6 = search (arith, narrow_same, wide_same)
 pub spells_more : (s : Spelling) (a b : List Link) (x y : List ℕ) → Spells s a x → Spells s b y → Spells s (a ++ b) (x ++ y)
 spells_more s a b x y first second = search (arith, fit_append, flat_map-append)
 
--- bytes of so many links, and those behind them, part where the links do
+-- bytes of `k` links, and those after them, are split where the links are
 links_split : (s : Spelling) (links : List Link) (x y : List ℕ) (k : ℕ) → length x ≡ size_in s * k → flat_map (spelled_in s) links ≡ x ++ y
     → (flat_map (spelled_in s) (take k links) ≡ x) × (flat_map (spelled_in s) (drop k links) ≡ y)
 links_split s links x y k count same =
@@ -97,7 +97,7 @@ none_behind_them s x y k count none links same = none (drop k links) (links_spli
 pub whole_behind : (s : Spelling) (m n : ℕ) → n % size_in s ≡ 0 → m + size_in s ≡ n → m % size_in s ≡ 0
 whole_behind a1 a2 a3 a4 a5 = search arith
 
--- a link that was pushed behind those of the bytes before its own
+-- a link that was appended to those of the bytes before its own
 pub pushed_one : (s : Spelling) (new old before more : List Link) (link : Link) (bytes rest first behind : List ℕ)
     → new ≡ old ++ link ∷ [] → old ≡ before ++ more → flat_map (spelled_in s) more ++ rest ≡ bytes → FitIn s more
     → first ≡ take (size_in s) rest → behind ≡ drop (size_in s) rest → spelled_in s link ≡ first → FitIn s (link ∷ [])

@@ -1,4 +1,4 @@
--- What the parts of a stream say of the whole.
+-- What the parts of a stream say about the whole.
 use Rattle.std.proofs.Common.{◌≡◌, ℕ, ◌+◌, ◌<◌, ◌≤◌, List, [], ◌∷◌, ◌++◌, length, take, drop, refl, sym, ap, subst, ◌∙◌, append-nil, arith, inl, inr}
 use Rattle.std.specs.Int.{w32, from_be_bytes}
 use Rattle.std.proofs.lemmas.List.{nil_from_length, length-append, take_at, drop_at, take_all}
@@ -18,7 +18,7 @@ use Rattle.frames.proofs.Texts.{u32_length, u32_again}
 pub head_split : (bytes rest : List ℕ) (n : ℕ) → length bytes ≡ 5 → take 4 (drop 1 bytes) ≡ u32_text n ++ rest → bytes ≡ kind_at bytes ∷ u32_text n
 head_split a1 a2 a3 a4 a5 = search (arith, take_all, nil_from_length, length-append, u32_length, append-nil)
 
--- what a stream says that begins with a head
+-- the length in a stream that begins with a head
 length_is : (kind len : ℕ) (rest : List ℕ) → IsU32 len → length_at ((kind ∷ u32_text len) ++ rest) ≡ len
 length_is kind len rest wide = ap (from_be_bytes w32) (take_at (u32_text len) rest 4 (u32_length len)) ∙ u32_again len wide
 
@@ -42,11 +42,11 @@ pub frame_gave : (v : FrameValue) (kind len : ℕ) (bytes body : List ℕ) (s t 
 frame_gave v kind len bytes body s t u first second head count is =
     subst (λ (bs : List ℕ). Gave 0 0 bs s u) (sym (frame_text v kind len bytes body head count is)) (gave_more 0 0 bytes body s t u first second)
 
--- ---- a head that was refused
+-- ---- a head that was rejected
 
 -- ---- a body that didn't come
 
--- so many bytes of the body, and then some of the next
+-- bytes of the body, and then less than the rest
 pub cut_more : (fault : FrameFault) (count len : ℕ) (body : List ℕ) (s t u : SourceState) → length body + count ≤ len → Gave 0 0 body s t
     → IsCutShort fault count t u → IsCutShort fault len s u
 cut_more fault count len body s t u within first cut = record {
@@ -59,7 +59,7 @@ cut_more fault count len body s t u within first cut = record {
 cut_cause : (fault : FrameFault) (all : List ℕ) → IsInBody all → CutsShort fault → StreamRefused fault all
 cut_cause a1 a2 a3 a4 = search arith
 
--- a head, and some of its body
+-- a head, and less than its body
 pub cut_refused : (fault : FrameFault) (kind len : ℕ) (bytes : List ℕ) (s t u : SourceState) → IsU32 len → IsPossible kind len → bytes ≡ kind ∷ u32_text len
     → Gave 0 0 bytes s t → IsCutShort fault len t u → IsReadRefused fault s u
 cut_refused fault kind len bytes s t u wide possible head first cut =
@@ -75,7 +75,7 @@ cut_refused fault kind len bytes s t u wide possible head first cut =
       refused = cut_cause fault (bytes ++ cut.bytes) (good, inside) cut.cause;
     }
 
--- ---- a body that was refused
+-- ---- a body that was rejected
 
 -- a stream with a head and a body
 pub whole_body : (kind len : ℕ) (stream body rest : List ℕ) → IsU32 len → IsPossible kind len → length body ≡ len → stream ≡ (kind ∷ u32_text len) ++ (body ++ rest)

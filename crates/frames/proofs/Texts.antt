@@ -1,4 +1,4 @@
--- Texts of one length part where they are joined, and a text of a number gives the number.
+-- Joined texts of the same lengths have equal parts, and the text of a number determines the number.
 use Rattle.std.proofs.Common.{◌≡◌, ℕ, ◌+◌, ◌*◌, ◌^◌, ◌<◌, ◌≤◌, ℤ, pos, neg_ℤ, int_le, int_lt, ◌&&◌, true, false, IsTrue, List, [], ◌∷◌, ◌++◌, length, get_or, take, drop, refl, sym, ap, ◌∙◌, append_assoc, arith, FitsSigned}
 use Rattle.std.specs.Int.{w16, w32, w64, to_be_bytes, from_be_bytes, cast_unsigned, cast_signed}
 use Rattle.std.specs.List.{flat_map, AllByRecursion}
@@ -14,7 +14,7 @@ use Rattle.links.proofs.Keys.{link_eq}
 use Rattle.frames.specs.FrameText.{u16_text, u32_text, i32_text, i64_text, is_narrow, are_narrow, link_text, wide_link_text, links_text, offer_text}
 use Rattle.frames.specs.Lawful.{IsU32}
 
--- two parts of one length
+-- two parts of the same length
 pub parts_same : {X : Type 0} (a b x y : List X) → length a ≡ length b → a ++ x ≡ b ++ y → (a ≡ b) × (x ≡ y)
 parts_same a b x y len same = (
   sym (take_at a x (length b) len) ∙ ap (take (length b)) same ∙ take_at b y (length b) refl,
@@ -34,7 +34,7 @@ pub u32_length : (n : ℕ) → length (u32_text n) ≡ 4
 unfolding u32_text
 u32_length n = refl
 
--- three numbers, and what stands behind them
+-- three numbers, and what follows them
 pub three_length : (a b c : ℕ) (list : List ℕ) → length (u32_text a ++ (u32_text b ++ (u32_text c ++ list))) ≡ 12 + length list
 three_length a b c list = omega (arith, length-append (u32_text a) (u32_text b ++ (u32_text c ++ list)), length-append (u32_text b) (u32_text c ++ list), length-append (u32_text c) list, u32_length a, u32_length b, u32_length c)
 
@@ -64,7 +64,6 @@ u16_prefix m n x y first second same =
     let parts = parts_same (u16_text m) (u16_text n) x y (u16_length m ∙ sym (u16_length n)) same in
     (sym (u16_again m first) ∙ ap (from_be_bytes w16) parts.0 ∙ u16_again n second, parts.1)
 
--- the bits of a signed number
 pub bits_below : (z : ℤ) → FitsSigned w32 z → IsU32 (cast_unsigned w32 z)
 bits_below z fits = omega (arith, Fits-of_z {w = w32} {z = z} fits)
 
@@ -129,7 +128,7 @@ wide_link_length l = omega (arith, length-append (u32_text l.low) (u32_text l.hi
 pub offer_length : (o : Offer) → length (offer_text o) ≡ 8
 offer_length o = omega (arith, length-append (u32_text o.0) (u32_text o.1), u32_length o.0, u32_length o.1)
 
--- a list of texts of one length
+-- a list of texts of the same length
 pub items_length : {X : Type 0} (text : X → List ℕ) (n : ℕ) → ((x : X) → length (text x) ≡ n) → (xs : List X) → length (flat_map text xs) ≡ n * length xs
 items_length text n each [] = omega arith
 items_length text n each (x ∷ xs) = omega (arith, length-append (text x) (flat_map text xs), each x, items_length text n each xs)
@@ -150,7 +149,7 @@ wide_length links wide = ap length (wide_text links wide) ∙ items_length wide_
 pub links_length : (links : List Link) → length (links_text links) ≤ 16 * length links
 links_length links = elim (cases_Bool (are_narrow links)) [ inl narrow ↦ omega (arith, narrow_length links narrow) | inr wide ↦ omega (arith, wide_length links wide) ]
 
--- what a text gives back, a list of such texts gives back
+-- if each text determines its value, a list of such texts determines their list
 pub items_same : {X : Type 0} (text : X → List ℕ) (n : ℕ) (Fits : X → Type 0) → 0 < n → ((x : X) → length (text x) ≡ n)
     → ((a b : X) (x y : List ℕ) → Fits a → Fits b → text a ++ x ≡ text b ++ y → (a ≡ b) × (x ≡ y))
     → (xs ys : List X) → AllByRecursion Fits xs → AllByRecursion Fits ys → flat_map text xs ≡ flat_map text ys → xs ≡ ys

@@ -1,4 +1,4 @@
--- A text is what was written: the head, and the fields one behind the other.
+-- A text is what was written: the head, and then the fields one after the other.
 use Rattle.std.proofs.Common.{◌≡◌, ℕ, ◌+◌, ◌*◌, ◌≤◌, List, ◌∷◌, ◌++◌, length, take, append_assoc, sym, ap, ◌∙◌, arith}
 use Rattle.std.specs.List.{flat_map}
 use Rattle.std.proofs.lemmas.List.{length-append, take_all, take_at}
@@ -11,13 +11,13 @@ use Rattle.frames.specs.declared.spelling.Spelling.{Spelling}
 use Rattle.frames.proofs.Texts.{u32_length, offer_length, items_length}
 use Rattle.frames.proofs.Spelled.{length_in, text_in, kind_by_spelling}
 
--- a head, two fields, and what stands behind them
+-- a head, two fields, and what follows them
 two_fields : (kind len a b : ℕ) (list : List ℕ) → len ≡ 8 + length list
     → (((kind ∷ u32_text len) ++ u32_text a) ++ u32_text b) ++ list ≡ kind ∷ (u32_text (length (u32_text a ++ (u32_text b ++ list))) ++ (u32_text a ++ (u32_text b ++ list)))
 unfolding u32_text
 two_fields kind len a b list long = ap (λ (n : ℕ). kind ∷ (u32_text n ++ (u32_text a ++ (u32_text b ++ list)))) (omega (arith, long))
 
--- a head, three fields, and what stands behind them
+-- a head, three fields, and what follows them
 three_fields : (kind len a b c : ℕ) (list : List ℕ) → len ≡ 12 + length list
     → ((((kind ∷ u32_text len) ++ u32_text a) ++ u32_text b) ++ u32_text c) ++ list
     ≡ kind ∷ (u32_text (length (u32_text a ++ (u32_text b ++ (u32_text c ++ list)))) ++ (u32_text a ++ (u32_text b ++ (u32_text c ++ list))))
@@ -43,7 +43,7 @@ pub answer_written : (a : AnswerValue) (count : ℕ) → count ≡ length a.offe
 answer_written a count counted =
     rw counted (three_fields 4 (12 + 8 * length a.offers) a.round a.shard (length a.offers) (flat_map offer_text a.offers) (omega (arith, items_length offer_text 8 offer_length a.offers)))
 
--- a list put in place of the cells behind a head
+-- a list that is written over the bytes after a head
 pub put_behind : (m : ℕ) (head text fill now put post rest : List ℕ) (room len : ℕ) → length head ≡ m → text ≡ head → now ≡ take room text ++ fill → m ≤ room → len ≡ m + length put
     → take len ((take m now ++ (put ++ post)) ++ rest) ≡ head ++ put
 put_behind m head text fill now put post rest room len long same is wide counted =

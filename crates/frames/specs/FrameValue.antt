@@ -1,11 +1,11 @@
--- Frames as values, without where their lists lie in memory.
+-- Frames as values, whatever memory their lists are in.
 use Rattle.std.specs.Prelude.{ℕ, List}
 use Rattle.links.specs.declared.links.Link.{Link}
 use Rattle.links.specs.AnswerValue.{AnswerValue}
 use Rattle.frames.specs.declared.frame.Frame.{Frame}
 use Rattle.frames.specs.declared.frame.Frame.TheVariants.{Hello, Shard, Ask, Answer, Fault}
 
--- what a frame says: one of five messages, of which a shard has two kinds of frame
+-- one of five messages; a shard has two kinds of frame
 pub data FrameValue : Type 0 where
   HelloFrame : (version worker : ℕ) → FrameValue
   ShardFrame : (number : ℕ) (links : List Link) → FrameValue
@@ -13,7 +13,7 @@ pub data FrameValue : Type 0 where
   AnswerFrame : (answer : AnswerValue) → FrameValue
   FaultFrame : (round shard code : ℕ) → FrameValue
 
--- what a frame in memory says
+-- the message that a frame in memory carries
 abbrev pub value_of : {A : Type 0} → Frame A → FrameValue
 value_of (Hello version worker) = HelloFrame version worker
 value_of (Shard number links) = ShardFrame number links

@@ -1,4 +1,4 @@
--- Lawful frames: the fields fit their widths, and say what they may say.
+-- Lawful frames: each field fits its width and obeys the rules of the protocol.
 use Rattle.std.specs.Prelude.{ℕ, ◌<◌, ◌≤◌, ◌^◌, ◌*◌, List, length, All}
 use Rattle.limits.specs.declared.TheConstants.{MAX_SHARDS, MAX_SHARD_LINKS, MAX_WORKERS}
 use Rattle.links.specs.declared.links.Link.{Link}
@@ -8,7 +8,6 @@ use Rattle.frames.specs.declared.frame.TheConstants.{VERSION}
 use Rattle.links.specs.AnswerValue.{AnswerValue}
 use Rattle.frames.specs.FrameValue.{FrameValue, HelloFrame, ShardFrame, AskFrame, AnswerFrame, FaultFrame}
 
--- a number of four bytes
 abbrev pub IsU32 : ℕ → Type 0
 IsU32 n = n < 2 ^ 32
 
@@ -17,23 +16,22 @@ pub record IsVersion (v : ℕ) : Type 0 where
   pub from_first : 1 ≤ v
   pub to_this : v ≤ VERSION
 
--- one of the versions, and one of the workers
 pub record IsHello (v w : ℕ) : Type 0 where
   pub version : IsVersion v
   pub worker : w < MAX_WORKERS
 
--- a shard of a cut; that the ends of its links ascend and are vertices is part of what a link is
+-- a shard's number and links; the type of links ensures that endpoints are vertices and that the lower one comes first
 pub record IsShard (n : ℕ) (ls : List Link) : Type 0 where
   pub number : n < MAX_SHARDS
   pub count : length ls ≤ MAX_SHARD_LINKS
 
--- labels of the vertices 1, 2, .. of a graph, for a shard
+-- an ask for a shard, with labels of the vertices 1, 2, ..
 pub record IsAsk (r s : ℕ) (ls : List ℕ) : Type 0 where
   pub round : IsU32 r
   pub shard : s < MAX_SHARDS
   pub labels : AreLabels ls
 
--- offers of strictly ascending components, at most one for each end of a link, of any shard in any round
+-- offers of strictly ascending components, at most one per endpoint of a link, for any shard in any round
 pub record IsAnswer (a : AnswerValue) : Type 0 where
   pub round : IsU32 a.round
   pub shard : IsU32 a.shard
@@ -41,7 +39,7 @@ pub record IsAnswer (a : AnswerValue) : Type 0 where
   pub fit : All (λ o. IsU32 o.0 × IsU32 o.1) a.offers
   pub ascending : AreOffers a.offers
 
--- one of three codes, of any shard in any round
+-- one of three codes, for any shard in any round
 pub record IsFault (r s c : ℕ) : Type 0 where
   pub round : IsU32 r
   pub shard : IsU32 s

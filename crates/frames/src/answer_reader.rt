@@ -1,5 +1,5 @@
-//! Answers from a stream: the offers come by pieces through one buffer, and are pushed into the list that the answer owns.
-//! So the bytes of an answer are never stored, and those of a piece become offers while the next ones are on their way.
+//! Reads answers from a stream. The offers arrive in pieces through one buffer. Each piece is appended to the answer's
+//! list before the next one is read, so the bytes of an answer are never stored.
 ghost use Rattle.std.specs.Prelude.{◌≡◌, ◌+◌, ◌*◌, ◌%◌, ◌≤◌, IfOk, IfErr};
 ghost use Rattle.frames.specs.FrameValue.{value_of};
 ghost use Rattle.frames.specs.NextFrame.{BodyCame, IsBodyRefused, WantsLate};
@@ -16,8 +16,9 @@ use limits::MAX_SHARD_LINKS;
 use links::{Answer, Offers};
 use std::alloc::{AllocError, Allocator};
 
-// The answer whose head came, with a length for so many offers. Its count is judged first; where it is refused, the rest
-// is taken all the same, and not kept: a stream may end in it. That the components ascend is judged once all came.
+// Reads the body of an answer, whose length is that of `most` offers. If the count is wrong, the rest of the body is
+// read and dropped, since the stream may end within it. Whether the components ascend is checked once all of them have
+// arrived.
 pub(crate) fn read_answer<A: Allocator, S: Source>(
     alloc: A,
     source: &mut S,
@@ -50,7 +51,6 @@ pub(crate) fn read_answer<A: Allocator, S: Source>(
     }
 }
 
-// The pairs hear their bytes, in whatever order.
 impl<A: Allocator> Hears for Vec<(u32, u32), A> {
     ghost heard = { λ _ pairs bytes. SpellOffers pairs.items bytes };
 

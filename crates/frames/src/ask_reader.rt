@@ -1,4 +1,4 @@
-//! Whole asks from a stream: the labels come by pieces, and are pushed into the list that the frame owns.
+//! Reads whole asks from a stream. The labels arrive in pieces and are appended to the list that the frame owns.
 ghost use Rattle.std.specs.Prelude.{◌≡◌, ◌+◌, ◌*◌, ◌%◌, ◌≤◌, All, IfOk, IfErr};
 ghost use Rattle.std.specs.List.{flat_map};
 ghost use Rattle.frames.specs.FrameText.{u32_text};
@@ -17,8 +17,8 @@ use limits::{MAX_SHARDS, MAX_VERTICES};
 use links::Labels;
 use std::alloc::{AllocError, Allocator};
 
-// The ask whose head came, with a length for so many labels. Its fields are judged first; where they are refused, the rest
-// is taken all the same, and not kept: a stream may end in it.
+// Reads the body of an ask, whose length is that of `most` labels. If a field before the labels is unlawful, the rest
+// of the body is read and dropped, since the stream may end within it.
 pub(crate) fn read_whole_ask<A: Allocator, S: Source>(
     alloc: A,
     source: &mut S,
@@ -51,7 +51,6 @@ pub(crate) fn read_whole_ask<A: Allocator, S: Source>(
     }
 }
 
-// The numbers hear their bytes.
 impl<A: Allocator> Hears for Vec<u32, A> {
     ghost heard = { λ _ numbers bytes. (flat_map u32_text numbers.items ≡ bytes) × All IsU32 numbers.items };
 

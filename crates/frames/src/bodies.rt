@@ -1,4 +1,4 @@
-//! Bytes of a body from a stream, and the numbers with which it begins.
+//! Reads bytes of a body from a stream, and the numbers at its beginning.
 ghost use Rattle.std.specs.Prelude.{◌≢◌, ◌++◌, length, IfOk, IfErr, OnOk};
 ghost use Rattle.byte_streams.specs.Streams.{Gave};
 ghost use Rattle.frames.specs.FrameText.{u32_text};
@@ -11,10 +11,11 @@ use crate::fault::FrameFault;
 use crate::fields::split_u32;
 use byte_streams::{FillFault, Source, fill};
 
-// How many bytes of a list come at a time: it is given room for at most so many, once those before them have come.
+// The most bytes of a list that are read at a time. A reader reserves memory for one piece, and only after the pieces
+// before it have arrived.
 pub(crate) const PIECE: usize = 65_536;
 
-// The next bytes of a body, as many as there is room for.
+// Fills `bytes` with the next bytes of a body.
 pub(crate) fn read_bytes<S: Source>(source: &mut S, bytes: &mut [u8]) -> Result<(), FrameFault>
     requires { S.can_read source.old }
     ensures came { OnOk result (Gave 0 0 bytes.new (S.state source.old) (S.state source.new)) }
@@ -30,7 +31,7 @@ pub(crate) fn read_bytes<S: Source>(source: &mut S, bytes: &mut [u8]) -> Result<
     }
 }
 
-// Two numbers of four bytes, with which a body begins.
+// Reads the two four-byte numbers at the beginning of a shard's body.
 #[tactic(auto, using(crate::proofs::Pieces::two_came))]
 pub(crate) fn read_two<S: Source>(source: &mut S) -> Result<(u32, u32), FrameFault>
     requires { S.can_read source.old }
@@ -49,7 +50,7 @@ pub(crate) fn read_two<S: Source>(source: &mut S) -> Result<(u32, u32), FrameFau
     Ok((first, second))
 }
 
-// Three numbers of four bytes, with which a body begins.
+// Reads the three four-byte numbers at the beginning of the body of an ask or an answer.
 #[tactic(auto, using(crate::proofs::Pieces::three_came))]
 pub(crate) fn read_three<S: Source>(source: &mut S) -> Result<(u32, u32, u32), FrameFault>
     requires { S.can_read source.old }

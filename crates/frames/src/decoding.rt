@@ -1,4 +1,4 @@
-//! Frames from bytes.
+//! Decodes frames from bytes.
 ghost use Rattle.std.specs.Prelude.{◌≡◌, length, IfOk, IfErr};
 ghost use Rattle.frames.specs.FrameValue.{value_of};
 ghost use Rattle.frames.specs.Refusals.{IsPossible, IsFrameOf, BodyRefused};
@@ -11,13 +11,15 @@ use crate::head::Head;
 use limits::MAX_WORKERS;
 use std::alloc::Allocator;
 
-/// The frame of a head and its body.
+/// Decodes the body that follows a head.
 ///
-/// `BadVersion` where it is a hello of another version than 1 and 2, else `BadField` where no lawful frame
-/// has this body. So is a shard of kind 6 whose weights all fit 32 bits, since such a shard has kind 2. One list
-/// is made beside the body's bytes, as [`read_frame`](crate::read_frame) makes it, with its room; a hello and a fault take
-/// no memory. `Memory` where that list's growth was refused, which is
-/// asked for only once the fields before the list were found lawful.
+/// It returns `BadVersion` if the body is a hello of a version other than 1 and 2, and otherwise `BadField` if no
+/// lawful frame has this body. A shard of kind 6 whose weights all fit 32 bits is such a `BadField`, since it has kind
+/// 2.
+///
+/// It allocates one list in addition to the body's bytes, as [`read_frame`](crate::read_frame) does; a hello and a
+/// fault need no memory. It returns `Memory` if that list can't grow, and only after the fields before the list were
+/// found lawful.
 pub fn decode_body<A: Allocator>(alloc: A, head: Head, body: &[u8]) -> Result<Frame<A>, FrameFault>
     requires length { length body.now ≡ head.length }
     requires possible { IsPossible head.kind head.length }

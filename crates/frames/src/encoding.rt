@@ -1,4 +1,4 @@
-//! Frames as bytes.
+//! Encodes frames as bytes.
 ghost use Rattle.std.specs.Prelude.{◌≡◌, ◌+◌, ◌*◌, ◌<◌, ◌≤◌, ◌∷◌, ◌++◌, length, IfSome, IfOk};
 ghost use Rattle.std.specs.List.{flat_map};
 ghost use Rattle.frames.specs.FrameValue.{value_of, HelloFrame, ShardFrame, AskFrame, AnswerFrame, FaultFrame};
@@ -13,10 +13,10 @@ use limits::{MAX_SHARD_LINKS, MAX_SHARDS};
 use links::{Answer, Labels, Link, Shard};
 use std::alloc::{AllocError, Allocator};
 
-/// The text of a frame.
+/// Returns the text of a frame.
 ///
-/// Memory for the whole text is taken once, and each byte is written once, but for those of offers,
-/// which are zeros first. The only error is want of memory.
+/// It allocates memory for the whole text once. Each byte is written once, except that the bytes of offers are set to
+/// zero first. It fails only if it is out of memory.
 pub fn encode<A: Allocator, B: Allocator>(
     alloc: A,
     frame: &Frame<B>,
@@ -47,7 +47,6 @@ pub fn encode<A: Allocator, B: Allocator>(
     }
 }
 
-// The text of a hello.
 #[tactic(auto, unfolding(crate::specs::FrameText::u16_text, crate::specs::FrameText::u32_text))]
 fn hello_bytes(version: u16, worker: u32) -> [u8; 11]
     ensures { result ≡ text_of (HelloFrame version worker) }
@@ -57,12 +56,12 @@ fn hello_bytes(version: u16, worker: u32) -> [u8; 11]
     [1, 0, 0, 0, 6, v0, v1, w0, w1, w2, w3]
 }
 
-/// The text of a shard's frame: the same as that of the frame which holds these links, without a
-/// copy of them. The only error is want of memory.
+/// Returns the text of a shard's frame. It is the text that [`encode`] returns for a frame with these links, without a
+/// copy of the links. It fails only if it is out of memory.
 ///
-/// Each link has 12 bytes where all weights fit 32 bits, and 16 where one doesn't. One look at the weights decides
-/// which; then memory for the whole text is taken once. Who sends many links needs no text of all of them: it is the
-/// [`shard_head`] and the links by [`put_links`], as many at a time as there is room for.
+/// A link takes 12 bytes if all weights fit 32 bits; otherwise each link takes 16. One pass over the weights decides
+/// which, and memory for the whole text is allocated once. To send many links without storing their whole text, write
+/// the [`shard_head`] and then append links by [`put_links`], a bufferful at a time.
 pub fn encode_shard<A: Allocator>(alloc: A, shard: &Shard) -> Result<Vec<u8, A>, AllocError>
     requires number { shard.now.number < MAX_SHARDS }
     requires count { length shard.now.links.now ≤ MAX_SHARD_LINKS }
@@ -77,11 +76,11 @@ pub fn encode_shard<A: Allocator>(alloc: A, shard: &Shard) -> Result<Vec<u8, A>,
     Ok(text)
 }
 
-/// How many bytes stand before the links of a shard.
+/// How many bytes precede the links in the text of a shard.
 pub const SHARD_HEAD: usize = 13;
 
-/// What stands before the links in the text of a shard's frame, of which this is the spelling: the kind, the length, the
-/// number and the count. It looks at no link, and takes no memory.
+/// Returns the bytes before the links in the text of a shard's frame: the kind, the length, the number and the count.
+/// It reads no link and allocates nothing.
 pub fn shard_head(shard: &Shard, spelling: Spelling) -> [u8; SHARD_HEAD]
     requires number { shard.now.number < MAX_SHARDS }
     requires count { length shard.now.links.now ≤ MAX_SHARD_LINKS }
@@ -94,7 +93,6 @@ pub fn shard_head(shard: &Shard, spelling: Spelling) -> [u8; SHARD_HEAD]
     head_and_fields(spelling.kind(), length, shard.number, count as u32)
 }
 
-// The bytes of a head and of two fields.
 #[tactic(auto, unfolding(crate::specs::FrameText::u32_text))]
 fn head_and_fields(kind: u8, length: u32, number: u32, count: u32) -> [u8; SHARD_HEAD]
     ensures { result ≡ ((kind ∷ u32_text length) ++ u32_text number) ++ u32_text count }
@@ -105,8 +103,8 @@ fn head_and_fields(kind: u8, length: u32, number: u32, count: u32) -> [u8; SHARD
     [kind, l0, l1, l2, l3, n0, n1, n2, n3, c0, c1, c2, c3]
 }
 
-/// The text of the frame that asks for a shard's offers under these labels, without a copy of the
-/// labels. The only error is want of memory.
+/// Returns the text of the frame that asks for a shard's offers under these labels, without a copy of the labels. It
+/// fails only if it is out of memory.
 pub fn encode_ask<A: Allocator, B: Allocator>(
     alloc: A,
     round: u32,
@@ -122,9 +120,9 @@ pub fn encode_ask<A: Allocator, B: Allocator>(
     Ok(text)
 }
 
-/// The text of the frame that [`encode_ask`] encodes, in two parts, where the labels keep their bytes
-/// ([`Labels::spell`]): what stands before those bytes, and the bytes, which the labels lend. It takes no memory and
-/// looks at no label.
+/// Returns the text that [`encode_ask`] encodes in two parts: the bytes before the labels, and those of the labels,
+/// which are borrowed. It returns `None` if the labels don't store their bytes ([`Labels::spell`]). It allocates
+/// nothing and reads no label.
 pub fn ask_parts<'a, B: Allocator>(
     round: u32,
     shard: u32,
@@ -139,10 +137,9 @@ pub fn ask_parts<'a, B: Allocator>(
     }
 }
 
-// How many bytes stand before the labels of an ask.
+// How many bytes precede the labels in the text of an ask.
 const ASK_HEAD: usize = 17;
 
-// What stands before the labels of an ask.
 fn ask_head<B: Allocator>(round: u32, shard: u32, labels: &Labels<B>) -> [u8; ASK_HEAD]
     ensures { result ++ flat_map u32_text labels.now ≡ text_of (AskFrame round shard labels.now) }
 {
@@ -150,7 +147,6 @@ fn ask_head<B: Allocator>(round: u32, shard: u32, labels: &Labels<B>) -> [u8; AS
     head_and_three_fields(3, 12 + 4 * count, round, shard, count)
 }
 
-// The bytes of a head and of three fields.
 #[tactic(auto, unfolding(crate::specs::FrameText::u32_text))]
 fn head_and_three_fields(kind: u8, length: u32, round: u32, shard: u32, count: u32) -> [u8; 17]
     ensures { result ≡ (((kind ∷ u32_text length) ++ u32_text round) ++ u32_text shard) ++ u32_text count }
@@ -180,12 +176,12 @@ fn encode_answer<A: Allocator, B: Allocator>(
     Ok(text)
 }
 
-/// How many bytes stand before the offers of an answer.
+/// How many bytes precede the offers in the text of an answer.
 pub const ANSWER_HEAD: usize = 17;
 
-/// What stands before the offers in the text of an answer's frame: the kind, the length, the round, the shard and the
-/// count. Who writes many offers needs no text of all of them: it is this and the offers by
-/// [`put_offers`](crate::put_offers). It looks at no offer, and takes no memory.
+/// Returns the bytes before the offers in the text of an answer's frame: the kind, the length, the round, the shard and
+/// the count. To send many offers without storing their whole text, write this and then the offers by
+/// [`put_offers`](crate::put_offers). It reads no offer and allocates nothing.
 pub fn answer_head<A: Allocator>(answer: &Answer<A>) -> [u8; ANSWER_HEAD]
     requires { length answer.now.offers ≤ 2 * MAX_SHARD_LINKS }
     ensures { result ++ flat_map offer_text answer.now.offers ≡ text_of (AnswerFrame answer.now) }
@@ -194,8 +190,8 @@ pub fn answer_head<A: Allocator>(answer: &Answer<A>) -> [u8; ANSWER_HEAD]
     head_and_three_fields(4, 12 + 8 * count, answer.round, answer.shard, count)
 }
 
-/// The text of a fault: the answer to an ask of this round and shard that can't be met. It takes
-/// no memory.
+/// Returns the text of a fault, which is the reply to an ask for this round and shard that can't be met. The codes are
+/// those of [`Frame::Fault`]. It allocates nothing.
 #[tactic(auto, unfolding(crate::specs::FrameText::u32_text))]
 pub fn fault_bytes(round: u32, shard: u32, code: u8) -> [u8; 14]
     ensures { result ≡ text_of (FaultFrame round shard code) }

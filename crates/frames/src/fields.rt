@@ -1,10 +1,9 @@
-//! The numbers that fields are, read from the beginning of a slice.
+//! Reads a number at the beginning of a slice, and returns it with the bytes after it.
 ghost use Rattle.std.specs.Prelude.{◌≡◌, ◌++◌, ◌≤◌, ◌+◌, length, take};
 ghost use Rattle.std.specs.Int.{w16, w32, from_be_bytes};
 ghost use Rattle.frames.specs.FrameText.{u16_text, u32_text, i64_text};
 ghost use Rattle.frames.specs.Lawful.{IsU32};
 
-// The two-byte number at the beginning, and what follows it.
 pub(crate) fn split_u16(bytes: &[u8]) -> (u16, &[u8])
     requires { 2 ≤ length bytes.now }
     ensures parts { bytes.now ≡ u16_text result.0 ++ result.1.now }
@@ -15,7 +14,6 @@ pub(crate) fn split_u16(bytes: &[u8]) -> (u16, &[u8])
     (u16::from_be_bytes([prefix[0], prefix[1]]), rest)
 }
 
-// The four-byte number at the beginning, and what follows it.
 pub(crate) fn split_u32(bytes: &[u8]) -> (u32, &[u8])
     requires { 4 ≤ length bytes.now }
     ensures parts { bytes.now ≡ u32_text result.0 ++ result.1.now }
@@ -28,7 +26,6 @@ pub(crate) fn split_u32(bytes: &[u8]) -> (u32, &[u8])
     (number, rest)
 }
 
-// The signed eight-byte number at the beginning, and what follows it.
 pub(crate) fn split_i64(bytes: &[u8]) -> (i64, &[u8])
     requires { 8 ≤ length bytes.now }
     ensures parts { bytes.now ≡ i64_text result.0 ++ result.1.now }

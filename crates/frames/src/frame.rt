@@ -5,10 +5,12 @@ use links::{Answer, Labels, Link};
 use std::alloc::{Allocator, Global};
 use std::marker::Model;
 
-/// The version that stands in the hello of this product's workers. Version 1, whose weights all fit 32 bits, is lawful too.
+/// The version of the protocol that this project's workers send in their hello. Version 1 is lawful too; in it, all
+/// weights fit 32 bits.
 pub const VERSION: u16 = 2;
 
-/// The links of a shard's frame, which contracts see as a list: 16 bytes each in memory, in any order, with repeats.
+/// The links of a shard's frame, in any order and with repeats, which contracts see as a list. Each takes 16 bytes of
+/// memory.
 #[derive(Drop)]
 pub struct Links<A: Allocator = Global> {
     links: Vec<Link, A>,
@@ -24,21 +26,20 @@ impl<A: Allocator> Model for Links<A> {
 }
 
 impl<A: Allocator> Links<A> {
-    /// The links of a list, in its order. It keeps the list's memory and takes none.
+    /// Wraps a list of links, in its order and without a copy.
     pub fn of_list(links: Vec<Link, A>) -> Self
         ensures { result ≡ links.items }
     {
         Links { links }
     }
 
-    /// The links, in order.
     pub fn as_slice(&self) -> &[Link]
         ensures { result.now ≡ self.now }
     {
         self.links.as_slice()
     }
 
-    /// The list itself, without a copy.
+    /// Returns the list, without a copy.
     pub fn into_list(self) -> Vec<Link, A>
         ensures { result.items ≡ self }
     {
@@ -47,8 +48,8 @@ impl<A: Allocator> Links<A> {
     }
 }
 
-/// A message between the coordinator and a worker. The fields may say anything that fits them;
-/// [`Frame::is_lawful`] says which frames have a text.
+/// A message between the coordinator and a worker. The fields may have any values of their types; [`Frame::is_lawful`]
+/// says which frames have a text.
 #[derive(Drop)]
 pub enum Frame<A: Allocator = Global> {
     /// The first message of a worker, with its version and its number.
@@ -57,7 +58,7 @@ pub enum Frame<A: Allocator = Global> {
         worker: u32,
     },
 
-    /// The links of a shard, for a worker to keep under its number.
+    /// The links of a shard, which the worker stores under the shard's number.
     Shard {
         number: u32,
         links: Links<A>,
@@ -73,7 +74,8 @@ pub enum Frame<A: Allocator = Global> {
     /// The offers of a shard.
     Answer(Answer<A>),
 
-    /// An ask that can't be met: 1 for want of memory, 2 for a shard that isn't held, 3 for a link whose end has no label.
+    /// Says that an ask can't be met. The code is 1 if the worker is out of memory, 2 if the shard never came, and 3 if
+    /// an endpoint of a link has no label.
     Fault {
         round: u32,
         shard: u32,

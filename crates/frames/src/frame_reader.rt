@@ -1,4 +1,4 @@
-//! Frames from a stream of bytes.
+//! Reads frames from a stream of bytes.
 ghost use Rattle.std.specs.Prelude.{◌≢◌, ◌∷◌, IfOk, IfErr};
 ghost use Rattle.byte_streams.specs.Streams.{Gave};
 ghost use Rattle.frames.specs.FrameValue.{value_of};
@@ -21,34 +21,40 @@ use crate::spelling::Spelling;
 use byte_streams::{FillFault, Source, fill};
 use std::alloc::Allocator;
 
-/// The next frame of a stream.
+/// Reads the next frame of a stream.
 ///
-/// `Ended` where the stream ended before the frame's first byte, `Torn` where it ended inside the
-/// frame, `Device` where a read failed; else the fault of the head or of the body. After a fault no
-/// more of the stream was taken than the frame.
+/// It returns these errors:
+/// - `Ended` if the stream ended before the frame's first byte, and `Torn` if it ended within the frame.
+/// - `Device` if a read failed.
+/// - `Memory` if an allocation failed.
+/// - Otherwise the error of the head ([`decode_head`](crate::decode_head)) or of the body
+///   ([`decode_body`](crate::decode_body)).
 ///
-/// Of a shard the list of its links alone is kept, of an ask that of its labels, and of an answer that of its offers. They
-/// are made of the bytes as these come, at most 65,536 at a time through one buffer on the stack, and no body is stored.
-/// Room for the items of a piece is taken before it comes: a head that announces more than the stream has costs at most
-/// 87,376 bytes at first for a shard, and 65,536 for an ask or an answer, however little comes; once a whole piece came, at
-/// most three times what came, and four times that while the list moves to a larger block, for an ask or an answer twice and
-/// three times. Where the fields before the list are refused, or a link, the rest of the frame is taken all the same,
-/// without memory; that numbers are labels, or that the components of an answer ascend, is judged in one look once all of
-/// them came. A hello and a fault take no memory.
+/// In no case does it read beyond the frame.
 ///
-/// `Memory` where a growth was refused.
+/// It stores the list of a shard's links, of an ask's labels, or of an answer's offers, and no other part of a body. It
+/// reads at most 65,536 bytes at a time into one buffer on the stack, and appends their items to the list. A hello and
+/// a fault need no memory.
+///
+/// Memory for a piece is reserved before the piece arrives, so a head that announces more than the stream has costs
+/// little. At first the list takes at most 87,376 bytes for a shard, and 65,536 for an ask or an answer. After a whole
+/// piece has arrived, it takes at most three times the bytes that came, or four times while it moves to a larger block.
+/// For an ask or an answer it takes at most twice, or three times.
+///
+/// If a field before the list or a link is unlawful, the rest of the frame is still read, without memory. Whether
+/// numbers are labels, or the components of an answer ascend, is checked in one pass after all of them have arrived.
 pub fn read_frame<A: Allocator + Copy, S: Source>(
     alloc: A,
     source: &mut S,
 ) -> Result<Frame<A>, FrameFault>
     requires { S.can_read source.old }
 
-    // The text of the frame was taken, and nothing else.
+    // On success, exactly the text of the frame was read.
     ensures lawful { IfOk result (λ f. IsLawful (value_of f)) }
     ensures text { IfOk result
         (λ f. Gave 0 0 (text_of (value_of f)) (S.state source.old) (S.state source.new)) }
 
-    // What came was refused; a failure and an end are told apart, and each is counted once.
+    // On an error, what was read is rejected for it. A failure and an end are distinguished, and each is counted once.
     ensures refused { IfErr result
         (λ fault. IsReadRefused fault (S.state source.old) (S.state source.new)) }
 
@@ -58,7 +64,7 @@ pub fn read_frame<A: Allocator + Copy, S: Source>(
     read_rest(alloc, source, head)
 }
 
-// The frame whose head came.
+// Reads the body that follows a head.
 pub(crate) fn read_rest<A: Allocator + Copy, S: Source>(
     alloc: A,
     source: &mut S,
@@ -81,7 +87,7 @@ pub(crate) fn read_rest<A: Allocator + Copy, S: Source>(
     decode_body(alloc, head, body)
 }
 
-// The shard, the ask or the answer whose head came.
+// Reads the body of a shard, an ask or an answer.
 pub(crate) fn read_listed<A: Allocator, S: Source>(
     alloc: A,
     source: &mut S,
@@ -112,7 +118,7 @@ pub(crate) fn read_listed<A: Allocator, S: Source>(
     }
 }
 
-// The next head.
+// Reads the next head.
 pub(crate) fn read_head<S: Source>(source: &mut S) -> Result<Head, FrameFault>
     requires { S.can_read source.old }
     ensures possible { IfOk result (λ head. IsPossible head.kind head.length) }

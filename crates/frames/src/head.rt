@@ -7,15 +7,15 @@ use crate::fault::FrameFault;
 use crate::fields::split_u32;
 use limits::{MAX_SHARD_LINKS, MAX_VERTICES};
 
-/// The first five bytes of a frame: its kind, and how many bytes its body has.
+/// The first five bytes of a frame: its kind, and the length of its body in bytes.
 #[derive(Clone, Copy, Debug, PartialEq, Eq)]
 pub struct Head {
     pub kind: u8,
     pub length: u32,
 }
 
-/// The head that the first five bytes of a frame say. `BadKind` where the kind isn't 1 to 6, else
-/// `BadLength` where no body of that kind has that length. It takes no memory.
+/// Decodes the first five bytes of a frame. It returns `BadKind` if the kind isn't 1 to 6, and otherwise `BadLength` if
+/// no body of that kind has that length. It allocates nothing.
 #[tactic(auto, using(crate::proofs::Streams::head_split))]
 pub fn decode_head(bytes: &[u8; 5]) -> Result<Head, FrameFault>
     ensures kind { IfOk result (λ head. head.kind ≡ kind_at bytes.now) }
@@ -36,7 +36,6 @@ pub fn decode_head(bytes: &[u8; 5]) -> Result<Head, FrameFault>
     Ok(Head { kind, length })
 }
 
-// Whether a body of this kind may have this length.
 fn is_possible(kind: u8, length: u32) -> bool
     requires { IsKind kind }
     ensures { IsTrue result ↔ IsPossible kind length }
@@ -51,7 +50,7 @@ fn is_possible(kind: u8, length: u32) -> bool
     }
 }
 
-// Whether the length is that of `fixed` bytes and at most `most` items of `item` bytes each.
+// Whether `length` is `fixed` plus the size of at most `most` items of `item` bytes each.
 #[tactic(auto, using(crate::proofs::Lengths::items_iff))]
 fn is_with_items(fixed: u32, item: u32, most: u32, length: u32) -> bool
     requires { 0 < item }

@@ -1,4 +1,4 @@
-//! Lists in bodies: texts of one length, one behind the other.
+//! Reads and writes the lists of bodies. The items of a list have texts of the same length, with nothing between them.
 ghost use Rattle.std.specs.Prelude.{◌≡◌, ◌∷◌, ◌++◌, ◌+◌, ◌*◌, ◌<◌, ◌≤◌, ◌↔◌, ◌%◌, false, [], length, map, All, OnOk, IfOk, IfSome, IfNone, IsTrue, vec_len, vec_capacity};
 ghost use Rattle.std.specs.Int.{w32, from_be_bytes};
 ghost use Rattle.std.specs.List.{flat_map};
@@ -14,7 +14,7 @@ use limits::MAX_VERTICES;
 use links::Link;
 use std::alloc::{AllocError, Allocator};
 
-// Puts numbers behind a text that has room for them.
+// Appends the bytes of numbers to a text that has the capacity for them.
 #[tactic(auto, unfolding(crate::specs::FrameText::u32_text))]
 pub(crate) fn put_numbers<A: Allocator>(text: &mut Vec<u8, A>, numbers: &[u32])
     requires { vec_len text.old + 4 * length numbers.now ≤ vec_capacity text.old }
@@ -25,8 +25,8 @@ pub(crate) fn put_numbers<A: Allocator>(text: &mut Vec<u8, A>, numbers: &[u32])
     }
 }
 
-/// Whether each weight fits 32 bits, so that a shard of these links has a frame in version 1. It looks at all of them, so
-/// that no look waits for the answer to the one before, and takes no memory.
+/// Whether each weight fits 32 bits, so that a shard of these links has a frame in version 1. It allocates nothing. It
+/// reads all weights, even after one doesn't fit, so that no comparison waits for the one before it.
 pub fn fit_32_bits(links: &[Link]) -> bool
     ensures { result ≡ are_narrow links.now }
 {
@@ -43,8 +43,8 @@ fn fits_32_bits(link: &Link) -> bool
     (-0x8000_0000 <= link.weight) & (link.weight < 0x8000_0000)
 }
 
-/// Puts links behind a text that has room for them, in a spelling that they fit. It takes no memory, and writes each byte
-/// once.
+/// Appends links to a text that has the capacity for them, in a spelling that fits their weights. It allocates nothing,
+/// and writes each byte once.
 pub fn put_links<A: Allocator>(text: &mut Vec<u8, A>, spelling: Spelling, links: &[Link])
     requires fit { FitIn spelling links.now }
     requires room { vec_len text.old + size_in spelling * length links.now ≤ vec_capacity text.old }
@@ -57,7 +57,6 @@ pub fn put_links<A: Allocator>(text: &mut Vec<u8, A>, spelling: Spelling, links:
     }
 }
 
-// Puts links with weights of 32 bits.
 fn put_narrow_links<A: Allocator>(text: &mut Vec<u8, A>, links: &[Link])
     requires fit { IsTrue (are_narrow links.now) }
     requires room { vec_len text.old + 12 * length links.now ≤ vec_capacity text.old }
@@ -69,7 +68,7 @@ fn put_narrow_links<A: Allocator>(text: &mut Vec<u8, A>, links: &[Link])
     }
 }
 
-// The fields are put all at once, so that room is asked for once a link.
+// Puts all fields at once, so that the capacity is checked once per link.
 fn put_narrow_link<A: Allocator>(text: &mut Vec<u8, A>, link: &Link)
     requires fit { IsTrue (is_narrow link.now) }
     requires room { vec_len text.old + 12 ≤ vec_capacity text.old }
@@ -86,7 +85,6 @@ fn put_narrow_link<A: Allocator>(text: &mut Vec<u8, A>, link: &Link)
     put_bytes(text, fields.as_flattened());
 }
 
-// Puts links with weights of 64 bits.
 fn put_wide_links<A: Allocator>(text: &mut Vec<u8, A>, links: &[Link])
     requires room { vec_len text.old + 16 * length links.now ≤ vec_capacity text.old }
     ensures put { text.new.items ≡ text.old.items ++ flat_map wide_link_text links.now }
@@ -109,7 +107,7 @@ fn put_wide_link<A: Allocator>(text: &mut Vec<u8, A>, link: &Link)
     put_bytes(text, &link.weight.cast_unsigned().to_be_bytes());
 }
 
-// Puts bytes behind a text that has room for them.
+// Appends bytes to a text that has the capacity for them.
 fn put_bytes<A: Allocator>(text: &mut Vec<u8, A>, bytes: &[u8])
     requires room { vec_len text.old + length bytes.now ≤ vec_capacity text.old }
     ensures put { text.new.items ≡ text.old.items ++ bytes.now }
@@ -122,9 +120,9 @@ fn put_bytes<A: Allocator>(text: &mut Vec<u8, A>, bytes: &[u8])
     }
 }
 
-/// Puts the bytes of offers in place of as many others: 8 for each, those of its component and of its place. So an
-/// answer goes out behind its [`answer_head`](crate::answer_head), as many offers at a time as there is room for. It takes
-/// no memory, and writes each byte once.
+/// Overwrites `bytes` with offers, 8 bytes each: the component and the link's index. After an
+/// [`answer_head`](crate::answer_head), an answer can be sent in as many such pieces as a buffer needs. It allocates
+/// nothing, and writes each byte once.
 pub fn put_offers(bytes: &mut [u8], offers: &[(u32, u32)])
     requires room { length bytes.old ≡ 8 * length offers.now }
     ensures put { bytes.new ≡ flat_map offer_text offers.now }
@@ -135,7 +133,6 @@ pub fn put_offers(bytes: &mut [u8], offers: &[(u32, u32)])
     }
 }
 
-// The bytes of an offer.
 #[tactic(auto, unfolding(crate::specs::FrameText::u32_text))]
 fn offer_bytes(offer: (u32, u32)) -> [u8; 8]
     ensures { result ≡ offer_text offer }
@@ -145,7 +142,8 @@ fn offer_bytes(offer: (u32, u32)) -> [u8; 8]
     [c0, c1, c2, c3, p0, p1, p2, p3]
 }
 
-// Whether these are the bytes of the numbers. It looks at all of them, so that they are compared many at a time.
+// Whether these are the bytes of the numbers. It reads all of them, even after a difference, so that many are compared
+// at a time.
 pub(crate) fn spells(bytes: &[u8], numbers: &[u32]) -> bool
     ensures { IsTrue result ↔ (flat_map u32_text numbers.now ≡ bytes.now) }
 {
@@ -167,7 +165,7 @@ fn are_cells_of(cells: &[[u8; 4]], numbers: &[u32]) -> bool
     same
 }
 
-// Pushes the offers whose bytes these are, behind those that came before.
+// Appends the offers that these bytes encode.
 pub(crate) fn push_offers<A: Allocator>(
     offers: &mut Vec<(u32, u32), A>,
     bytes: &[u8],
@@ -185,8 +183,8 @@ pub(crate) fn push_offers<A: Allocator>(
     Ok(())
 }
 
-// Pushes the links whose bytes these are, behind those that came before. It answers whether they are links: where one is
-// none, those before it were pushed.
+// Appends the links that these bytes encode, and returns whether all are links. It stops at the first that isn't a
+// link; the links before it stay appended.
 pub(crate) fn push_links<A: Allocator>(
     links: &mut Vec<Link, A>,
     spelling: Spelling,
@@ -209,7 +207,6 @@ pub(crate) fn push_links<A: Allocator>(
     Ok(true)
 }
 
-// The link whose bytes these are.
 fn link_of(spelling: Spelling, bytes: &[u8]) -> Option<Link>
     requires { length bytes.now ≡ size_in spelling }
     ensures found { IfSome result (λ link. spelled_in spelling link ≡ bytes.now) }
@@ -222,14 +219,14 @@ fn link_of(spelling: Spelling, bytes: &[u8]) -> Option<Link>
     }
 }
 
-// Whether these are a link's ends, the lower one first.
+// Whether these are a link's endpoints, the lower one first.
 fn are_ends(low: u32, high: u32) -> bool
     ensures { IsTrue result ↔ (1 ≤ low) × (low < high) × (high ≤ MAX_VERTICES) }
 {
     1 <= low && low < high && high <= MAX_VERTICES
 }
 
-// The link whose bytes these are, with a weight of 32 bits.
+// Decodes a link with a weight of 32 bits.
 fn narrow_link_of(bytes: &[u8]) -> Option<Link>
     requires { length bytes.now ≡ 12 }
     ensures found { IfSome result (λ link. link_text link ≡ bytes.now) }
@@ -246,7 +243,7 @@ fn narrow_link_of(bytes: &[u8]) -> Option<Link>
     Some(Link { weight, low, high })
 }
 
-// The link whose bytes these are, with a weight of 64 bits.
+// Decodes a link with a weight of 64 bits.
 fn wide_link_of(bytes: &[u8]) -> Option<Link>
     requires { length bytes.now ≡ 16 }
     ensures found { IfSome result (λ link. wide_link_text link ≡ bytes.now) }

@@ -1,4 +1,3 @@
-//! Whether a frame is lawful.
 ghost use Rattle.std.specs.Prelude.{◌↔◌, All, IsTrue};
 ghost use Rattle.frames.specs.FrameValue.{value_of};
 ghost use Rattle.frames.specs.Lawful.{IsU32, IsLawful, IsHello, IsShard, IsAsk, IsAnswer, IsFault};
@@ -9,14 +8,16 @@ use links::{Labels, Link, Offers};
 use std::alloc::Allocator;
 
 impl<A: Allocator> Frame<A> {
-    /// Whether the frame says what a frame may say, so that it has a text.
+    /// Whether the frame obeys the rules of the protocol, so that it has a text.
     ///
-    /// A hello is of version 1 or 2 and of a worker below 64; a shard's number is below 4,096, with at most
-    /// 2^24 links; an ask is for a shard below 4,096; an answer has at most 2^25 offers; a fault's code is
-    /// 1, 2 or 3.
+    /// - A hello has version 1 or 2, and a worker below 64.
+    /// - A shard has a number below 4,096, and at most 2^24 links.
+    /// - An ask is for a shard below 4,096.
+    /// - An answer has at most 2^25 offers.
+    /// - A fault has code 1, 2 or 3.
     ///
-    /// It takes no memory. For an answer it goes through the offers once; of links and of labels it asks
-    /// nothing, since they keep their rules.
+    /// It allocates nothing. For an answer it reads the offers once. It doesn't read links or labels, since their types
+    /// ensure their rules.
     pub fn is_lawful(&self) -> bool
         ensures { IsTrue result ↔ IsLawful (value_of self.now) }
     {
@@ -68,8 +69,8 @@ fn is_fault(round: u32, shard: u32, code: u8) -> bool
     1 <= code && code <= 3
 }
 
-// A proof knows that a number fits its type only where the code reads it, so each offer is read. Nothing is
-// done with it: a build may leave the loop out, and no contract says that it does.
+// Reads each offer, because a proof knows that a number fits its type only where the code reads it. A compiler may
+// remove the loop, since it has no effect.
 fn see_offers(offers: &[(u32, u32)])
     ensures { All (λ o. IsU32 o.0 × IsU32 o.1) offers.now }
 {

@@ -1,7 +1,8 @@
-//! The frames that a coordinator and its workers exchange, as bytes and back: a kind, the length of the body, and the
-//! body (`docs/PROTOCOL.md`). Version 1 has the kinds 1 to 5, version 2 also 6, a shard with a weight
-//! that doesn't fit 32 bits; nothing here knows a peer's version, so who sends keeps kind 6 from a worker
-//! of version 1.
+//! The frames that a coordinator and its workers exchange, as values and as bytes (`docs/PROTOCOL.md`). A frame is a
+//! kind, the length of the body, and the body.
+//!
+//! Version 1 has the kinds 1 to 5. Version 2 also has kind 6: a shard with a weight that doesn't fit 32 bits. This
+//! crate doesn't know the version of a peer, so a sender has to keep kind 6 from a worker of version 1.
 //!
 //! ```text
 //!   Frame, Shard, Labels --encode, encode_shard, encode_ask-->  bytes  <--fault_bytes-- round, shard, code
@@ -10,22 +11,24 @@
 //!                                                   /                              \
 //!                       5 bytes --decode_head--> Head                body --decode_body--> Frame
 //! ```
-//! Shards and answers may go by pieces: [`shard_head`] and [`put_links`], [`answer_head`] and [`put_offers`] make a text.
-//! They are read so too, of a stream and of a body in memory, which is read as a stream.
+//! A shard or an answer can be written in pieces, by [`shard_head`] and [`put_links`] or by [`answer_head`] and
+//! [`put_offers`]. Readers read both in pieces, from a stream or from a body in memory.
 //!
 //! What it promises:
-//! - The encoders give exactly a lawful frame's one text, the same in both versions; no frame's text
-//!   begins another's, so a stream of frames reads in one way (`laws`).
-//! - [`read_frame`] that answers a frame took exactly its text, and answers else the first refusal that fits; so do
-//!   [`decode_head`] and [`decode_body`] for its parts, and [`read_next`] behind an ask, which says too whether an
-//!   ask's labels are those of the one before, or others that coarsen them. (That it takes no memory for the same ones is
-//!   only tested.)
+//! - An encoder returns exactly the one text of a lawful frame, which is the same in both versions. No frame's text is
+//!   a prefix of another's, so a stream of frames can be read in one way only (`laws`).
+//! - [`read_frame`] returns a frame after it has read exactly the frame's text; otherwise it returns the first error
+//!   that applies. [`decode_head`] and [`decode_body`] do the same for the two parts.
+//! - [`read_next`] reads the frame after an ask. It also says whether the labels of another ask are those of the last
+//!   one, or coarsen them. (That it allocates nothing for the same labels is only tested.)
 //!
-//! Where to start a change: the grammar stands in `specs/FrameText`, what is lawful in `specs/Lawful`, and
-//! the refusals with their order in `specs/Refusals`. `fields` and `items` have one function a field and list,
-//! `encoding` and `decoding` one for each kind; `frame_reader` reads a frame, `list_reader` any list by pieces, for
-//! `shard_reader` (`specs/Spellings`), `answer_reader` (`specs/Pieces`) and `ask_reader`; `next_frame` reads an ask behind
-//! another one (`specs/NextFrame`).
+//! Where to make a change:
+//! - The grammar is in `specs/FrameText`, what is lawful in `specs/Lawful`, and the errors with their order in
+//!   `specs/Refusals`.
+//! - `fields` and `items` have one function per field and per list, and `encoding` and `decoding` one per kind.
+//! - `frame_reader` reads a frame, and `list_reader` reads any list in pieces. `shard_reader` (`specs/Spellings`),
+//!   `answer_reader` (`specs/Pieces`) and `ask_reader` use it.
+//! - `next_frame` reads the frame after an ask (`specs/NextFrame`).
 #![tactic(auto)]
 
 mod answer_reader;

@@ -1,4 +1,4 @@
-//! Lists of a body, which come by pieces through one buffer, so that their bytes are never stored.
+//! Reads the list of a body in pieces through one buffer, so that its bytes are never stored.
 ghost use Rattle.std.specs.Prelude.{◌≡◌, ◌≢◌, ℕ, ◌+◌, ◌<◌, ◌≤◌, List, [], ◌++◌, length, IsErr, IfErr, OnOk};
 ghost use Rattle.frames.specs.Pieces.{BytesCame, ListCame};
 ghost use Rattle.frames.specs.ReadFault.{IsCutShort};
@@ -11,18 +11,18 @@ use crate::fault::FrameFault;
 use byte_streams::Source;
 use std::alloc::AllocError;
 
-// A list that hears its bytes as they come.
+// A list that takes its bytes as they arrive.
 pub(crate) trait Hears {
-    // From the first to the second it heard these bytes.
+    // The second list is the first after it took these bytes.
     ghost heard: { Self → Self → List ℕ → Type 0 };
 
-    // So many bytes may come, of whole items.
+    // This many bytes are whole items, and may arrive next.
     ghost awaits: { Self → ℕ → Type 0 };
 
-    // It may ask for memory.
+    // It may allocate memory.
     ghost wants: { Self → Type 0 } = { λ _. Unit {0} };
 
-    // How many of the bytes that are left are to come next.
+    // How many of the bytes that are left to read next.
     fn piece_of(&self, left: usize) -> usize
         requires awaits { awaits self.now left }
         requires some { 0 < left }
@@ -31,14 +31,14 @@ pub(crate) trait Hears {
         ensures fits { result ≤ 65536 }
         ensures whole { awaits self.now result };
 
-    // Takes room for so many bytes.
+    // Reserves memory for this many bytes.
     fn make_room(&mut self, bytes: usize) -> Result<(), AllocError>
         ensures heard { (first : Self) (bytes : List ℕ) → heard first self.old bytes → heard first self.new bytes }
         ensures awaits { (left : ℕ) → awaits self.old left → awaits self.new left }
         ensures wants { wants self.new → wants self.old }
         ensures wanted { IsErr result → wants self.old };
 
-    // Hears the next bytes.
+    // Takes the next bytes.
     fn hear(&mut self, piece: &[u8]) -> Result<(), AllocError>
         requires awaits { awaits self.old (length piece.now) }
         requires fits { length piece.now ≤ 65536 }
@@ -49,7 +49,7 @@ pub(crate) trait Hears {
         ensures wanted { IsErr result → wants self.old };
 }
 
-// The next bytes of a stream, as many as a list awaits. Room for a piece is taken before it comes.
+// Reads the next `len` bytes of a stream into a list. Memory for a piece is reserved before it arrives.
 pub(crate) fn read_list<S: Source, L: Hears>(
     source: &mut S,
     list: &mut L,
@@ -76,7 +76,7 @@ pub(crate) fn read_list<S: Source, L: Hears>(
     Ok(())
 }
 
-// What hears bytes and keeps none.
+// Takes bytes and drops them.
 #[derive(Clone, Copy)]
 struct Nothing;
 
@@ -100,7 +100,7 @@ impl Hears for Nothing {
     }
 }
 
-// Takes so many bytes, and keeps none.
+// Reads this many bytes and drops them.
 pub(crate) fn pass_over<S: Source>(source: &mut S, len: usize) -> Result<(), FrameFault>
     requires { S.can_read source.old }
     ensures came { OnOk result (BytesCame len (S.state source.old) (S.state source.new)) }

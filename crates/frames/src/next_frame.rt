@@ -1,9 +1,11 @@
-//! The next frame of a stream behind an ask, whose labels mostly come again.
+//! Reads the next frame of a stream after an ask, whose labels are mostly sent again.
 //!
-//! A run asks for each of its shards under the same labels. So the bytes of an ask of as many labels are compared with
-//! those of the last ones as they come, a piece at a time in one buffer: while they are the same, nothing is stored, and
-//! whether they are labels isn't judged again. In the next round they coarsen the last ones. So others are stored and seen to
-//! be such labels in one pass too: a look-up for each while it is in the processor's cache, and the rest is on its way.
+//! A run asks about each of its shards under the same labels. So the bytes of an ask with equally many labels are
+//! compared with the last labels as they arrive, one piece at a time in one buffer. As long as they are the same,
+//! nothing is stored, and the labels needn't be checked again.
+//!
+//! In the next round the labels coarsen the last ones. Such labels are stored and checked in one pass: each takes one
+//! look-up while it is in the processor's cache and the rest is on its way.
 ghost use Rattle.std.specs.Prelude.{◌≡◌, ◌≢◌, ℕ, ◌+◌, ◌*◌, ◌/◌, ◌%◌, ◌<◌, ◌≤◌, ◌↔◌, List, ◌++◌, length, map, take, All, IfOk, IfErr, OnOk, IfSome, IfNone, IsTrue};
 ghost use Rattle.std.specs.Int.{w32, from_be_bytes};
 ghost use Rattle.std.specs.List.{flat_map};
@@ -29,32 +31,32 @@ use limits::MAX_SHARDS;
 use links::Labels;
 use std::alloc::{AllocError, Allocator, Global};
 
-/// What comes behind an ask: another one under its labels, one under labels that coarsen them, or any frame as a whole.
+/// What comes after an ask: another ask under its labels, an ask under labels that coarsen them, or any whole frame.
 #[derive(Drop)]
 pub enum NextFrame<A: Allocator = Global> {
-    /// An ask under the labels of the one before.
+    /// An ask under the labels of the last one.
     AskAgain {
         round: u32,
         shard: u32,
     },
 
-    /// An ask under other labels, which coarsen those of the one before and were stored.
+    /// An ask under other labels, which coarsen those of the last one and were stored.
     AskCoarser {
         round: u32,
         shard: u32,
         labels: Labels<A>,
     },
 
-    /// Any frame, with all that it says.
     Other(Frame<A>),
 }
 
-/// The next frame of a stream, as [`read_frame`](crate::read_frame) has it, behind an ask under these labels.
+/// Reads the next frame of a stream after an ask under these labels, with the errors of
+/// [`read_frame`](crate::read_frame).
 ///
-/// Another ask under them takes no memory, and one look at its bytes. Where its labels are as many and others, they are
-/// given room for all of them at the first piece of 16,384 that differs; `Memory` where that was refused. Each piece is judged
-/// as it comes, by one look-up a label while they coarsen the last ones; where they don't, all are judged once more. Every
-/// other frame is read as `read_frame` reads it, with its room.
+/// Another ask under the same labels needs no memory, and its bytes are read once. If it has as many labels but
+/// different ones, memory for all of them is allocated at the first piece of 16,384 labels that differs; `Memory` if
+/// that fails. Each piece is checked as it arrives, by one look-up per label as long as the labels coarsen the last
+/// ones. If they don't, all of them are checked once more. Every other frame is read as `read_frame` reads it.
 pub fn read_next<A: Allocator + Copy, S: Source>(
     alloc: A,
     source: &mut S,
@@ -63,13 +65,13 @@ pub fn read_next<A: Allocator + Copy, S: Source>(
     requires labels { AreLabels last.now }
     requires can { S.can_read source.old }
 
-    // The text of the frame was taken, and nothing else.
+    // On success, exactly the text of the frame was read.
     ensures lawful { IfOk result (λ next. IsLawful (next_value last.now next)) }
     ensures text { IfOk result
         (λ next. Gave 0 0 (text_of (next_value last.now next)) (S.state source.old) (S.state source.new)) }
     ensures coarser { IfOk result (SaysCoarser last.now) }
 
-    // What came was refused; a failure and an end are told apart, and each is counted once.
+    // On an error, what was read is rejected for it. A failure and an end are distinguished, and each is counted once.
     ensures refused { IfErr result
         (λ fault. IsReadRefused fault (S.state source.old) (S.state source.new)) }
 
@@ -79,7 +81,7 @@ pub fn read_next<A: Allocator + Copy, S: Source>(
     read_behind(alloc, source, head, last)
 }
 
-// The frame whose head came.
+// Reads the body that follows a head.
 fn read_behind<A: Allocator + Copy, S: Source>(
     alloc: A,
     source: &mut S,
@@ -101,8 +103,8 @@ fn read_behind<A: Allocator + Copy, S: Source>(
     Ok(NextFrame::Other(frame))
 }
 
-// An ask of as many labels. Its fields are judged first, since want of memory is answered only behind lawful ones; where
-// they aren't lawful the labels are taken all the same, for a stream may end in them.
+// Reads the body of an ask with equally many labels. Its fields are checked first, since a lack of memory is only
+// reported if they are lawful. If they aren't, the labels are still read, since the stream may end within them.
 fn read_ask<A: Allocator + Copy, S: Source>(
     alloc: A,
     source: &mut S,
@@ -125,14 +127,14 @@ fn read_ask<A: Allocator + Copy, S: Source>(
     ask_of(round, shard, last, heard)
 }
 
-// What came of the numbers of an ask: none where they are the labels of the last one; and whether they coarsen these.
+// The numbers of an ask that arrived, or `None` if they are the labels of the last one, and whether they coarsen those.
 #[derive(Drop)]
 struct Heard<A: Allocator> {
     numbers: Option<Vec<u32, A>>,
     are_coarser: bool,
 }
 
-// The ask for the numbers that came behind these labels; `BadField` where they are no labels.
+// Returns the ask with the numbers that arrived, or `BadField` if they aren't labels.
 fn ask_of<A: Allocator>(
     round: u32,
     shard: u32,
@@ -170,7 +172,7 @@ fn ask_of<A: Allocator>(
     }
 }
 
-// The next numbers of a stream, as many as these; none where they are the same.
+// Reads as many numbers as `last` has, and stores none if they are the same.
 fn read_numbers<A: Allocator + Copy, S: Source>(
     alloc: A,
     source: &mut S,
@@ -208,8 +210,8 @@ fn read_numbers<A: Allocator + Copy, S: Source>(
     })
 }
 
-// Whether the numbers behind the first so many, which are labels that coarsen the last ones, are so too. It looks while they
-// are in the processor's cache; those that are the same are so.
+// Whether the numbers are still labels that coarsen the last ones, if the first `from` are. It checks the others while
+// they are in the processor's cache. If no numbers are stored, they are the last ones.
 fn stay_coarser<A: Allocator>(numbers: &Option<Vec<u32, A>>, last: &[u32], from: usize) -> bool
     requires last { AreLabels last.now }
     requires within { IfSome numbers.now (λ list. (from ≤ length list.items) × (length list.items ≤ length last.now)) }
@@ -223,7 +225,6 @@ fn stay_coarser<A: Allocator>(numbers: &Option<Vec<u32, A>>, last: &[u32], from:
     }
 }
 
-// The same of numbers that aren't the same.
 fn are_coarser_behind(numbers: &[u32], last: &[u32], from: usize) -> bool
     requires last { AreLabels last.now }
     requires front { from ≤ length numbers.now }
@@ -239,8 +240,9 @@ fn are_coarser_behind(numbers: &[u32], last: &[u32], from: usize) -> bool
     true
 }
 
-// Whether vertex v is labelled, by the label of the vertex that labelled it before, where those below it are. Where it labelled
-// itself, its new label has to be its own; else it has to be that of the vertex that labelled it, which is below and judged.
+// Whether vertex `v` has a label that the vertex with its last label has too, if the vertices below it are labelled. If
+// it labelled itself before, its new label has to label itself. Otherwise it has to be the label of its last label,
+// which is lower and was checked.
 #[inline]
 fn is_coarser(numbers: &[u32], last: &[u32], v: usize) -> bool
     requires last { AreLabels last.now }
@@ -260,8 +262,8 @@ fn is_coarser(numbers: &[u32], last: &[u32], v: usize) -> bool
     place < v && numbers[place] == label
 }
 
-// Hears the bytes of the next numbers, behind those that came before. At the first that differ from the ones that stand
-// there in `last`, room is made for all.
+// Takes the bytes of the next numbers. At the first piece that differs from `last`, memory for all numbers is
+// allocated.
 fn hear_piece<A: Allocator>(
     alloc: A,
     numbers: &mut Option<Vec<u32, A>>,
@@ -293,7 +295,7 @@ fn hear_piece<A: Allocator>(
     }
 }
 
-// Puts the numbers of these bytes at the end.
+// Appends the numbers that these bytes encode.
 pub(crate) fn push_numbers<A: Allocator>(
     numbers: &mut Vec<u32, A>,
     piece: &[u8],

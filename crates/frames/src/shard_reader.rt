@@ -1,5 +1,5 @@
-//! Shards from a stream: the links come by pieces through one buffer, and are pushed into the list that the frame owns.
-//! So the bytes of a shard are never stored, and those of a piece become links while the next ones are on their way.
+//! Reads shards from a stream. The links arrive in pieces through one buffer. Each piece is appended to the frame's
+//! list before the next one is read, so the bytes of a shard are never stored.
 ghost use Rattle.std.specs.Prelude.{◌≡◌, ◌≢◌, ◌+◌, ◌*◌, ◌%◌, ◌≤◌, IfOk, IfErr};
 ghost use Rattle.frames.specs.FrameValue.{value_of, ShardFrame};
 ghost use Rattle.frames.specs.NextFrame.{BodyCame, IsBodyRefused, WantsLate};
@@ -19,8 +19,8 @@ use limits::{MAX_SHARD_LINKS, MAX_SHARDS};
 use links::Link;
 use std::alloc::{AllocError, Allocator};
 
-// The shard whose head came, with a length for so many links. Its fields are judged first. Where they or some link are
-// refused, the rest is taken all the same, and not kept: a stream may end in it.
+// Reads the body of a shard, whose length is that of `most` links. Its fields are checked first. If a field or a link
+// is unlawful, the rest of the body is read and dropped, since the stream may end within it.
 pub(crate) fn read_shard<A: Allocator, S: Source>(
     alloc: A,
     source: &mut S,
@@ -51,7 +51,7 @@ pub(crate) fn read_shard<A: Allocator, S: Source>(
     }
 }
 
-// The shard of links that came in this spelling; `BadField` where they have the other one.
+// Returns the shard with the links that came in this spelling, or `BadField` if they have the other spelling.
 fn shard_of<A: Allocator>(
     spelling: Spelling,
     number: u32,
@@ -71,7 +71,7 @@ fn shard_of<A: Allocator>(
     Ok(Frame::Shard { number, links })
 }
 
-// The links of a shard that came in a spelling; none where some are refused.
+// The links of a shard that came in a spelling, or `None` if some aren't links.
 #[derive(Drop)]
 struct Heard<A: Allocator> {
     spelling: Spelling,

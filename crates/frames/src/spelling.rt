@@ -1,4 +1,3 @@
-//! The two spellings of a shard's links.
 ghost use Rattle.std.specs.Prelude.{◌≡◌, ◌≢◌, ◌*◌, ◌/◌, ◌≤◌, ◌↔◌, IfSome, IfNone, IsTrue};
 ghost use Rattle.frames.specs.Spellings.{size_in, kind_in, spelling_of, FitIn};
 
@@ -6,17 +5,18 @@ use crate::items::fit_32_bits;
 use limits::MAX_SHARD_LINKS;
 use links::Link;
 
-/// How the links of a shard are written: with weights of 32 bits where all fit them, else with weights of 64.
+/// How the links of a shard are written: with weights of 32 bits if all of them fit, and otherwise with weights of 64
+/// bits.
 #[derive(Clone, Copy, Debug, PartialEq, Eq)]
 pub enum Spelling {
-    /// 12 bytes a link, in a frame of kind 2.
+    /// 12 bytes per link, in a frame of kind 2.
     Narrow,
-    /// 16 bytes a link, in a frame of kind 6.
+    /// 16 bytes per link, in a frame of kind 6.
     Wide,
 }
 
 impl Spelling {
-    /// The spelling of a shard with these links. It looks at each weight, and takes no memory.
+    /// Returns the spelling of a shard with these links. It reads each weight, and allocates nothing.
     pub fn of(links: &[Link]) -> Spelling
         ensures { result ≡ spelling_of links.now }
     {
@@ -27,7 +27,8 @@ impl Spelling {
         }
     }
 
-    // Whether links that came in this spelling are to go in it: with weights of 64 bits, of which one doesn't fit 32.
+    // Whether links that came in this spelling belong in it. Links with weights of 64 bits do if a weight doesn't fit
+    // 32.
     pub(crate) fn is_of(self, links: &[Link]) -> bool
         requires { FitIn self links.now }
         ensures { IsTrue result ↔ (spelling_of links.now ≡ self) }
@@ -38,7 +39,7 @@ impl Spelling {
         }
     }
 
-    // How many bytes a link has.
+    // How many bytes a link takes.
     pub(crate) fn size(self) -> usize
         ensures { result ≡ size_in self }
     {
@@ -48,7 +49,6 @@ impl Spelling {
         }
     }
 
-    // The kind of the frames.
     pub(crate) fn kind(self) -> u8
         ensures { result ≡ kind_in self }
     {
@@ -58,7 +58,7 @@ impl Spelling {
         }
     }
 
-    /// How many bytes so many links have.
+    /// How many bytes this many links take.
     pub fn bytes_of(self, links: usize) -> usize
         requires { links ≤ MAX_SHARD_LINKS }
         ensures { result ≡ size_in self * links }
@@ -69,7 +69,7 @@ impl Spelling {
         }
     }
 
-    /// How many whole links so many bytes have room for.
+    /// How many whole links fit this many bytes.
     pub fn links_in(self, bytes: usize) -> usize
         ensures { result ≡ bytes / size_in self }
     {
@@ -79,7 +79,7 @@ impl Spelling {
         }
     }
 
-    // The spelling in frames of this kind, if they have links.
+    // The spelling in frames of this kind, if it is the kind of a shard.
     pub(crate) fn of_kind(kind: u8) -> Option<Spelling>
         ensures shard { IfSome result (λ spelling. kind_in spelling ≡ kind) }
         ensures other { IfNone result ((kind ≢ 2) × (kind ≢ 6)) }

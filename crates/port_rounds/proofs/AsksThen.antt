@@ -31,7 +31,7 @@ in_rounds_then (x ∷ xs) ys p q first =
     first_of_all x (xs ++ ys) (All-append Later xs ys (λ j d b. p 0 (suc j) d (omega arith) (omega arith)) (All-head (λ (z : Exchange). All (λ (y : Exchange). z.round ≤ y.round) ys) x xs first))
     (in_rounds_then xs ys (λ i j d l b. p (suc i) (suc j) d (omega arith) (omega arith)) q (All-tail (λ (z : Exchange). All (λ (y : Exchange). z.round ≤ y.round) ys) x xs first))
 
--- exchanges of two parts, in the first of which no answer was refused
+-- exchanges of two parts, with no rejected answer in the first
 both_parts : (others xs ys : List Exchange) (last last' : Option Exchange) → last ≡ None → (others ++ answered xs last) ++ answered ys last' ≡ others ++ answered (xs ++ ys) last'
 both_parts others xs ys last last' none = search (arith, append-nil, append_assoc)
 
@@ -64,7 +64,7 @@ module _ {P A : Type 0} (port : Port.Ghosts P A) (keeping : Exchange → Type 0)
   }
 
   module _ (a b c : P) (xs ys : List AnswerValue) (p : AnswersAsks port keeping closing a b xs) (q : AnswersAsks port keeping closing b c ys) where
-    -- the counts that stood still over both parts stood still in each
+    -- counts that stayed the same over both parts did so in each
     each_stood : SameFaults (port.state a) (port.state c) → SameFaults (port.state a) (port.state b) × SameFaults (port.state b) (port.state c)
     each_stood s = search arith
 

@@ -1,4 +1,4 @@
--- A merging round more, and what light answers pick.
+-- Another merging round, and what light answers pick.
 use Rattle.std.proofs.Common.{◌≡◌, ℕ, List, [], ◌∷◌, ◌++◌, refl, sym, subst}
 use Rattle.std.specs.Prelude.{All, Contains, Option}
 use Rattle.std.proofs.lemmas.List.Elements.{All-map}
@@ -13,7 +13,7 @@ use Rattle.port_rounds.specs.Asks.{IsLight}
 use Rattle.port_rounds.specs.Runs.{IsFullBook}
 use Rattle.port_rounds.specs.Chains.{MergesBook, MergesBooks, MergesFromStart}
 
--- ---- a book more
+-- ---- another book
 
 more : (old : Progress) (books : List BookValue) (middle : Progress) (book : BookValue) (new : Progress) → MergesBooks old books middle → MergesBook middle book new → MergesBooks old (books ++ book ∷ []) new
 more old [] middle book new so_far m = (new, subst (λ (p : Progress). MergesBook p book new) so_far m, refl)
@@ -28,7 +28,7 @@ light_hearings : (book : BookValue) → All (IsLight book) book.answers → AreA
 light_hearings book light =
     All-map (λ (h : Hearing). AreLightOffers h.shard book.labels h.offers) (hearing_of book.cut) book.answers (λ i d b. (light i d b).light)
 
--- the picks of a whole book of light answers are those of the whole list
+-- the picks of a full book of light answers are those of the whole list
 pub light_picks : (cut : List (List Link)) (labels : List ℕ) (book : BookValue) (picks : List (Option Link)) → IsFullBook cut book → book.labels ≡ labels → All (IsLight book) book.answers
     → ArePicks labels (IsNamed (hearings book)) picks → ArePicks labels (Contains (joined cut)) picks
 light_picks cut labels book picks whole same light are =

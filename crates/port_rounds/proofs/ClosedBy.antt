@@ -1,4 +1,4 @@
--- Ports that were closed by a round.
+-- Ports that are closed at the end of a round.
 use Rattle.std.proofs.Common.{◌≡◌, ℕ, zero, suc, ◌<◌, ◌≤◌, inl, inr, Bool, true, false, List, [], ◌∷◌, length, get_or, refl, ap, sym, subst, ◌∙◌, arith}
 use Rattle.std.specs.Prelude.{All, Option, Some, None}
 use Rattle.std.proofs.lemmas.List.Elements.{All-contains}
@@ -19,7 +19,7 @@ stays_shut a1 a2 a3 a4 = search arith
 shut_of_none : (b : Bool) → count_if b ≡ 0 → b ≡ false
 shut_of_none a1 a2 = search arith
 
--- each port is closed where none is open
+-- each port is closed if none is open
 pub none_open : {P : Type 0} (state : P → PortState) (zs : List (LaneState P)) → open_count state zs ≡ 0 → (i : ℕ) (d : LaneState P) → i < length zs
     → (state (get_or zs i d).port).is_open ≡ false
 none_open state [] none i d b = absurd (omega arith)
@@ -35,12 +35,12 @@ closing_earlier : (books : List BookValue) (round : ℕ) (last : ℕ × ℕ) (re
 closing_earlier books round last refused earlier (book, is_in, closes) = search (arith, closing_round)
 
 module _ {P A : Type 0} (port : Port.Ghosts P A) where
-  -- a port that was closed by a round stays so
+  -- a port that was closed by a round stays closed
   pub still_closed : (keeping : Exchange → Type 0) (closing : ℕ × ℕ → Option Exchange → Type 0) (round : ℕ) (p q r : P) (kept : List AnswerValue)
       → ClosesBy round (port.state p) (port.state q) → AnswersAsks port keeping closing q r kept → ClosesBy round (port.state p) (port.state r)
   still_closed keeping closing round p q r kept by asks opened = search (arith, stays_shut)
 
-  -- asks of books of earlier rounds, and then of this round's book, at whose end the port is closed
+  -- asks of books of earlier rounds, and then of this round's book, after which the port is closed
   pub now_closed : (books : List BookValue) (old : BookValue) (p q r : P) (kept more : List AnswerValue) → All (λ (book : BookValue). book.round < old.round) books
       → AnswersAsks port (IsKeptIn books) (ClosesPortIn books) p q kept → AnswersAsks port (TakesExchange old) (ClosesPort old) q r more
       → (port.state r).is_open ≡ false → ClosesBy old.round (port.state p) (port.state r)

@@ -1,4 +1,4 @@
--- Seats that go into lanes and come back.
+-- Seats that are moved into lanes and back.
 use Rattle.std.proofs.Common.{◌≡◌, ◌+◌, List, [], ◌∷◌, ◌++◌, length, refl, ap, sym, ◌∙◌, arith, append_assoc, length-append}
 use Rattle.std.specs.Prelude.{Option, Some, None, MatchOption, option_to_list, All}
 use Rattle.claim_board.specs.State.{SeatState}
@@ -7,7 +7,7 @@ use Rattle.std.proofs.lemmas.List.Elements.{All-head, All-tail}
 use Rattle.round_theory.specs.Ports.{PortState}
 use Rattle.port_rounds.specs.Lanes.{LaneState, count_if, seats_of, open_count}
 
--- where a split gave no first element there was none
+-- if a split gave no first element, there was none
 pub no_first : {Y : Type 0} (r : Option Y) (none : Type 0) (some : Y → Type 0) → ((y : Y) → r ≡ Some y → ⊥) → MatchOption r none some → none
 no_first a1 a2 a3 a4 a5 = search arith
 
@@ -33,7 +33,7 @@ module _ {P : Type 0} where
   none_dealt state [] none = (refl, refl)
   none_dealt state (x ∷ zs) none = absurd (omega arith)
 
--- a row of which no seat is left: the lanes have them all
+-- if no seat of a row is left, the lanes have all of them
 pub all_dealt : (row left seats : List SeatState) → row ≡ left ++ seats → length left ≡ 0 → (left ≡ []) × (seats ≡ row)
 all_dealt row [] seats e none = (refl, sym e)
 all_dealt row (s ∷ left) seats e none = absurd (omega arith)

@@ -1,9 +1,9 @@
--- A fact of each element of a list, and a relation at each place of two.
+-- A fact about each element of a list, and a relation at each index of two.
 use Rattle.std.proofs.Common.{◌≡◌, ℕ, suc, ◌<◌, List, [], ◌∷◌, ◌++◌, length, get_or, sym, subst, arith}
 use Rattle.std.specs.List.{All, AllZip}
 use Rattle.std.proofs.lemmas.List.Elements.{All-nil, All-cons, AllZip-get_or, length_all_zip}
 
--- of the one element of a list
+-- about the one element of a list
 pub one : {X : Type 0} (P : X → Type 0) (x : X) → P x → All P (x ∷ [])
 one P x p = All-cons P x [] p (All-nil P)
 

@@ -1,4 +1,4 @@
--- A turn more, and the end of a run.
+-- Another round, and the end of a run.
 use Rattle.std.proofs.Common.{◌≡◌, ℕ, ◌+◌, ◌*◌, ◌<◌, ◌≤◌, ◌^◌, inl, inr, List, [], ◌∷◌, ◌++◌, length, get_or, refl, ap, sym, subst, ◌∙◌, arith, length-append}
 use Rattle.std.specs.Prelude.{All, Contains, Option, max}
 use Rattle.std.proofs.Math.Nat.{mul-le-mul_right}
@@ -44,14 +44,14 @@ use Rattle.port_rounds.proofs.Running.{closing_still, kept_still, same_still, wh
 use Rattle.port_rounds.proofs.Chained.{merged_then, light_picks}
 use Rattle.port_rounds.proofs.Solving.{all_front, named_more, named_given, from_cut, wide_still}
 
--- rounds that are no more than the vertices allow are few
+-- as many rounds as the number of vertices allows are few
 pub rounds_few : (n r : ℕ) → n ≤ 2 ^ 26 → 2 ^ r ≤ max 1 n → r ≤ 26
 rounds_few n r few in_time = elim (cases_lt 26 r) [
   | inl past ↦ (let more = pow_below 26 r past in absurd (omega (arith, more, few, in_time)))
   | inr fits ↦ fits
 ]
 
--- books that are light with others are light
+-- books that are light together with others are light
 light_first : (books more : List BookValue) → AreLightBooks (books ++ more) → AreLightBooks books
 light_first books more light = all_front (λ (book : BookValue). All (IsLight book) book.answers) books more light
 
@@ -104,7 +104,7 @@ module _ {P A : Type 0} (port : Port.Ghosts P A) where
     pub earlier : All (λ (book : BookValue). book.round < solver.rounds + 1) books
     pub right : AreLightBooks books → HasRoundsOf (joined cut) solver
 
-  -- a round more, whether it was ended or not
+  -- another round, whether it was completed or not
   pub asked_then : (n : ℕ) (cut : List (List Link)) (xs ys zs : List (LaneState P)) (solver : Progress) (alone : ℕ) → SoFar n cut xs ys solver alone
       → AsksInRound port cut solver ys zs → AsksInRun port n cut xs zs
   asked_then n cut xs ys zs solver alone u v =
@@ -146,7 +146,7 @@ module _ {P A : Type 0} (port : Port.Ghosts P A) where
     right = λ light. at_first (joined cut) n solver start;
   }
 
-  -- a whole round more, and its picks
+  -- another whole round, and its picks
   pub picked_after : (n : ℕ) (cut : List (List Link)) (xs ys zs : List (LaneState P)) (solver : Progress) (picks : List (Option Link)) (alone k : ℕ)
       → (u : SoFar n cut xs ys solver alone) → (r : PicksInRound port (solver.rounds + 1) cut solver.labels ys zs picks k)
       → PicksAfterRounds port n cut xs zs solver picks (u.answered + length r.went.passes.answers) (alone + k)
@@ -160,7 +160,7 @@ module _ {P A : Type 0} (port : Port.Ghosts P A) where
         picked = record { round = same.round; labels = same.labels; picked = r.picked };
       }
 
-  -- where each answer is light these are the picks of the whole list
+  -- if each answer is light, these are the picks of the whole list
   pub least_picks : (n : ℕ) (cut : List (List Link)) (xs ys : List (LaneState P)) (solver : Progress) (picks : List (Option Link)) (answered alone : ℕ)
       → (v : PicksAfterRounds port n cut xs ys solver picks answered alone) → AreLightBooks (v.merging ++ v.last ∷ []) → ArePicks solver.labels (Contains (joined cut)) picks
   least_picks n cut xs ys solver picks answered alone v light =
@@ -172,7 +172,7 @@ module _ {P A : Type 0} (port : Port.Ghosts P A) where
   ends_of : (n : ℕ) (cut : List (List Link)) (solver : Progress) → vertices solver ≡ n → All (EndsUpTo n) cut → EndsUpTo (vertices solver) (joined cut)
   ends_of n cut solver same ends = subst (λ (m : ℕ). EndsUpTo m (joined cut)) (sym same) (joined_ends n cut ends)
 
-  -- a merging round more
+  -- another merging round
   pub merged_more : (n : ℕ) (cut : List (List Link)) (xs ys zs : List (LaneState P)) (old new : Progress) (picks : List (Option Link)) (count alone k : ℕ) → All (EndsUpTo n) cut
       → SoFar n cut xs ys old alone → IsProgress old → PicksInRound port (old.rounds + 1) cut old.labels ys zs picks k → IsMerged picks count old new → SoFar n cut xs zs new (alone + k)
   unfolding picked_after
@@ -233,7 +233,7 @@ module _ {P A : Type 0} (port : Port.Ghosts P A) where
       let last : IsTurn t.picks old new Done = subst (IsTurn t.picks old new) is t.stepped in
       subst (λ (s : Progress). (answered : ℕ) × MergesAll port n cut xs zs s answered (alone + k)) (sym last.1) (ended n cut xs ys zs old t.picks alone k ends u t.progress t.picked last.0)
 
-  -- a turn that ended ill
+  -- a round that failed
   pub turn_fault : (n : ℕ) (cut : List (List Link)) (xs ys zs : List (LaneState P)) (solver : Progress) (alone : ℕ) (fault : SolveFault) → All (EndsUpTo n) cut
       → SoFar n cut xs ys solver alone → IsTurnFault port cut solver ys zs fault → IsSolveFault port n cut xs zs fault
   unfolding picked_after
@@ -266,11 +266,11 @@ module _ {P A : Type 0} (port : Port.Ghosts P A) where
         let all = u.right light in finish_only_memory (joined cut) solver u.progress (ends_of n cut solver u.vertices_are ends) all.so_far all.all fault f);
   })
 
-  -- a fault of answers that weren't light, so where all ports are honest the only fault is want of memory
+  -- an error caused by answers that weren't light, so if all ports are honest, a run fails only for lack of memory
   pub honest_fault : (n : ℕ) (cut : List (List Link)) (xs ys : List (LaneState P)) (fault : SolveFault) → IsSolveFault port n cut xs ys fault → AreHonest port.honest xs → fault ≡ Memory
   honest_fault a1 a2 a3 a4 a5 a6 a7 = search arith
 
-  -- a round more can be asked for
+  -- another round can be asked for
   pub can_more : (n : ℕ) (cut : List (List Link)) (xs ys : List (LaneState P)) (solver : Progress) (alone : ℕ) → SoFar n cut xs ys solver alone → 0 < length cut → length cut ≤ MAX_SHARDS
       → CanRun port.state n cut xs → CanAskRound port.state cut solver ys
   can_more n cut xs ys solver alone u some few can =
@@ -282,7 +282,7 @@ module _ {P A : Type 0} (port : Port.Ghosts P A) where
         wide = wide_still port cut (solver.rounds + 1) solver.labels xs ys u.books u.answered alone u.rounds few (let e = u.number in omega arith) can.cuts can.counts;
       }
 
-  -- so few shards are scanned that their count never wraps
+  -- so few shards are scanned that their count never wraps around
   pub alone_few : (n : ℕ) (cut : List (List Link)) (xs ys : List (LaneState P)) (solver : Progress) (alone : ℕ) → SoFar n cut xs ys solver alone → n ≤ 2 ^ 26 → length cut ≤ 4096 → alone ≤ 2 ^ 20
   alone_few n cut xs ys solver alone u few small = search (arith, rounds_few, mul-le-mul_right)
 

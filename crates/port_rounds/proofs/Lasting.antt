@@ -1,4 +1,4 @@
--- What lasts from pass to pass.
+-- What stays true from pass to pass.
 use Rattle.std.specs.List.{AllZip}
 use Rattle.std.proofs.Common.{◌≡◌, ◌≤◌, Bool, true, false, List, get_or, sym, subst, ◌∙◌, arith}
 use Rattle.std.specs.Prelude.{All}
@@ -37,7 +37,7 @@ module _ {P A : Type 0} (port : Port.Ghosts P A) where
   pub round_stays : (p q : BookValue) (xs ys : List (LaneState P)) → RunsPasses port p q xs ys → IsAskable p → IsAskable q
   round_stays p q xs ys u r = askable_still p q (heard_same p q u.answers u.value) r
 
-  -- the room that a round asks for at its start is left in each of its passes
+  -- if a port's count can rise enough for a round at its start, it can still do so for each of the round's passes
   pub bound_stays : (p q : BookValue) (xs ys : List (LaneState P)) → RunsPasses port p q xs ys → IsAskable p
       → All (λ (l : LaneState P). HasRoomForRound port.state p l.port) xs → All (λ (l : LaneState P). HasRoomForPass port.state q l.port) ys
   bound_stays p q xs ys u r wide i d b =

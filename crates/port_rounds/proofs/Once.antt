@@ -1,4 +1,4 @@
--- That no two kept answers are for one shard of one round, and that a book stays one.
+-- No two kept answers are for the same shard in the same round, and a book stays one.
 use Rattle.std.proofs.Common.{◌≡◌, ℕ, zero, suc, ◌-◌, ◌<◌, ◌≤◌, inl, inr, true, false, List, [], ◌∷◌, ◌++◌, length, get_or, replicate, refl, ap, sym, subst, ◌∙◌, arith, length-append, None}
 use Rattle.std.specs.Prelude.{All, Contains, Option}
 use Rattle.std.proofs.lemmas.Bool.{cases_lt}
@@ -19,15 +19,15 @@ use Rattle.port_rounds.specs.Taking.{with_answers, TakesAll}
 use Rattle.port_rounds.proofs.AsksThen.{either}
 use Rattle.port_rounds.proofs.Takes.{Distinct, untaken, kept_at, kept_to, taken_before, set_takes}
 
--- ---- what went into a book
+-- ---- the answers that a book took
 
--- an answer that went into a book was one of a shard that it missed
+-- an answer that a book took was for a shard that it missed
 pub was_free : (p : BookValue) (ts : List AnswerValue) (t : AnswerValue) → TakesAll p ts → Contains ts t → is_taken p t.shard ≡ false
 was_free p [] t are h = absurd (omega (arith, h.1))
 was_free p (x ∷ ts) t are (zero, b, e) = subst (λ (a : AnswerValue). is_taken p a.shard ≡ false) e (untaken p x are.0)
 was_free p (x ∷ ts) t are (suc k, b, e) = taken_before p (x ∷ []) t.shard (was_free (with_answer p x) ts t are.1 (k, omega arith, e))
 
--- and now the book misses it no more
+-- and now the book doesn't miss it any more
 pub is_taken_now : (p : BookValue) (ts : List AnswerValue) (t : AnswerValue) → Contains ts t → is_taken (with_answers p ts) t.shard ≡ true
 is_taken_now p [] t h = absurd (omega (arith, h.1))
 is_taken_now p (x ∷ ts) t (zero, b, e) = search (arith, either, taken_before, set_takes)
@@ -50,7 +50,7 @@ book_all p looked_up (t ∷ ts) room best is are = book_all (with_answer p t) lo
 pub value_of_book : (round : ℕ) (cut : List (List Link)) (labels : List ℕ) (ts : List AnswerValue) → AreLabels labels → All (EndsUpTo (length labels)) cut → length cut ≤ MAX_SHARDS → TakesAll (opened round cut labels) ts → IsBookValue (with_answers (opened round cut labels) ts)
 value_of_book round cut labels ts labels_are ends few are = (book_all (opened round cut labels) labels ts _ _ (value_opened round cut labels labels_are ends few) are).value
 
--- ---- lists of numbers, none of which stands twice
+-- ---- lists of numbers without repeats
 
 distinct_rest : (xs ys : List ℕ) → Distinct (xs ++ ys) → Distinct ys
 distinct_rest [] ys d = d
@@ -109,9 +109,9 @@ once_of (x ∷ xs) d (suc i) (suc j) k l t a b c e same =
     let r = once_of xs rest i j k l t (omega arith) (omega arith) c e same in
     (ap suc r.0, r.1)
 
--- ---- what is kept after it
+-- ---- what is kept later
 
--- an answer of two lists, by its place
+-- an answer of two lists, by its index
 record InBoth (xs ys : List AnswerValue) (k : ℕ) (d : AnswerValue) : Type 0 where
   first : k < length xs → get_or (xs ++ ys) k d ≡ get_or xs k d
   second : length xs ≤ k → get_or (xs ++ ys) k d ≡ get_or ys (k - length xs) d
@@ -125,7 +125,7 @@ one_same a b c e p q same = subst (λ (x : AnswerValue). SameShard x e) p (subst
 other_way : (a b : AnswerValue) → SameShard a b → SameShard b a
 other_way a b same = (sym same.0, sym same.1)
 
--- once, and once more, for other shards or rounds
+-- no repeats in either, and different shards or rounds in both
 pub once_then : (n : ℕ) (at bt : ℕ → List AnswerValue) → AnswersOnce n at → AnswersOnce n bt
     → ((i j : ℕ) (a b : AnswerValue) → i < n → j < n → Contains (at i) a → Contains (bt j) b → ¬ SameShard a b) → AnswersOnce n (λ i. at i ++ bt i)
 once_then n at bt u v apart i j k l d bi bj bk bl same =

@@ -1,4 +1,4 @@
--- What one ask does to its port, and what its answer is to the book that asked for it.
+-- What one ask does to its port, and what its answer is to the book that asked.
 use Rattle.std.proofs.Common.{◌≡◌, ℕ, ◌+◌, ◌<◌, Bool, not, true, false, inl, inr, List, [], ◌∷◌, ◌++◌, length, refl, sym, ap, subst, ◌∙◌, append-nil, arith}
 use Rattle.std.specs.Prelude.{Option, Some, None, Result, Ok, Err, IfErr, OnOk, IsSome}
 use Rattle.std.specs.Result.{is_err}
@@ -25,11 +25,11 @@ pub honest_of : (value : BookValue) (cut : List (List Link)) (round shard : ℕ)
     → IsHonestAnswer cut round shard labels t → IsHonestAnswer value.cut value.round shard value.labels t
 honest_of value cut round shard labels t a b c h = search arith
 
--- it is the light offers of the shard that it names
+-- it has the light offers of the shard that it names
 pub light_of : (value : BookValue) (shard : ℕ) (t : AnswerValue) → IsHonestAnswer value.cut value.round shard value.labels t → IsLight value t
 light_of value shard t h = subst (λ (s : ℕ). IsHonestAnswer value.cut value.round s value.labels t) (sym h.shard_is) h
 
--- what isn't refused names the shard that was asked
+-- an answer that isn't rejected names the shard of the ask
 pub names_shard : (value : BookValue) (shard : ℕ) (t : AnswerValue) → refusal value shard t ≡ None → t.shard ≡ shard
 names_shard value shard t e = grind (arith, common_steps, nat_tests)
 
@@ -40,23 +40,23 @@ is_taken_of value shard t within e = search (arith, names_shard)
 pub not_taken : (missing taken : Bool) → missing ≡ not taken → missing ≡ true → taken ≡ false
 not_taken a1 a2 a3 a4 = search arith
 
--- what a claim that wasn't won says of the seat
+-- what a claim that wasn't won says about the seat
 pub where_held : (r : Claim) (fact : Type 0) → ¬ (r ≡ Won) → IfHeld r (λ (by : ℕ). fact) → fact
 where_held a1 a2 a3 a4 = search arith
 
--- the book doesn't refuse an honest answer
+-- the book doesn't reject an honest answer
 pub honest_taken : (value : BookValue) (cut : List (List Link)) (round shard : ℕ) (labels : List ℕ) (t : AnswerValue) → LightOffersAreTaken → cut ≡ value.cut → round ≡ value.round → value.labels ≡ labels → is_taken value shard ≡ false
     → IsHonestAnswer cut round shard labels t → refusal value shard t ≡ None
 honest_taken value cut round shard labels t law a b c missed h = (let r = honest_of value cut round shard labels t a b c h in law value shard t missed r.round_is r.shard_is r.light)
 
--- what a call says where it is refused, and where it isn't
+-- what a call says if it fails, and if it doesn't
 pub some_of_err : {X E : Type 0} (o : Option E) (r : Result X E) → IfErr r (λ e. o ≡ Some e) → is_err r ≡ true → IsSome o
 some_of_err a1 a2 a3 a4 = search arith
 
 pub none_of_ok : {X E : Type 0} (o : Option E) (r : Result X E) → OnOk r (o ≡ None) → is_err r ≡ false → o ≡ None
 none_of_ok a1 a2 a3 a4 = search arith
 
--- ---- one ask of an open port, for a shard that the book misses
+-- ---- one ask of an open port, about a shard that the book misses
 
 module _ {P A : Type 0} (port : Port.Ghosts P A) (value : BookValue) (a : P) (round shard : ℕ) (labels : List ℕ)
     (round_is : round ≡ value.round) (labels_are : labels ≡ value.labels) (inside : shard < length value.cut) (missed : is_taken value shard ≡ false) (live : (port.state a).is_open ≡ true) where
@@ -92,7 +92,7 @@ module _ {P A : Type 0} (port : Port.Ghosts P A) (value : BookValue) (a : P) (ro
     why_honest = λ x e f. absurd (cc);
   }
 
-  -- the answer is refused, and the port shut
+  -- the answer is rejected, and the port is shut
   pub refused_one : (m b : P) (t : AnswerValue) → IsSome (refusal value shard t) → (port.honest a → refusal value shard t ≡ None) → CountsAsks 1 0 0 (port.state a) (port.state m) → (port.state m).last ≡ (round, shard)
       → CountsAsks 0 0 0 (port.state m) (port.state b) → (port.state b).is_open ≡ false
       → ((before : List Exchange) → port.exchanged a before → port.exchanged m (before ++ exchange_of round shard labels t ∷ [])) → ((others : List Exchange) → port.exchanged m others → port.exchanged b others)

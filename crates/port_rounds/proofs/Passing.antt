@@ -138,7 +138,7 @@ module _ {P A : Type 0} (port : Port.Ghosts P A) where
     light_at = λ i d b h k e below. absurd (omega arith);
   }
 
--- answers change nothing else of the book
+-- answers change nothing else in the book
 pub record SameRound (p q : BookValue) : Type 0 where
   pub round : q.round ≡ p.round
   pub cut : q.cut ≡ p.cut
@@ -164,7 +164,7 @@ ask_before p ts w r = search (arith, same_round, taken_before)
 exchange_before : (p : BookValue) (ts : List AnswerValue) (x : Exchange) → IsExchangeOf (with_answers p ts) x → IsExchangeOf p x
 exchange_before p ts x r = record { ask = ask_before p ts (x.round, x.shard) r.ask; labels = r.labels ∙ (same_round p ts).labels }
 
--- the book says of an answer to such an ask what it said before
+-- the book says about an answer to such an ask what it said before
 same_refusal : (p : BookValue) (ts : List AnswerValue) (x : Exchange) → IsExchangeOf (with_answers p ts) x → refusal (with_answers p ts) x.shard x.answer ≡ refusal p x.shard x.answer
 same_refusal p ts x r = search (arith, same_round, refusal_of, taken_before)
 

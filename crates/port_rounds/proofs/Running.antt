@@ -35,7 +35,7 @@ opened_misses round cut labels = (let e = sum_by-replicate (λ x. cond (not x) 1
 pub opened_round : (round : ℕ) (cut : List (List Link)) (labels : List ℕ) → 0 < length cut → All (EndsUpTo (length labels)) cut → 1 ≤ round → IsAskable (opened round cut labels)
 opened_round round cut labels some ends first = search arith
 
--- answers are added behind those that the book has
+-- answers are appended to those that the book has
 pub heard_answers : (p : BookValue) (ts : List AnswerValue) → (with_answers p ts).answers ≡ p.answers ++ ts
 heard_answers p [] = sym (append-nil p.answers)
 heard_answers p (t ∷ ts) = heard_answers (with_answer p t) ts ∙ append_assoc p.answers (t ∷ []) ts
@@ -56,7 +56,7 @@ pub kept_still : (p q : BookValue) → SameRound p q → (x : Exchange) → Take
 kept_still p q s x r = rw (s.cut, s.round, s.labels) r
 
 module _ {P A : Type 0} (port : Port.Ghosts P A) where
-  -- a round leaves the book's round, cut and labels
+  -- a round doesn't change the book's round, cut and labels
   pub same_still : (round : ℕ) (cut : List (List Link)) (labels : List ℕ) (new : BookValue) (xs ys : List (LaneState P)) (k : ℕ)
       → RunsRound port (opened round cut labels) new xs ys k → SameRound (opened round cut labels) new
   same_still round cut labels new xs ys k r = search (arith, same_then, heard_same)
@@ -66,7 +66,7 @@ pub lane_at : {X : Type 0} (xs : List X) (i : ℕ) → i < length xs → X
 lane_at [] i b = absurd (omega arith)
 lane_at (x ∷ xs) i b = x
 
--- ---- kept answers beside the books
+-- ---- kept answers and the books
 
 -- the answers of a book that passes and scans filled
 filled : (old middle new : BookValue) (ts us : List AnswerValue) → middle ≡ with_answers old ts → new ≡ with_answers middle us → old.answers ≡ [] → new.answers ≡ ts ++ us
@@ -88,7 +88,7 @@ books_first books round xs ys earlier kept now i d b j e c =
 pub kept_none : {P : Type 0} (honest : P → Type 0) (xs : List (LaneState P)) → MatchesBooks honest xs [] (λ i. [])
 kept_none honest xs = search arith
 
--- what passes kept stands in the book that they and scans filled
+-- the book that passes and scans filled has the answers that passes kept
 pub kept_in : {P A : Type 0} (port : Port.Ghosts P A) (old middle new : BookValue) (xs ys : List (LaneState P)) (k : ℕ)
     → (v : RunsPasses port old middle xs ys) → ScansShards middle new k → old.answers ≡ [] → MatchesBooks port.honest xs (new ∷ []) v.answers_at
 kept_in port old middle new xs ys k v w none =
@@ -119,7 +119,7 @@ kept_round honest xs books at i t values u b h =
     let value : IsBookValue r.0 = All-contains IsBookValue books r.0 values r.1 in
     (r.0, r.1, (All-contains (IsRight r.0.round r.0.cut r.0.labels) r.0.answers t value.right r.2).round_is)
 
--- kept answers beside books, and beside one book more of a later round
+-- kept answers and their books, and those of another book of a later round
 pub kept_then : {P : Type 0} (honest : P → Type 0) (xs ys : List (LaneState P)) (books : List BookValue) (new : BookValue) (at bt : ℕ → List AnswerValue) → length ys ≡ length xs
     → ((i : ℕ) (d : LaneState P) → i < length xs → honest (get_or xs i d).port → honest (get_or ys i d).port) → All IsBookValue books → IsBookValue new → All (λ (book : BookValue). book.round < new.round) books
     → MatchesBooks honest xs books at → MatchesBooks honest ys (new ∷ []) bt → MatchesBooks honest xs (books ++ new ∷ []) (λ i. at i ++ bt i)
@@ -158,7 +158,7 @@ kept_then {P} honest xs ys books new at bt same stays values value earlier u v =
           absurd (omega arith)));
     }
 
--- what no lane kept, none had kept before
+-- an answer that no lane kept wasn't kept before either
 scanned_before : (book : BookValue) (at bt : ℕ → List AnswerValue) (lanes : ℕ) → HasScanned lanes (λ i. at i ++ bt i) book → HasScanned lanes at book
 scanned_before book at bt lanes (t, has, alone) = (t, has, λ g. alone (g.0, g.1, Contains-append_left (at g.0) (bt g.0) t g.2))
 
@@ -179,7 +179,7 @@ module _ {P A : Type 0} (port : Port.Ghosts P A) where
     light = λ h i d b. absurd (omega arith);
   }
 
-  -- a round more, over a book that was opened for the cut
+  -- another round, over a book that was opened for the cut
   pub rounds_then : (cut : List (List Link)) (round : ℕ) (labels : List ℕ) (new : BookValue) (xs ys zs : List (LaneState P)) (books : List BookValue) (answered alone k : ℕ)
       → RunsRounds port cut xs ys books answered alone → All (λ (book : BookValue). book.round < round) books → (r : RunsRound port (opened round cut labels) new ys zs k) → IsBookValue new
       → RunsRounds port cut xs zs (books ++ new ∷ []) (answered + length r.passes.answers) (alone + k)

@@ -36,7 +36,7 @@ scanned_then p q r n m u v = record {
 pub stays_taken : (p q : BookValue) (n : ℕ) (k : ℕ) → ScansShards p q n → is_taken p k ≡ true → is_taken q k ≡ true
 stays_taken p q n k u t = search (arith, either, taken_before)
 
--- one scan took the shard that was missing: it took one
+-- one scan took the shard that was missing, which is one
 pub all_taken : (xs : List Bool) → ((k : ℕ) → k < length xs → get_or xs k true ≡ true) → count_by not xs ≡ 0
 all_taken [] h = refl
 all_taken (true ∷ xs) h = all_taken xs (λ k b. h (suc k) (omega arith))

@@ -94,7 +94,8 @@ module _ {P A : Type 0} (port : Port.Ghosts P A) (value : BookValue) where
   kept_all (x ∷ xs) [] p = absurd p
   kept_all (x ∷ xs) (y ∷ ys) p = All-append (Takes value) y.kept (kept_answers ys) p.0.taken (kept_all xs ys p.1)
 
-  -- what the ferries kept names each shard once, as the lists of the seats do, and the book takes it one after the other
+  -- the answers that the ferries kept name each shard once, as the lists of the seats do, and the book takes them one
+  -- after the other
   pub kept_apart : (xs ys : List (LaneState P)) (row : List SeatState) → AllZip (RunsFerry port value) xs ys → row ≡ seats_of ys → AllPairs (λ a b. a ≢ b) (all_held row)
       → Distinct (shards_of (kept_answers ys)) × TakesAll value (kept_answers ys)
   kept_apart xs ys row f back apart = search (arith, held_kept, distinct_of, taken_of, kept_all)

@@ -1,4 +1,4 @@
--- What the rounds of a run leave for its end.
+-- What the rounds of a run mean for its end.
 use Rattle.std.proofs.Common.{◌≡◌, ℕ, zero, suc, ◌+◌, ◌-◌, ◌*◌, ◌<◌, ◌≤◌, ◌^◌, List, [], ◌∷◌, ◌++◌, length, get_or, refl, ap, sym, subst, ◌∙◌, arith, length-append, Some, None}
 use Rattle.std.specs.Prelude.{All, Any, Contains, Option, map}
 use Rattle.std.proofs.Math.Nat.{mul-le-mul_right}
@@ -62,7 +62,7 @@ all_front P xs ys all i d b = subst P (get_or_append_left xs ys d i b) (all i d 
 any_more : {X : Type 0} (P Q : X → Type 0) (xs : List X) → ((x : X) → P x → Q x) → Any P xs → Any Q xs
 any_more P Q xs h (k, y, lt, at, here) = (k, y, lt, at, h y here)
 
--- a link that an answer of a whole book names is one of the cut
+-- a link that an answer of a full book names is one of the cut
 pub from_cut : (cut : List (List Link)) (books : List BookValue) (l : Link) → All (IsFullBook cut) books → IsNamedIn books l → Contains (joined cut) l
 from_cut cut books l whole named =
     let book = named.0 in
@@ -72,7 +72,7 @@ from_cut cut books l whole named =
     subst (λ (c : List (List Link)). Contains (joined c) l) is.cut_is ((full_book_has_all_links book is.value is.all l).1 there)
 
 module _ {P A : Type 0} (port : Port.Ghosts P A) where
-  -- where the coordinator scanned nothing, a lane kept the answer that named it
+  -- if the coordinator scanned nothing, a lane kept the answer that named it
   pub named_given : (cut : List (List Link)) (xs ys : List (LaneState P)) (books : List BookValue) (answered alone : ℕ) (u : RunsRounds port cut xs ys books answered alone)
       → alone ≡ 0 → (l : Link) → IsNamedIn books l → (answer : AnswerValue) × IsGivenBy (length xs) u.answers_at answer × Names (hearing_of cut answer) l
   named_given cut xs ys books answered alone u none l named =
@@ -83,7 +83,7 @@ module _ {P A : Type 0} (port : Port.Ghosts P A) where
       let r = any_of_map (λ h. Names h l) (hearing_of book.cut) book.answers named.2 in
       (r.0, All-contains (IsGivenBy (length xs) u.answers_at) book.answers r.0 given r.1, subst (λ (c : List (List Link)). Names (hearing_of c r.0) l) whole.cut_is r.2)
 
-  -- ---- the room for a round more
+  -- ---- the counts can rise enough for another round
 
   pub wide_still : (cut : List (List Link)) (round : ℕ) (labels : List ℕ) (xs ys : List (LaneState P)) (books : List BookValue) (answered alone : ℕ)
       → RunsRounds port cut xs ys books answered alone → length cut ≤ 4096 → length books ≤ 32

@@ -12,7 +12,7 @@ use Rattle.port_rounds.specs.Asks.{Takes, shards_of}
 use Rattle.port_rounds.specs.Lanes.{LaneState, kept_answers}
 use Rattle.port_rounds.specs.Taking.{with_answers, TakesAll}
 
--- taking the last of a list off takes the first of its reverse off
+-- to remove the last element of a list is to remove the first of its reverse
 pub popped : {X : Type 0} (xs ys : List X) (x : X) → ys ≡ xs ++ x ∷ [] → reverse ys ≡ x ∷ reverse xs
 popped xs ys x e = ap (λ zs. reverse zs) e ∙ reverse-append xs (x ∷ [])
 
@@ -32,7 +32,7 @@ stay_all p s (t ∷ ts) none k =
     let rest = stay_all p s ts (λ h. none (suc h.0, omega arith, h.2)) (All-tail (Takes p) t ts k) in
     All-cons (Takes (with_answer p s)) t ts (kept_stays p s t other (All-head (Takes p) t ts k)) rest
 
--- no number stands twice
+-- no number occurs twice
 abbrev pub Distinct : List ℕ → Type 0
 Distinct [] = Unit {0}
 Distinct (x ∷ xs) = (¬ Contains xs x) × Distinct xs
@@ -54,7 +54,7 @@ within [] i e = absurd (cc)
 within (x ∷ xs) zero e = omega arith
 within (x ∷ xs) (suc i) e = omega (arith, within xs i e)
 
--- each answer taken is one shard fewer that is missing
+-- with each answer taken, one shard fewer is missing
 pub taken_one : (p : BookValue) (t : AnswerValue) → Takes p t → missing (with_answer p t) + 1 ≡ missing p
 taken_one p t k = search (arith, untaken, within, sum_by-set, cond)
 
@@ -73,7 +73,7 @@ pub taken_both : (p : BookValue) (xs ys : List AnswerValue) → TakesAll p xs �
 taken_both p [] ys f g = g
 taken_both p (x ∷ xs) ys f g = (f.0, taken_both (with_answer p x) xs ys f.1 g)
 
--- what is free later on is free now
+-- what is free later is free now
 set_before : (xs : List Bool) (i k : ℕ) → get_or (set xs i true) k true ≡ false → get_or xs k true ≡ false
 set_before [] i k e = e
 set_before (x ∷ xs) zero zero e = absurd (cc)
@@ -85,7 +85,6 @@ pub taken_before : (p : BookValue) (ts : List AnswerValue) (s : ℕ) → is_take
 taken_before p [] s e = e
 taken_before p (t ∷ ts) s e = set_before p.taken t.shard s (taken_before (with_answer p t) ts s e)
 
--- a shard that is taken is taken
 pub set_takes : (xs : List Bool) (i : ℕ) → get_or (set xs i true) i true ≡ true
 set_takes [] i = refl
 set_takes (x ∷ xs) zero = refl

@@ -1,4 +1,4 @@
--- A seat's way round, step by step.
+-- A seat's way around, step by step.
 use Rattle.std.proofs.Common.{◌≡◌, ℕ, ◌+◌, ◌<◌, ◌≤◌, List, [], ◌∷◌, ◌++◌, map, refl, sym, ap, subst, ◌∙◌, arith}
 use Rattle.std.proofs.lemmas.List.{map-append}
 use Rattle.std.proofs.lemmas.List.Elements.{All-push}
@@ -13,7 +13,7 @@ none_passed first shards = record { chosen = []; ascending = λ i j d l b. absur
 pub passed_on : (first shards steps more : ℕ) (passed : List ℕ) → steps ≤ more → AreOnWay first shards steps passed → AreOnWay first shards more passed
 passed_on first shards steps more passed le way = search arith
 
--- the shard at the next step is kept
+-- the answer about the shard at the next step is kept
 pub passed_one : (first shards steps : ℕ) (passed : List ℕ) (shard : ℕ) → shard ≡ shard_at first steps shards → AreOnWay first shards steps passed
     → AreOnWay first shards (steps + 1) (passed ++ shard ∷ [])
 passed_one first shards steps passed shard here way = record {
@@ -25,7 +25,7 @@ passed_one first shards steps passed shard here way = record {
       ∙ (ap (λ s. map (λ step. shard_at first step shards) way.chosen ++ s ∷ []) here ∙ sym (map-append (λ step. shard_at first step shards) way.chosen (steps ∷ [])));
 }
 
--- a way from the seat's own place on is the seat's
+-- a way from the seat's own beginning is the seat's
 pub whole_way : (board : BoardState) (seat : SeatState) (first shards steps : ℕ) (passed : List ℕ) → seat.board ≡ board → board.shards ≡ shards → first ≡ first_of seat.number board.seats shards
     → steps ≤ shards → AreOnWay first shards steps passed → IsWayOf seat passed
 whole_way board seat first shards steps passed of_board same first_is le way = search (arith, passed_on)

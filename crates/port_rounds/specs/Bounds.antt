@@ -1,4 +1,4 @@
--- What a run, a round and its passes begin with.
+-- What holds before a run, a round and its passes.
 use Rattle.std.specs.Prelude.{◌≡◌, ℕ, ◌+◌, ◌-◌, ◌<◌, ◌≤◌, ◌^◌, List, length, All}
 use Rattle.claim_board.specs.State.{BoardState}
 use Rattle.limits.specs.declared.TheConstants.{MAX_SHARDS, MAX_VERTICES, MAX_WORKERS}
@@ -9,23 +9,24 @@ use Rattle.round_core.specs.Solver.{Progress, vertices}
 use Rattle.round_theory.specs.Ports.{PortState}
 use Rattle.port_rounds.specs.Lanes.{LaneState}
 
--- a book whose shards may be asked for: there is one, its labels are those of all ends, and its round has a number
+-- a book whose shards may be asked about: there is one, its labels are those of all endpoints, and its round has a
+-- number
 pub record IsAskable (value : BookValue) : Type 0 where
   pub some_shard : 0 < length value.cut
   pub ends : All (EndsUpTo (length value.labels)) value.cut
   pub round : 1 ≤ value.round
 
--- a board of the shards of the book
 pub record IsBoardOf (board : BoardState) (value : BookValue) : Type 0 where
   pub shards : board.shards ≡ length value.cut
   pub seats : board.seats ≤ MAX_WORKERS
 
--- a port of the book's cut that may be asked once for each shard
+-- a port of the book's cut that may be asked once about each shard
 pub record HasRoomForPass {P : Type 0} (state : P → PortState) (value : BookValue) (port : P) : Type 0 where
   pub cut : (state port).cut ≡ value.cut
   pub count : (state port).asks + length value.cut < 2 ^ 64 - 1
 
--- a port of the book's cut whose count has room for the asks of all passes of a round: one for each shard that is missing, and one that closes it
+-- A port of the book's cut, whose count can rise by the asks of all passes of a round. These are one for each missing
+-- shard, and one that closes it.
 pub record HasRoomForRound {P : Type 0} (state : P → PortState) (value : BookValue) (port : P) : Type 0 where
   pub cut : (state port).cut ≡ value.cut
   pub count : (state port).asks + (missing value + length value.cut + 1) < 2 ^ 64 - 1
@@ -37,7 +38,8 @@ pub record CanAskRound {P : Type 0} (state : P → PortState) (cut : List (List 
   pub ends : All (EndsUpTo (vertices p)) cut
   pub wide : All (λ lane. HasRoomForRound state (opened (p.rounds + 1) cut p.labels) lane.port) lanes
 
--- the lanes can be asked in a whole run for the vertices 1 to n: their ports are of the cut, and their counts have room
+-- the lanes can be asked in a whole run for the vertices 1 to `n`: their ports are of the cut, and their counts can
+-- rise enough
 pub record CanRun {P : Type 0} (state : P → PortState) (n : ℕ) (cut : List (List Link)) (lanes : List (LaneState P)) : Type 0 where
   pub few_vertices : n ≤ MAX_VERTICES
   pub ends : All (EndsUpTo n) cut

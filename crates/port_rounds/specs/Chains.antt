@@ -1,4 +1,4 @@
--- The books of a run, one after the other, and the solver that they lead to.
+-- The books of a run, one after the other, and the solver to which they lead.
 use Rattle.std.specs.Prelude.{◌≡◌, ℕ, ◌+◌, List, [], ◌∷◌, Option}
 use Rattle.links.specs.declared.links.Link.{Link}
 use Rattle.round_theory.specs.Offers.{IsNamed}
@@ -31,7 +31,7 @@ abbrev pub MergesBooks : Progress → List BookValue → Progress → Type 0
 MergesBooks old [] new = new ≡ old
 MergesBooks old (book ∷ books) new = (middle : Progress) × MergesBook old book middle × MergesBooks middle books new
 
--- a solver for the vertices 1 to n has come so far by a merging round with each of the books, and by no other
+-- a solver for the vertices 1 to `n` has come so far by a merging round with each of the books, and by no other round
 pub record MergesFromStart (n : ℕ) (books : List BookValue) (p : Progress) : Type 0 where
   pub start : Progress
   pub at_start : IsAtStart n start

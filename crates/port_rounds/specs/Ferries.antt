@@ -10,7 +10,7 @@ use Rattle.port_rounds.specs.Lanes.{LaneState}
 use Rattle.port_rounds.specs.Bounds.{HasRoomForPass}
 use Rattle.port_rounds.specs.Asks.{AnswersAsks, TakesExchange, ClosesPort, Takes, IsLight, shards_of}
 
--- a lane that a ferry may begin with, over a board and a book
+-- a lane with which a ferry may begin, over a board and a book
 pub record IsReady {P : Type 0} (state : P → PortState) (board : BoardState) (value : BookValue) (lane : LaneState P) : Type 0 where
   pub bound : HasRoomForPass state value lane.port
   pub seated : (state lane.port).is_open ≡ is_some lane.seat
@@ -18,32 +18,33 @@ pub record IsReady {P : Type 0} (state : P → PortState) (board : BoardState) (
   pub none_kept : lane.kept ≡ []
   pub room : length value.cut ≤ lane.room
 
--- the seat after a ferry: what it holds are these shards
+-- the seat after a ferry, which holds exactly these shards
 abbrev pub HoldsShards : Option SeatState → Option SeatState → List ℕ → Type 0
 HoldsShards None after shards = (after ≡ None) × (shards ≡ [])
 HoldsShards (Some before) None shards = ⊥
 HoldsShards (Some before) (Some after) shards = (after.board ≡ before.board) × (after.number ≡ before.number) × (held after.events ≡ shards)
 
--- where seat p of k begins its way round s shards
+-- the shard at which a seat of `seats` begins to go around the shards
 abbrev pub first_of : ℕ → ℕ → ℕ → ℕ
 first_of seat seats shards = seat * shards / seats
 
--- the shard at a step of the way round
+-- the shard at a step of the way around
 abbrev pub shard_at : ℕ → ℕ → ℕ → ℕ
 shard_at first step shards = (first + step) % shards
 
--- the shards that some of so many steps of the way round come by, in the order of the steps
+-- shards that are reached in some of the steps of the way around, in the order of the steps
 pub record AreOnWay (first shards steps : ℕ) (passed : List ℕ) : Type 0 where
   pub chosen : List ℕ
   pub ascending : AllPairs (λ earlier later. earlier < later) chosen
   pub within : All (λ step. step < steps) chosen
   pub passed_are : passed ≡ map (λ step. shard_at first step shards) chosen
 
--- the shards come in the order of the seat's way, once round all shards of its board
+-- the shards come in the order of the seat's way, once around all shards of its board
 abbrev pub IsWayOf : SeatState → List ℕ → Type 0
 IsWayOf seat passed = AreOnWay (first_of seat.number seat.board.seats seat.board.shards) seat.board.shards seat.board.shards passed
 
--- a lane before and after its ferry: it kept answers that the book takes, each for a shard that its seat holds, in the order of the seat's way round
+-- A lane before and after its ferry. It kept answers that the book takes, each for a shard that its seat holds, in the
+-- order of the seat's way around.
 pub record RunsFerry {P A : Type 0} (port : Port.Ghosts P A) (value : BookValue) (before after : LaneState P) : Type 0 where
   pub asked : AnswersAsks port (TakesExchange value) (ClosesPort value) before.port after.port after.kept
   pub seat : HoldsShards before.seat after.seat (shards_of after.kept)

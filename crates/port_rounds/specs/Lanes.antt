@@ -4,7 +4,7 @@ use Rattle.claim_board.specs.State.{SeatState}
 use Rattle.links.specs.AnswerValue.{AnswerValue}
 use Rattle.round_theory.specs.Ports.{PortState}
 
--- a lane: its port, its seat and its kept answers while it has any, and the room for kept answers
+-- a lane: its port, its seat if it has one, the answers that it kept, and how many of these it has memory for
 pub record LaneState (P : Type 0) : Type 0 where
   pub port : P
   pub seat : Option SeatState
@@ -16,7 +16,7 @@ pub record IsIdle {P : Type 0} (lane : LaneState P) : Type 0 where
   pub no_seat : lane.seat ≡ None
   pub none_kept : lane.kept ≡ []
 
--- 1 where it holds
+-- 1 if it holds, and otherwise 0
 abbrev pub count_if : Bool → ℕ
 count_if true = 1
 count_if false = 0

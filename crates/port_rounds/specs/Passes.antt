@@ -1,4 +1,4 @@
--- What passes do: to each lane, and to the book.
+-- What passes do to each lane and to the book.
 use Rattle.std.specs.Prelude.{◌≡◌, ℕ, ◌+◌, ◌<◌, ◌≤◌, List, length, slice_index_or, All, Contains}
 use Rattle.links.specs.AnswerValue.{AnswerValue}
 use Rattle.round_core.specs.BookValue.{BookValue, missing}
@@ -7,21 +7,21 @@ use Rattle.port_rounds.specs.Lanes.{LaneState, ask_count, open_count}
 use Rattle.port_rounds.specs.Asks.{AnswersAsks, TakesExchange, ClosesPort, IsLight, SameShard}
 use Rattle.port_rounds.specs.Taking.{with_answers, TakesAll}
 
--- of the answers that so many lanes kept, no two are for one shard of one round
+-- among the answers that the lanes kept, no two are for the same shard in the same round
 abbrev pub AnswersOnce : ℕ → (ℕ → List AnswerValue) → Type 0
 AnswersOnce lanes answers_at =
     (i j k l : ℕ) (d : AnswerValue) → i < lanes → j < lanes → k < length (answers_at i) → l < length (answers_at j)
     → SameShard (slice_index_or (answers_at i) k d) (slice_index_or (answers_at j) l d) → (i ≡ j) × (k ≡ l)
 
--- each answer that a lane with an honest port kept is so, whatever the other lanes are
+-- each answer that a lane with an honest port kept has this property, whatever the other lanes are
 abbrev pub KeepsHonestly : {P : Type 0} → (P → Type 0) → (AnswerValue → Type 0) → List (LaneState P) → (ℕ → List AnswerValue) → Type 0
 KeepsHonestly {P = P} honest is lanes answers_at =
     (i : ℕ) (d : LaneState P) → i < length lanes → honest (slice_index_or lanes i d).port → All is (answers_at i)
 
--- lanes and a book before and after some passes: these answers went into the book, and each is one that a lane's port gave
+-- lanes and a book before and after passes: the book took these answers, and each is one that a lane's port gave
 pub record RunsPasses {P A : Type 0} (port : Port.Ghosts P A) (old new : BookValue) (before after : List (LaneState P)) : Type 0 where
   pub answers : List AnswerValue
-  -- those of the lane at each place
+  -- those of the lane at each index
   pub answers_at : ℕ → List AnswerValue
   pub same_lanes : length after ≡ length before
   pub each : (i : ℕ) (d : LaneState P) → i < length before
@@ -30,7 +30,7 @@ pub record RunsPasses {P A : Type 0} (port : Port.Ghosts P A) (old new : BookVal
   pub reached : (i : ℕ) (answer : AnswerValue) → i < length before → Contains (answers_at i) answer → Contains answers answer
   pub once : AnswersOnce (length before) answers_at
   pub few : (i : ℕ) → length (answers_at i) ≤ length answers
-  -- each ask brought an answer, but for those that closed a port
+  -- each ask brought an answer, except those that closed a port
   pub asks : ask_count port.state after + open_count port.state after
       ≡ (ask_count port.state before + length answers) + open_count port.state before
   pub never_opened : open_count port.state after ≤ open_count port.state before

@@ -5,8 +5,8 @@ use Rattle.links.specs.Cut.{joined}
 use Rattle.links.specs.Least.{sum_of_weights}
 use Rattle.plain_run.specs.declared.report.Report.{Report}
 
--- a report of a run for the vertices 1 to n over a cut, which found this forest: each ask brought an answer or closed a
--- port, and each shard of each round was answered or scanned alone
+-- A report of a run for the vertices 1 to `n` over a cut, which found this forest. Each ask brought an answer or closed
+-- a port, and each shard of each round was answered or scanned alone.
 pub record IsReportOf (n : ℕ) (cut : List (List Link)) (forest : List Link) (report : Report) : Type 0 where
   pub vertices : report.vertices ≡ n
   pub links : report.links ≡ length (joined cut)

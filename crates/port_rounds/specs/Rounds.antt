@@ -9,7 +9,8 @@ use Rattle.port_rounds.specs.Lanes.{LaneState, open_count}
 use Rattle.port_rounds.specs.Passes.{RunsPasses}
 use Rattle.port_rounds.specs.Scanned.{ScansShards}
 
--- first the ports were asked, and then the coordinator scanned so many shards alone, which it does only where no port is open
+-- first the ports were asked, and then the coordinator scanned `alone` shards alone, which it does only if no port is
+-- open
 pub record RunsRound {P A : Type 0} (port : Port.Ghosts P A) (old new : BookValue) (before after : List (LaneState P)) (alone : ℕ) : Type 0 where
   pub middle : BookValue
   pub passes : RunsPasses port old middle before after

@@ -1,4 +1,4 @@
--- What the rounds of a run do: to each lane, and to one book after another.
+-- What the rounds of a run do to each lane, and to one book after another.
 use Rattle.std.specs.Prelude.{◌≡◌, ℕ, ◌+◌, ◌*◌, ◌<◌, ◌≤◌, ◌⊎◌, true, false, List, length, slice_index_or, All, Contains, Option}
 use Rattle.links.specs.declared.links.Link.{Link}
 use Rattle.links.specs.AnswerValue.{AnswerValue}
@@ -11,19 +11,19 @@ use Rattle.port_rounds.specs.Lanes.{LaneState, ask_count, open_count}
 use Rattle.port_rounds.specs.Asks.{AnswersAsks, TakesExchange, ClosesPort, IsLight}
 use Rattle.port_rounds.specs.Passes.{AnswersOnce, KeepsHonestly}
 
--- the book, as it was opened
+-- the book when it was opened
 abbrev pub opened_book : BookValue → BookValue
 opened_book book = opened book.round book.cut book.labels
 
--- an ask of one of the books, as it was opened, the last one of a port, brought no answer, or one that the book refuses
+-- An ask of one of the books when it was opened, the last one of a port, got no answer, or one that the book rejects.
 abbrev pub ClosesPortIn : List BookValue → ℕ × ℕ → Option Exchange → Type 0
 ClosesPortIn books last refused = (book : BookValue) × Contains books book × ClosesPort (opened_book book) last refused
 
--- an exchange of one of the books, as it was opened, whose answer it takes for the shard that was asked
+-- an exchange of one of the books when it was opened, whose answer that book takes for the shard of the ask
 abbrev pub IsKeptIn : List BookValue → Exchange → Type 0
 IsKeptIn books exchange = (book : BookValue) × Contains books book × TakesExchange (opened_book book) exchange
 
--- the ports of lanes before and after asks of these books, of which these answers were kept at each lane's place
+-- the ports of lanes before and after asks of these books, and the answers that the lane at each index kept
 pub record PortsAnswer {P A : Type 0} (port : Port.Ghosts P A) (books : List BookValue)
     (before after : List (LaneState P)) (answers_at : ℕ → List AnswerValue) : Type 0 where
   pub same_lanes : length after ≡ length before
@@ -34,7 +34,7 @@ pub record PortsAnswer {P A : Type 0} (port : Port.Ghosts P A) (books : List Boo
 abbrev pub IsGivenBy : ℕ → (ℕ → List AnswerValue) → AnswerValue → Type 0
 IsGivenBy lanes answers_at answer = (i : ℕ) × (i < lanes) × Contains (answers_at i) answer
 
--- no lane kept one of the book's answers: the coordinator scanned that shard itself
+-- no lane kept one of the book's answers, so the coordinator scanned that shard itself
 abbrev pub HasScanned : ℕ → (ℕ → List AnswerValue) → BookValue → Type 0
 HasScanned lanes answers_at book = (answer : AnswerValue) × Contains book.answers answer × ¬ (IsGivenBy lanes answers_at answer)
 
@@ -42,7 +42,7 @@ HasScanned lanes answers_at book = (answer : AnswerValue) × Contains book.answe
 abbrev pub ClosesBy : ℕ → PortState → PortState → Type 0
 ClosesBy round before after = before.is_open ≡ true → (after.is_open ≡ false) × (after.last.0 ≤ round)
 
--- the same of the port of each lane
+-- the same for the port of each lane
 abbrev pub AllCloseBy : {P : Type 0} → (P → PortState) → ℕ → List (LaneState P) → List (LaneState P) → Type 0
 AllCloseBy {P} state round before after = (i : ℕ) (d : LaneState P) → i < length before
     → ClosesBy round (state (slice_index_or before i d).port) (state (slice_index_or after i d).port)
@@ -55,11 +55,10 @@ IsAnswerIn books answer = (book : BookValue) × Contains books book × Contains 
 abbrev pub IsLightIn : List BookValue → AnswerValue → Type 0
 IsLightIn books answer = (book : BookValue) × Contains books book × Contains book.answers answer × IsLight book answer
 
--- each answer of the books is light
 abbrev pub AreLightBooks : List BookValue → Type 0
 AreLightBooks books = All (λ book. All (IsLight book) book.answers) books
 
--- the answers that lanes kept, beside the books that they went into
+-- the answers that lanes kept, and the books that took them
 pub record MatchesBooks {P : Type 0} (honest : P → Type 0) (before : List (LaneState P))
     (books : List BookValue) (answers_at : ℕ → List AnswerValue) : Type 0 where
   pub reached : (i : ℕ) (answer : AnswerValue) → i < length before → Contains (answers_at i) answer → IsAnswerIn books answer
@@ -73,14 +72,14 @@ pub record MatchesBooks {P : Type 0} (honest : P → Type 0) (before : List (Lan
 abbrev pub IsNamedIn : List BookValue → Link → Type 0
 IsNamedIn books l = (book : BookValue) × Contains books book × IsNamed (hearings book) l
 
--- a whole book of the cut: each shard has one answer, and no other stands in it
+-- a full book of the cut: each shard has one answer, and it has no other answer
 pub record IsFullBook (cut : List (List Link)) (book : BookValue) : Type 0 where
   pub cut_is : book.cut ≡ cut
   pub value : IsBookValue book
   pub all : missing book ≡ 0
 
--- lanes before and after whole rounds over books of a cut: the books have so many answers that lanes kept, and so many
--- others, each of which is light: those the coordinator scanned itself
+-- Lanes before and after whole rounds over books of a cut. The books have `answered` answers that lanes kept, and
+-- `alone` others, each of which is light: the coordinator scanned those shards itself.
 pub record RunsRounds {P A : Type 0} (port : Port.Ghosts P A) (cut : List (List Link))
     (before after : List (LaneState P)) (books : List BookValue) (answered alone : ℕ) : Type 0 where
   pub whole : All (IsFullBook cut) books
@@ -90,13 +89,13 @@ pub record RunsRounds {P A : Type 0} (port : Port.Ghosts P A) (cut : List (List 
   pub few : (i : ℕ) → length (answers_at i) ≤ answered
   -- each shard of each round has an answer that a lane kept, or another
   pub counted : answered + alone ≡ length books * length cut
-  -- each ask brought an answer, but for those that closed a port
+  -- each ask brought an answer, except those that closed a port
   pub asks : ask_count port.state after + open_count port.state after
       ≡ (ask_count port.state before + answered) + open_count port.state before
   pub never_opened : open_count port.state after ≤ open_count port.state before
   pub closed : 0 < alone → open_count port.state after ≡ 0
-  -- in each round: where the coordinator scanned a shard, every port was closed by then, and none was asked in a later round
+  -- in each round: if the coordinator scanned a shard, every port had been closed, and none was asked in a later round
   pub closed_by : All (λ book. HasScanned (length before) answers_at book → AllCloseBy port.state book.round before after) books
-  -- where the coordinator scanned nothing, each answer is one that a lane kept
+  -- if the coordinator scanned nothing, each answer is one that a lane kept
   pub given : alone ≡ 0 → All (λ book. All (IsGivenBy (length before) answers_at) book.answers) books
   pub light : All (λ lane. port.honest lane.port) before → AreLightBooks books

@@ -5,7 +5,7 @@ use Rattle.round_core.specs.BookValue.{BookValue, missing}
 use Rattle.port_rounds.specs.Asks.{IsLight}
 use Rattle.port_rounds.specs.Taking.{with_answers}
 
--- so many shards were scanned, and their light offers went into the book
+-- `count` shards were scanned, and the book took their light offers
 pub record ScansShards (old new : BookValue) (count : ℕ) : Type 0 where
   pub answers : List AnswerValue
   pub count_is : length answers ≡ count

@@ -21,7 +21,6 @@ use Rattle.port_rounds.specs.Runs.{IsFullBook, MatchesBooks, AreLightBooks, Port
 use Rattle.port_rounds.specs.Chains.{IsNextBook, HasPicks, MergesFromStart}
 use Rattle.port_rounds.specs.Reports.{IsReportOf}
 
--- each lane's port is honest
 abbrev pub AreHonest : {P : Type 0} → (P → Type 0) → List (LaneState P) → Type 0
 AreHonest honest lanes = All (λ lane. honest lane.port) lanes
 
@@ -35,7 +34,7 @@ module _ {P A : Type 0} (port : Port.Ghosts P A) (cut : List (List Link)) where
     pub picked : PicksInRound port (old.rounds + 1) cut old.labels before after picks alone
     pub stepped : IsTurn picks old new turn
 
-  -- however a turn ended: what it did to the lanes' ports, and the book that it filled, as far as it came
+  -- however a round ended: what it did to the lanes' ports, and its book, as far as that was filled
   pub record AsksInRound (old : Progress) (before after : List (LaneState P)) : Type 0 where
     pub book : BookValue
     pub next : IsNextBook cut old book
@@ -43,7 +42,7 @@ module _ {P A : Type 0} (port : Port.Ghosts P A) (cut : List (List Link)) where
     pub ports : PortsAnswer port (book ∷ []) before after answers_at
     pub kept : MatchesBooks port.honest before (book ∷ []) answers_at
 
-  -- a round under the solver's labels, whose picks the solver refuses
+  -- a round under the solver's labels, whose picks the solver rejects
   pub record RefusesPicks (old : Progress) (before after : List (LaneState P)) (fault : SolveFault) : Type 0 where
     pub picks : List (Option Link)
     pub alone : ℕ
@@ -51,13 +50,14 @@ module _ {P A : Type 0} (port : Port.Ghosts P A) (cut : List (List Link)) where
     pub picked : PicksInRound port (old.rounds + 1) cut old.labels before after picks alone
     pub refused : IsStepFault old picks fault
 
-  -- why a turn ends ill: want of memory, or the solver refuses the picks
+  -- why a round fails: memory ran out, or the solver rejects the picks
   abbrev pub IsTurnFault : Progress → List (LaneState P) → List (LaneState P) → SolveFault → Type 0
   IsTurnFault old before after fault = (fault ≡ Memory) ⊎ RefusesPicks old before after fault
 
 -- ---- rounds from the start of a run
 
--- the books that a run asked for: none, or a whole one for each merging round, and the one of the solver's next round, as far as it was filled
+-- The books about which a run asked. There are none; or there is a full one for each merging round, and that of the
+-- solver's next round, as far as it was filled.
 abbrev pub AreRunBooks : ℕ → List (List Link) → List BookValue → Type 0
 AreRunBooks n cut books =
     (books ≡ [])
@@ -69,12 +69,12 @@ pub record HasAllRoundsOf (links : List Link) (p : Progress) : Type 0 where
   pub so_far : HasRoundsOf links p
   pub all : IsMergingRounds (vertices p) links p.rounds
 
--- an answer that one of so many lanes kept names the link
+-- an answer that one of the lanes kept names the link
 abbrev pub IsNamedByLane : List (List Link) → ℕ → (ℕ → List AnswerValue) → Link → Type 0
 IsNamedByLane cut lanes answers_at l = (answer : AnswerValue) × IsGivenBy lanes answers_at answer × Names (hearing_of cut answer) l
 
 module _ {P A : Type 0} (port : Port.Ghosts P A) (n : ℕ) (cut : List (List Link)) (before after : List (LaneState P)) where
-  -- merging rounds from a run's start, which led to this solver, and one whole round more, of which these are the picks
+  -- merging rounds from a run's start, which led to this solver, and another whole round, of which these are the picks
   pub record PicksAfterRounds (solver : Progress) (picks : List (Option Link)) (answered alone : ℕ) : Type 0 where
     pub merging : List BookValue
     pub last : BookValue
@@ -90,7 +90,7 @@ module _ {P A : Type 0} (port : Port.Ghosts P A) (n : ℕ) (cut : List (List Lin
     pub ports : PortsAnswer port books before after answers_at
     pub kept : MatchesBooks port.honest before books answers_at
 
-  -- rounds of a run until one had no picks: an answer of each link that the solver took stands in a book
+  -- rounds of a run until one had no picks: for each link that the solver took, a book has an answer that names it
   pub record MergesAll (solver : Progress) (answered alone : ℕ) : Type 0 where
     pub picks : List (Option Link)
     pub went : PicksAfterRounds solver picks answered alone
@@ -100,10 +100,11 @@ module _ {P A : Type 0} (port : Port.Ghosts P A) (n : ℕ) (cut : List (List Lin
     pub in_time : 2 ^ solver.rounds ≤ max 1 n
     pub vertices_are : vertices solver ≡ n
     pub named : All (IsNamedIn went.merging) solver.taken
-    -- where each answer is light, whoever gave it
+    -- if each answer is light, whoever gave it
     pub right : AreLightBooks (went.merging ++ went.last ∷ []) → HasAllRoundsOf (joined cut) solver
 
-  -- rounds of a run, after which the solver refuses the picks of the last one, or there were none and it can't be finished
+  -- Rounds of a run, after which the solver rejects the picks of the last one; or there were none, and the solver can't
+  -- be finished.
   pub record RefusesRun (fault : SolveFault) : Type 0 where
     pub solver : Progress
     pub picks : List (Option Link)
@@ -112,14 +113,14 @@ module _ {P A : Type 0} (port : Port.Ghosts P A) (n : ℕ) (cut : List (List Lin
     pub went : PicksAfterRounds solver picks answered alone
     pub vertices_are : vertices solver ≡ n
     pub why : IsStepFault solver picks fault ⊎ (AreNoPicks picks × IsFinishFault solver (joined cut) fault)
-    -- a fault other than want of memory comes of an answer that isn't light
+    -- an error other than a lack of memory is caused by an answer that isn't light
     pub to_blame : fault ≢ Memory → ¬ (AreLightBooks (went.merging ++ went.last ∷ []))
 
-  -- why a run has no forest: want of memory, or what was answered in its rounds
+  -- why a run has no forest: memory ran out, or what was answered in its rounds
   abbrev pub IsSolveFault : SolveFault → Type 0
   IsSolveFault fault = (fault ≡ Memory) ⊎ RefusesRun fault
 
-  -- a run that ended well over the lanes: its forest, and its report
+  -- a successful run over the lanes: its forest, and its report
   pub record FindsForest (forest : List Link) (report : Report) : Type 0 where
     pub solver : Progress
     pub picks : List (Option Link)
@@ -129,21 +130,20 @@ module _ {P A : Type 0} (port : Port.Ghosts P A) (n : ℕ) (cut : List (List Lin
     pub rounds_are : report.rounds ≡ solver.rounds
     pub in_time : 2 ^ report.rounds ≤ max 1 n
     pub counts : IsReportOf n cut forest report
-    -- the ports' counts of asks rose by `asked`, and so many ports were closed
+    -- the ports' counts of asks rose by `asked`, and `closed` ports were closed
     pub asked : ask_count port.state after ≡ ask_count port.state before + report.asked
     pub closed : open_count port.state after + report.closed ≡ open_count port.state before
     -- the links that the solver took, which are a spanning forest, whatever was answered
     pub finished : IsFinished solver (joined cut) forest
-    -- no link is invented
     pub from_list : All (Contains (joined cut)) forest
-    -- where the coordinator scanned nothing, an answer that a lane kept names each link
+    -- if the coordinator scanned nothing, an answer that a lane kept names each link
     pub named : report.alone ≡ 0 → (l : Link) → Contains forest l → IsNamedByLane cut (length before) went.rounds.answers_at l
-    -- where each answer is light, whoever gave it: the minimum spanning forest, than which no spanning forest weighs less,
-    -- and the number of merging rounds
+    -- if each answer is light, whoever gave it: this is the minimum spanning forest, no spanning forest weighs less,
+    -- and the number of merging rounds is reported
     pub light_forest : AreLightBooks (went.merging ++ went.last ∷ []) → IsForestOf (joined cut) forest
     pub light_total : AreLightBooks (went.merging ++ went.last ∷ []) → IsLightest (joined cut) report.total
     pub light_rounds : AreLightBooks (went.merging ++ went.last ∷ []) → IsMergingRounds n (joined cut) report.rounds
-    -- and so where all ports are honest
+    -- the same if all ports are honest
     pub honest_forest : AreHonest port.honest before → IsForestOf (joined cut) forest
     pub honest_total : AreHonest port.honest before → IsLightest (joined cut) report.total
     pub honest_rounds : AreHonest port.honest before → IsMergingRounds n (joined cut) report.rounds

@@ -1,4 +1,4 @@
--- How kept answers go into the book.
+-- How the book takes the answers that were kept.
 use Rattle.std.specs.Prelude.{List, [], ◌∷◌, ⊤, fold}
 use Rattle.links.specs.AnswerValue.{AnswerValue}
 use Rattle.round_core.specs.BookValue.{BookValue, with_answer}

@@ -1,4 +1,4 @@
-//! The ferries of a pass: one thread a lane, which asks the lane's port for the shards that its seat wins.
+//! The ferries of a pass: one thread per lane, which asks the lane's port about the shards that its seat wins.
 ghost use Rattle.std.specs.List.{AllZip};
 ghost use Rattle.std.specs.Prelude.{◌≡◌, ◌-◌, ◌<◌, ◌≤◌, ◌^◌, ◌++◌, length, All, option_to_list, true, false};
 ghost use Rattle.claim_board.specs.Machine.{held};
@@ -30,7 +30,7 @@ pub(crate) struct Ferries<'a, A: Allocator> {
 }
 
 impl<'a, A: Allocator> Ferries<'a, A> {
-    // Asks the port for a shard that the book misses. A fault or a refused answer closes the port.
+    // Asks the port about a shard that the book misses. An error or a rejected answer closes the port.
     fn ask_port<P: Port<A>>(&self, port: &mut P, shard: u32) -> Option<Answer<A>>
         requires shard { shard < length self.now.book.now.cut }
         requires missed { is_taken self.now.book.now shard ≡ false }
@@ -52,7 +52,8 @@ impl<'a, A: Allocator> Ferries<'a, A> {
     }
 
     #[tactic(auto, using(crate::proofs::AsksThen::none_asked))]
-    // Claims a shard that the book misses, and asks the port for it. Where no answer is kept, the shard is given back.
+    // Claims a shard that the book misses, and asks the port about it. If there is no answer to keep, the shard is
+    // given back.
     fn claim_and_ask<P: Port<A>>(
         &self,
         port: &mut P,
@@ -82,7 +83,7 @@ impl<'a, A: Allocator> Ferries<'a, A> {
     }
 
     #[tactic(auto, using(crate::proofs::AsksThen::asks_then, crate::proofs::AsksThen::stayed, crate::proofs::Ways::none_passed))]
-    // Asks the port for each shard that the seat wins, once round all of them. A closed port ends it.
+    // Asks the port about each shard that the seat wins, once around all of them. It stops if the port is closed.
     fn ask_shards<P: Port<A>>(&self, port: &mut P, seat: &mut Seat, kept: &mut Vec<Answer<A>, A>)
         requires ready { IsReady P.state self.now.board.now self.now.book.now (seated_lane port.old seat.old kept.old) }
         ensures { RunsFerry P.Port self.now.book.now
@@ -103,7 +104,7 @@ impl<'a, A: Allocator> Ferries<'a, A> {
     }
 
     #[tactic(auto, using(crate::proofs::AsksThen::stayed))]
-    // The ferry of a lane, which goes only where the lane has a seat.
+    // Runs the ferry of a lane, if the lane has a seat.
     fn run_lane<P: Port<A>>(&self, lane: &mut Lane<P, A>)
         requires ready { IsReady P.state self.now.board.now self.now.book.now lane.old }
         ensures { RunsFerry P.Port self.now.book.now lane.old lane.new }
@@ -116,7 +117,7 @@ impl<'a, A: Allocator> Ferries<'a, A> {
 }
 
 impl<'a, A: Allocator + Copy + Send + Sync> Ferries<'a, A> {
-    // Runs the ferry of each lane; where no thread can be made they run one after another.
+    // Runs the ferry of each lane. If no thread can be started, they run one after another.
     pub(crate) fn run<P: Port<A> + Send + Drop, R: Threads + Sync>(
         &self,
         rt: &R,
@@ -137,7 +138,7 @@ impl<'a, A: Allocator + Copy + Send + Sync> Ferries<'a, A> {
     }
 }
 
-// Where a seat begins its way round the shards.
+// The shard at which a seat begins to go around the shards.
 fn first_shard(seat: u32, seats: u32, shards: u32) -> u32
     requires seat { seat < seats }
     requires seats { seats ≤ MAX_WORKERS }
@@ -148,7 +149,7 @@ fn first_shard(seat: u32, seats: u32, shards: u32) -> u32
     seat * shards / seats
 }
 
-// The shard at a step of the way round.
+// The shard at a step of the way around.
 fn next_shard(first: u32, step: u32, shards: u32) -> u32
     requires first { first ≤ shards }
     requires step { step < shards }

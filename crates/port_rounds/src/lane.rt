@@ -1,4 +1,3 @@
-//! A lane of a run, and all of them.
 ghost use Rattle.std.specs.Prelude.{◌≡◌, ◌≤◌, length, All};
 ghost use Rattle.limits.specs.declared.TheConstants.{MAX_WORKERS};
 ghost use Rattle.port_rounds.specs.Lanes.{IsIdle};
@@ -8,7 +7,7 @@ use links::Answer;
 use std::alloc::{Allocator, Global};
 use std::marker::Model;
 
-/// A port and, during a pass, its seat and its kept answers.
+/// A port and, during a pass, its seat and the answers that it keeps.
 #[derive(Drop)]
 pub struct Lane<P, A: Allocator = Global> {
     pub(crate) port: P,
@@ -26,7 +25,7 @@ impl<P, A: Allocator> Model for Lane<P, A> {
 }
 
 impl<P, A: Allocator> Lane<P, A> {
-    /// A lane with this port. It takes no memory; a pass makes room for the answers that it keeps.
+    /// A lane with this port. It allocates nothing; a pass allocates memory for the answers that it keeps.
     pub fn new(alloc: A, port: P) -> Self
         ensures port { result.port ≡ port }
         ensures idle { IsIdle result }
@@ -38,14 +37,13 @@ impl<P, A: Allocator> Lane<P, A> {
         }
     }
 
-    /// The port.
     pub fn port(&self) -> &P
         ensures { result.now ≡ self.now.port }
     {
         &self.port
     }
 
-    /// The port, as the asks left it. The room for answers is freed.
+    /// Returns the port as the asks left it, and frees the memory for answers.
     pub fn into_port(self) -> P
         ensures { result ≡ self.port }
     {
@@ -58,8 +56,8 @@ impl<P, A: Allocator> Lane<P, A> {
     }
 }
 
-// The lanes of a run between two passes, and where the threads of a pass are made. It owns no memory, so that who made
-// it learns what became of the lanes.
+// The lanes of a run between two passes, and where the threads of a pass are started. It borrows the lanes, so that its
+// creator sees what became of them.
 #[derive(Drop)]
 pub(crate) struct Lanes<'a, 'b, R, P, A: Allocator> {
     pub(crate) rt: &'b R,

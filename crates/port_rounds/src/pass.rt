@@ -1,4 +1,4 @@
-//! A pass: one ferry for each lane with an open port, and the kept answers into the book.
+//! A pass: one ferry for each lane with an open port, after which the book takes the answers that the lanes kept.
 ghost use Rattle.std.specs.Prelude.{◌≡◌, ◌<◌, ◌≤◌, length, All};
 ghost use Rattle.claim_board.specs.State.{AreSeats, IsUnusedSeat};
 ghost use Rattle.port_rounds.specs.Lanes.{open_count, IsIdle};
@@ -15,7 +15,7 @@ use round_theory::Port;
 use std::alloc::{AllocError, Allocator};
 use std::thread::Threads;
 
-// The ferries of a pass, with the seats of a new board. It takes no memory.
+// Runs the ferries of a pass with the seats of a new board. It allocates nothing.
 fn run_ferries<A: Allocator + Copy + Send + Sync, P: Port<A> + Send + Drop, R: Threads + Sync>(
     rt: &R,
     board: Board<A>,
@@ -54,7 +54,7 @@ impl<'a, 'b, R: Threads + Sync, A: Allocator + Copy + Send + Sync, P: Port<A> + 
     P,
     A,
 > {
-    // One pass. All its memory is taken before the first ask, so after an error nothing was asked.
+    // Makes one pass. All its memory is allocated before the first ask, so nothing was asked if it fails.
     pub(crate) fn pass(&mut self, alloc: A, book: &mut RoundBook<A>) -> Result<(), AllocError>
         requires some_open { 0 < open_count P.state self.old.lanes.now }
         requires round { IsAskable book.old }

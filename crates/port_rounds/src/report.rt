@@ -1,4 +1,3 @@
-//! The report of a run over a cut.
 ghost use Rattle.std.specs.Prelude.{◌≡◌, ◌+◌, ◌*◌, ◌≤◌, length};
 ghost use Rattle.limits.specs.declared.TheConstants.{MAX_WORKERS};
 ghost use Rattle.links.specs.Cut.{joined};
@@ -17,8 +16,8 @@ pub(crate) struct Counts {
     pub(crate) closed: u32,
 }
 
-// The report of a run over a cut of so many shards, which found this forest in such rounds. It looks at each shard and
-// each link of the forest once, and takes no memory.
+// The report of a run over a cut of `shards` shards, which found this forest. It reads each shard and each link of the
+// forest once, and allocates nothing.
 pub(crate) fn report_of<A: Allocator>(
     cut: &Cut<A>,
     shards: u32,

@@ -19,8 +19,8 @@ use std::alloc::{AllocError, Allocator};
 use std::sync::Wait;
 use std::thread::Threads;
 
-// What a run keeps from round to round: the picks of the last one, of which none is left, and in whose room those of the
-// next are counted.
+// What a run reuses in the next round: the picks of the last one. None of them is left, and the next ones are counted
+// in their memory.
 #[derive(Drop)]
 pub(crate) struct Reused<A: Allocator> {
     pub(crate) alloc: A,
@@ -34,7 +34,7 @@ impl<
     A: Allocator + Copy + Send + Sync,
     P: Port<A> + Send + Drop,
 > Lanes<'a, 'b, R, P, A> {
-    // Passes over the lanes, until the book misses no shard or no port is open.
+    // Passes over the lanes until the book misses no shard or no port is open.
     fn ask_ports(&mut self, alloc: A, book: &mut RoundBook<A>) -> Result<(), AllocError>
         requires round { IsAskable book.old }
         requires wide { All (λ lane. HasRoomForRound P.state book.old lane.port) self.old.lanes.now }
@@ -54,16 +54,16 @@ impl<
     }
 
     #[tactic(auto, using(crate::proofs::Scanning::rounded))]
-    // A whole round over a book: passes over the lanes' ports, and what no port answered the coordinator scans itself.
-    // It answers how many shards these were; at the end the book misses none.
+    // Makes a whole round over a book: passes over the lanes' ports, and scans of the shards that no port answered. It
+    // returns how many shards it scanned. After it the book misses none.
     //
-    // In a pass each lane with an open port has a thread that asks its port for one shard after another, beginning at a
-    // place of its own; no shard is asked of two ports at once, nor again once it is answered. Where no thread can be
-    // made they ask one after another. It waits for the ports' answers. The only error is want of memory; then what was
-    // answered so far may stand in the book, and each lane is as its asks left it.
+    // In a pass, each lane with an open port has a thread that asks its port about one shard after another, and each
+    // begins at another shard. No shard is asked of two ports at once, nor again after it is answered. If no thread can
+    // be started, the lanes ask one after another. It waits for the ports' answers. It fails only if it is out of
+    // memory. Then the book may have some of the answers, and each lane is as its asks left it.
     //
-    // For s shards and k lanes a pass takes 8 bytes a shard and some 500 a lane, and each lane keeps room for s answers
-    // of some 40 bytes from then on.
+    // With s shards and k lanes, a pass takes 8 bytes per shard and about 500 per lane. From then on, each lane has
+    // memory for s answers of about 40 bytes.
     pub(crate) fn run_round(&mut self, alloc: A, book: &mut RoundBook<A>) -> Result<u32, AllocError>
         requires round { IsAskable book.old }
         requires wide { All (λ lane. HasRoomForRound P.state book.old lane.port) self.old.lanes.now }
@@ -75,10 +75,11 @@ impl<
         scan_missing(self.rt, alloc, book)
     }
 
-    // The solver's next round, under its labels, over a book of its own: the picks of the answers, and how many shards
-    // the coordinator scanned itself. The only error is want of memory; then each lane is as its asks left it.
+    // Makes the solver's next round, under its labels, over a book of its own. It returns the picks of the answers, and
+    // how many shards it scanned itself. It fails only if it is out of memory, and then each lane is as its asks left
+    // it.
     //
-    // It takes a book, which is freed with the round, and what `run_round` takes.
+    // It takes the memory of a book, which is freed after the round, and what `run_round` takes.
     pub(crate) fn picks_of_round<'c>(
         &mut self,
         reused: &mut Reused<A>,

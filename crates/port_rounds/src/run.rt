@@ -27,7 +27,8 @@ impl<
     A: Allocator + Copy + Send + Sync,
     P: Port<A> + Send + Drop,
 > Lanes<'a, 'b, R, P, A> {
-    // One round, and its picks into the solver, which leaves none of them; and how many shards were scanned alone.
+    // Makes one round and a step of the solver by its picks, of which none is left. Returns how many shards were
+    // scanned alone too.
     fn step_once<'c>(
         &mut self,
         reused: &mut Reused<A>,
@@ -43,7 +44,7 @@ impl<
         ensures none { OnOk result (AreNoPicks reused.new.picks) }
         ensures same_lanes { self.new.lanes.ghost_name ≡ self.old.lanes.ghost_name }
     {
-        // Without memory for the bytes of the labels, each wire turns the labels into bytes for itself.
+        // Without memory for the bytes of the labels, each wire encodes the labels itself.
         let _ = solver.spell_labels();
         let (mut picks, alone) = self.picks_of_round(reused, solver, cut)?;
         let turn = solver.step_in_place(&mut picks)?;
@@ -51,7 +52,7 @@ impl<
         Ok((turn, alone))
     }
 
-    // Rounds from the start until one has no picks: the solver then, and how many shards were scanned alone.
+    // Makes rounds from the start until one has no picks. Returns the solver, and how many shards were scanned alone.
     fn merge_rounds<'c>(
         &mut self,
         alloc: A,
@@ -82,7 +83,7 @@ impl<
         Ok((solver, alone))
     }
 
-    // The rounds, and what they found: the forest, and what the run did.
+    // Makes the rounds, and returns the forest and a report of the run.
     fn find_forest<'c>(
         &mut self,
         alloc: A,
@@ -112,20 +113,25 @@ impl<
     }
 }
 
-/// A spanning forest of the cut's links, by what the lanes' ports answer and, where none is open, by the coordinator's own
-/// scans; and what the run did.
+/// Finds a spanning forest of the cut's links, by what the lanes' ports answer and, if none is open, by its own scans.
+/// It returns the forest and a report.
 ///
-/// Where all ports are honest it is the minimum spanning forest, after as many rounds as merge components; no spanning
-/// forest weighs less than the total reported; and the only fault is want of memory. Whatever the answers are, the forest
-/// closes no cycle and spans the links. In each round each shard is asked of one port after another until one answers. It
-/// waits for the ports' answers. At the end, after a fault too, each lane holds its port as the asks left it, without a
-/// seat or kept answers.
+/// If all ports are honest, it is the minimum spanning forest, after as many rounds as merge components. Then no
+/// spanning forest weighs less than the reported total, and the call fails only for lack of memory. Whatever the
+/// answers are, the forest closes no cycle and spans the links.
 ///
-/// A run takes the solver's memory, with the bytes of its labels where there is memory for them, that of one round at a
-/// time, and in each lane room for an answer of each shard. It has at most log2 n merging rounds, and one more.
+/// In each round, one port after another is asked about each shard until one answers. The call waits for the ports'
+/// answers. After it, even if it failed, each lane has its port as the asks left it, without a seat or answers.
 ///
-/// The faults: a round with picks past the bound; once a round has no picks, the first link of the cut whose ends the links
-/// taken don't join; want of memory.
+/// A run takes the memory of the solver, including the bytes of its labels if there is memory for them, and that of one
+/// round at a time. In each lane it takes memory for an answer about each shard. It makes at most log2 n merging
+/// rounds, and one more.
+///
+/// It returns these errors:
+/// - `Rounds` if a round with picks is past the bound.
+/// - `Missed` if a round has no picks, but the links taken don't connect the endpoints of a link of the cut. It names
+///   the first such link.
+/// - `Memory` if it is out of memory.
 pub fn solve<
     'a,
     A: Allocator + Copy + Send + Sync,

@@ -10,7 +10,7 @@ use shard_scans::Scanner;
 use std::alloc::{AllocError, Allocator};
 use std::thread::Threads;
 
-// Scans a shard that the book misses, and takes its light offers into the book.
+// Scans a shard that the book misses, and adds its light offers to the book.
 fn scan_shard<R: Threads + Sync, A: Allocator + Copy + Send + Sync>(
     rt: &R,
     scanner: &mut Scanner<A>,
@@ -34,7 +34,7 @@ fn scan_shard<R: Threads + Sync, A: Allocator + Copy + Send + Sync>(
     Ok(())
 }
 
-// Scans each shard that the book misses, and says how many these were.
+// Scans each shard that the book misses, and returns how many these were.
 pub(crate) fn scan_missing<R: Threads + Sync, A: Allocator + Copy + Send + Sync>(
     rt: &R,
     alloc: A,

@@ -1,4 +1,4 @@
-//! The seats of a board go into the lanes, and come back into the very row that the board gave.
+//! Moves the seats of a board into the lanes, and back into the vector from which they came.
 ghost use Rattle.std.specs.List.{AllZip};
 ghost use Rattle.std.specs.Prelude.{◌≡◌, ◌+◌, ◌≤◌, length, All, None, OnOk, option_to_list, vec_capacity, vec_len, ◌++◌, [], reverse};
 ghost use Rattle.limits.specs.declared.TheConstants.{MAX_WORKERS};
@@ -24,7 +24,7 @@ fn seat_lane<A: Allocator, P: Port<A>>(row: &mut Vec<Seat, A>, lane: &mut Lane<P
     }
 }
 
-// Takes the lane's seat.
+// Takes the lane's seat back.
 fn unseat_lane<A: Allocator, P>(row: &mut Vec<Seat, A>, lane: &mut Lane<P, A>)
     requires room { vec_len row.old + length (option_to_list lane.old.seat) ≤ vec_capacity row.old }
     ensures lane { LosesSeat lane.old lane.new }
@@ -37,7 +37,7 @@ fn unseat_lane<A: Allocator, P>(row: &mut Vec<Seat, A>, lane: &mut Lane<P, A>)
 }
 
 #[tactic(auto, using(crate::proofs::Eaches::each_cons))]
-// Gives each lane with an open port a seat, in order: the last ones of the row go to the last lanes.
+// Gives each lane with an open port a seat, in order: the last seats of the row go to the last lanes.
 pub(crate) fn seat_lanes<A: Allocator, P: Port<A>>(row: &mut Vec<Seat, A>, lanes: &mut [Lane<P, A>])
     requires some { open_count P.state lanes.old ≤ vec_len row.old }
     requires none { All (λ lane. lane.seat ≡ None) lanes.old }
@@ -53,7 +53,7 @@ pub(crate) fn seat_lanes<A: Allocator, P: Port<A>>(row: &mut Vec<Seat, A>, lanes
 }
 
 #[tactic(auto, using(crate::proofs::Eaches::each_cons))]
-// Takes the seats out of the lanes, in order.
+// Takes the seats of the lanes back, in order.
 pub(crate) fn unseat_lanes<A: Allocator, P>(row: &mut Vec<Seat, A>, lanes: &mut [Lane<P, A>])
     requires room { vec_len row.old + length (seats_of lanes.old) ≤ vec_capacity row.old }
     ensures seats { row.new.items ≡ row.old.items ++ seats_of lanes.old }
@@ -65,7 +65,7 @@ pub(crate) fn unseat_lanes<A: Allocator, P>(row: &mut Vec<Seat, A>, lanes: &mut 
     }
 }
 
-// Makes room for as many kept answers in the lane.
+// Makes the lane's memory fit this many answers.
 fn reserve_lane<A: Allocator, P>(lane: &mut Lane<P, A>, shards: u32) -> Result<(), AllocError>
     ensures lane { GainsRoom lane.old lane.new }
     ensures room { OnOk result (shards ≤ lane.new.room) }
@@ -74,7 +74,7 @@ fn reserve_lane<A: Allocator, P>(lane: &mut Lane<P, A>, shards: u32) -> Result<(
 }
 
 #[tactic(auto, using(crate::proofs::Eaches::each_cons, crate::proofs::Eaches::each_refl))]
-// Makes room for as many kept answers in each lane.
+// Makes each lane's memory fit this many answers.
 pub(crate) fn reserve_answers<A: Allocator, P>(
     lanes: &mut [Lane<P, A>],
     shards: u32,
@@ -89,7 +89,6 @@ pub(crate) fn reserve_answers<A: Allocator, P>(
     Ok(())
 }
 
-// How many lanes have an open port.
 pub(crate) fn count_open<A: Allocator, P: Port<A>>(lanes: &[Lane<P, A>]) -> u32
     requires few { length lanes.now ≤ MAX_WORKERS }
     ensures count { result ≡ open_count P.state lanes.now }

@@ -1,4 +1,4 @@
-//! The kept answers go into the book.
+//! Moves the answers that lanes kept into the book.
 ghost use Rattle.std.specs.List.{AllZip};
 ghost use Rattle.std.specs.Prelude.{◌≡◌, []};
 ghost use Rattle.port_rounds.specs.Lanes.{kept_answers};
@@ -10,7 +10,7 @@ use links::Answer;
 use round_core::RoundBook;
 use std::alloc::Allocator;
 
-// Takes a list of kept answers into the book, in their order. The list keeps its room.
+// Moves a list of kept answers into the book, in their order. The list keeps its memory.
 #[tactic(auto, using(crate::proofs::Takes::popped))]
 fn take_list<A: Allocator>(book: &mut RoundBook<A>, kept: &mut Vec<Answer<A>, A>)
     requires taken { TakesAll book.old kept.old.items }
@@ -23,7 +23,7 @@ fn take_list<A: Allocator>(book: &mut RoundBook<A>, kept: &mut Vec<Answer<A>, A>
     }
 }
 
-// Takes a lane's kept answers into the book.
+// Moves a lane's kept answers into the book.
 fn take_answers_of<A: Allocator, P>(book: &mut RoundBook<A>, lane: &mut Lane<P, A>)
     requires taken { TakesAll book.old lane.old.kept }
     ensures value { book.new ≡ with_answers book.old lane.old.kept }
@@ -32,7 +32,7 @@ fn take_answers_of<A: Allocator, P>(book: &mut RoundBook<A>, lane: &mut Lane<P, 
     take_list(book, &mut lane.kept);
 }
 
-// Takes all lanes' kept answers into the book.
+// Moves all lanes' kept answers into the book.
 #[tactic(auto, using(crate::proofs::Eaches::each_cons))]
 pub(crate) fn take_answers<A: Allocator, P>(book: &mut RoundBook<A>, lanes: &mut [Lane<P, A>])
     requires taken { TakesAll book.old (kept_answers lanes.old) }

@@ -1,4 +1,4 @@
--- What is left of the bytes that came to a session.
+-- The bytes that came to a session and are left.
 use Rattle.std.proofs.Common.{◌≡◌, ℕ, List, ◌++◌, ap, subst, ◌∙◌, append_assoc}
 use Rattle.ports.specs.EngineLines.{Extends}
 use Rattle.std.specs.Prelude.{Result, Ok, Err, OnOk}

@@ -1,4 +1,4 @@
--- Bytes in memory that are given piece by piece.
+-- Bytes in memory that are read in pieces.
 use Rattle.std.proofs.Common.{◌≡◌, ◌≢◌, ℕ, ◌+◌, List, take, drop, refl, ne_eqb}
 use Rattle.std.proofs.lemmas.List.{drop-drop}
 use Rattle.std.proofs.Math.Seq.{take-add}

@@ -1,5 +1,5 @@
--- Why the lines of this crate keep the law of lines: what a faithful one got begins what its worker's session may write.
--- These are proofs, which each `impl` of `Line` gives for its law; no contract cites them.
+-- Why the lines of this crate obey the law of lines: what a faithful line got is a prefix of what its worker's session
+-- may write. These are proofs, which each `impl` of `Line` gives for its law; no contract cites them.
 use Rattle.std.proofs.Common.{◌≡◌, ℕ, List, ◌++◌, take, drop, sym, ap, subst, ◌∙◌, take-append-drop}
 use Rattle.std.proofs.Math.Nat.{eq-sub_of_add-eq, zero-sub}
 use Rattle.frames.specs.declared.frame.TheConstants.{VERSION}
@@ -9,7 +9,7 @@ use Rattle.wires.specs.Lines.{LineState, ServesSoFar}
 use Rattle.ports.specs.EngineLines.{EngineLineState, line_of, IsEngineLine}
 use Rattle.ports.specs.Testing.{with_stops}
 
--- what was got begins what the session wrote
+-- what was got is a prefix of what the session wrote
 pub engine_serves : (worker : ℕ) (s : EngineLineState) → IsEngineLine worker s → ServesSoFar worker (line_of s)
 engine_serves worker s is no_failure sent got sent_is got_is =
     let rest : List ℕ = drop s.taken s.written in

@@ -14,12 +14,12 @@ use std::marker::Model;
 use wires::{Line, LineFault};
 use worker_engine::Engine;
 
-/// An engine behind a line in memory. The bytes to get are those that the worker's session writes for the
-/// bytes put so far, its hello first; it is faithful for that worker.
+/// A line to an engine in memory. It gets the bytes that the worker's session writes for the bytes put so far, its
+/// hello first, and is faithful for that worker.
 ///
-/// It keeps all bytes that were put and all that were written. Once the session would have ended whatever
-/// came next, later puts write nothing more. Where it finds no memory for its bytes or for a shard, that
-/// call and each later one fail; an ask that finds none is answered by the fault for it, as in a session.
+/// It stores all bytes that were put and all that were written. After the session would have ended, whatever comes
+/// next, later puts write nothing more. If there is no memory for its bytes or for a shard, that call and all later
+/// ones fail. If there is none to reply to an ask, the reply is a fault, as in any session.
 #[derive(Drop)]
 pub struct EngineLine<A: Allocator> {
     session: Session<A>,
@@ -48,7 +48,7 @@ impl<A: Allocator> Model for EngineLine<A> {
 }
 
 impl<A: Allocator + Copy> EngineLine<A> {
-    /// A line to an engine that keeps nothing yet, which answers as the worker of this number.
+    /// A line to an engine that stores nothing yet, and replies as the worker of this number.
     pub fn new(alloc: A, worker: u32) -> Result<Self, AllocError>
         requires { worker < MAX_WORKERS }
         ensures faithful { IfOk result (IsEngineLine worker) }
@@ -110,7 +110,7 @@ impl<A: Allocator + Copy> Line for EngineLine<A> {
         ensures went { Gets result into.new (line_of self.old) (line_of self.new) }
         ensures faithful { (worker : ℕ) → IsEngineLine worker self.old → IsEngineLine worker self.new }
 
-        // As many of the bytes that were written as are left and fit, until the first failure.
+        // Until the first failure, it gets as many of the written bytes as are left and fit.
         ensures answer { self.old.failures ≡ 0
             → result ≡ Ok (min (length into.old) (length self.old.written - self.old.taken)) }
         ensures written { self.new.written ≡ self.old.written }

@@ -1,4 +1,4 @@
-//! A line over another that fails from a chosen call or byte on, for tests.
+//! A line over another, which fails after a given number of calls or bytes, for tests.
 ghost use Rattle.std.specs.Prelude.{◌≡◌, ℕ, ◌+◌, ◌<◌, ◌≤◌, true, false, length, IfOk, OnOk, IsErr};
 ghost use Rattle.std.specs.Io.{ReadsAtMost};
 ghost use Rattle.wires.specs.Lines.{HasRoom, Puts, Gets};
@@ -11,16 +11,16 @@ use wires::{Line, LineFault};
 /// What may still pass.
 #[derive(Clone, Copy, Debug, PartialEq, Eq)]
 pub enum Fuse {
-    /// So many calls of `put` and `get` together.
+    /// This many calls of `put` and `get` together.
     Calls(u64),
-    /// Each put, and gets of so many bytes together.
+    /// Each put, and gets of this many bytes together.
     Bytes(u64),
 }
 
-/// A line over another whose first calls or bytes pass, and each later call fails.
+/// A line over another: its first calls or bytes pass, and each later call fails.
 ///
-/// It is faithful where the line behind it is: what passes is that line's. A stopped call doesn't reach
-/// the line behind, and counts as a failure. It takes no memory.
+/// It is faithful if the inner line is. A stopped call doesn't reach the inner line, and counts as a failure. It
+/// allocates nothing.
 #[derive(Drop)]
 pub struct FusedLine<L> {
     line: L,
@@ -48,8 +48,8 @@ impl<L> FusedLine<L> {
         }
     }
 
-    /// Puts pass, and gets until `bytes` bytes were got, in the last piece no more than are left of
-    /// them; each later get fails.
+    /// Puts pass, and so do gets until `bytes` bytes were got; each later get fails. The last get that passes returns
+    /// no more than are left of them.
     pub fn after_bytes(line: L, bytes: u64) -> Self
         ensures { result ≡ record { line = line; fuse = Fuse.Bytes bytes; stopped = 0 } }
     {
@@ -73,7 +73,7 @@ impl<L: Line> Line for FusedLine<L> {
             (with_stops (L.state self.new.line) self.new.stopped) }
         ensures faithful { (worker : ℕ) → L.faithful self.old.line worker → L.faithful self.new.line worker }
 
-        // A stopped put reaches no line; any other is the line's own.
+        // A stopped put doesn't reach the inner line; any other is the inner line's.
         ensures stopped { stops_puts self.old.fuse ≡ true
             → IsErr result × (self.new ≡ record self.old { stopped = self.old.stopped + 1 }) }
         ensures passed { stops_puts self.old.fuse ≡ false
@@ -99,7 +99,7 @@ impl<L: Line> Line for FusedLine<L> {
             (with_stops (L.state self.new.line) self.new.stopped) }
         ensures faithful { (worker : ℕ) → L.faithful self.old.line worker → L.faithful self.new.line worker }
 
-        // A stopped get reaches no line; any other is the line's own, of no more bytes than may pass.
+        // A stopped get doesn't reach the inner line; any other is the inner line's, of no more bytes than may pass.
         ensures stopped { stops_gets self.old.fuse ≡ true
             → IsErr result × (self.new ≡ record self.old { stopped = self.old.stopped + 1 }) }
         ensures passed { stops_gets self.old.fuse ≡ false → self.new.stopped ≡ self.old.stopped }
@@ -129,7 +129,7 @@ impl<L: Line> Line for FusedLine<L> {
     ghost serves = { λ s worker faithful. fused_serves worker (L.state s.line) s.stopped (L.serves s.line worker faithful) };
 }
 
-// Some bytes from the line, into the first so many of the buffer.
+// Gets bytes from the line into the first `most` bytes of the buffer.
 fn get_some<L: Line>(line: &mut L, into: &mut [u8], most: usize) -> Result<usize, LineFault>
     requires can { HasRoom (L.state line.old) }
     requires some { 0 < most }

@@ -1,18 +1,18 @@
-//! All that asks workers, under one name: ports and their faults (`round_theory`), lines and wires over them (`wires`), and
-//! lines for tests.
+//! Everything that asks workers, in one crate: ports and their errors (`round_theory`), lines and wires over them
+//! (`wires`), and lines for tests.
 //!
 //! ```text
 //!     EngineLine          Line::put --Session--> Engine::hear --Session--> Line::get
-//!     FusedLine(line)     a line that fails from a chosen call or byte on
+//!     FusedLine(line)     a line that fails after a given number of calls or bytes
 //!     ScriptLine          plays stored bytes
 //! ```
 //!
 //! What it promises:
-//! - An [`EngineLine`] is faithful for its worker: what comes of it begins what the worker's session may write.
-//! - A [`FusedLine`] is faithful where the line behind it is, and a [`ScriptLine`] for nobody.
+//! - An [`EngineLine`] is faithful for its worker: what it gets is a prefix of what the worker's session may write.
+//! - A [`FusedLine`] is faithful if its inner line is, and a [`ScriptLine`] for no worker.
 //!
-//! Where to start a change: `engine_line` and `session`, with `specs/EngineLines`; `fused` and `script`, with
-//! `specs/Testing`; of anything else the crates below.
+//! Where to make a change: `engine_line` and `session`, with `specs/EngineLines`; or `fused` and `script`, with
+//! `specs/Testing`. Everything else is in the crates below.
 #![tactic(auto)]
 
 mod engine_line;

@@ -1,7 +1,7 @@
-//! Bytes in memory, given piece by piece.
+//! Bytes in memory, read in pieces.
 ghost use Rattle.std.specs.Prelude.{◌≡◌, ◌+◌, ◌-◌, ◌≤◌, min, length, take, drop};
 
-// The next bytes of `bytes`, behind the `given` first ones: as many as are left and fit.
+// Copies the next bytes of `bytes`, after the first `given`, as many as are left and fit, and returns how many.
 pub fn give(bytes: &[u8], given: usize, into: &mut [u8]) -> usize
     requires { given ≤ length bytes.now }
     ensures count { result ≡ min (length into.new) (length (drop given bytes.now)) }

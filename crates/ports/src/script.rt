@@ -9,9 +9,9 @@ use std::alloc::{Allocator, Global};
 use std::marker::Model;
 use wires::{Line, LineFault};
 
-/// A line whose puts pass and are dropped, and whose gets give the stored bytes in order, then 0.
+/// A line whose puts succeed and are dropped, and whose gets return the stored bytes in order, then 0.
 ///
-/// It never fails, and is faithful for nobody. It keeps the bytes that it was made of, and takes no memory.
+/// It never fails, and is faithful for no worker. It uses the bytes that it was made from, and allocates nothing.
 #[derive(Drop)]
 pub struct ScriptLine<A: Allocator = Global> {
     bytes: Vec<u8, A>,
@@ -31,7 +31,7 @@ impl<A: Allocator> Model for ScriptLine<A> {
 }
 
 impl<A: Allocator> ScriptLine<A> {
-    /// A line that gives these bytes.
+    /// A line that plays these bytes.
     pub fn new(bytes: Vec<u8, A>) -> Self
         ensures { result ≡ fresh_script bytes.items }
     {
@@ -65,7 +65,7 @@ impl<A: Allocator> Line for ScriptLine<A> {
         ensures went { Gets result into.new (line_of_script self.old) (line_of_script self.new) }
         ensures faithful { ℕ → ⊥ → ⊥ }
 
-        // As many bytes as are left and fit.
+        // It gets as many bytes as are left and fit.
         ensures answer { result ≡ Ok (min (length into.old) (length self.old.left)) }
         ensures after { self.new ≡ after_get self.old (min (length into.old) (length self.old.left)) }
     {

@@ -1,4 +1,3 @@
-//! A worker's session in memory.
 ghost use Rattle.std.specs.Prelude.{◌≡◌, ℕ, ◌++◌, List, length, IfOk, IfErr, OnOk, OnErr};
 ghost use Rattle.frames.specs.FrameValue.{value_of};
 ghost use Rattle.frames.specs.FrameText.{text_of};
@@ -13,7 +12,7 @@ use std::alloc::{AllocError, Allocator};
 use std::marker::Model;
 use worker_engine::{Engine, NO_MEMORY};
 
-// A session: the bytes that came, how many of them were heard, and what was written.
+// A session: the bytes that came, how many of them were read as frames, and what was written.
 #[derive(Drop)]
 pub struct Session<A: Allocator> {
     pub alloc: A,
@@ -35,7 +34,7 @@ impl<A: Allocator> Model for Session<A> {
 }
 
 impl<A: Allocator + Copy> Session<A> {
-    // More bytes come. Once what is left begins no frame, whatever follows, nothing more is heard.
+    // Takes more bytes. After the bytes that are left can't begin a frame, whatever follows, no more frames are read.
     pub fn take_in(&mut self, bytes: &[u8]) -> Result<(), AllocError>
         ensures input { OnOk result (self.new.input ≡ self.old.input ++ bytes.now) }
         ensures grew { Extends self.old.written self.new.written }
@@ -46,7 +45,7 @@ impl<A: Allocator + Copy> Session<A> {
         self.hear_all()
     }
 
-    // Hears all frames that came.
+    // Reads and takes all frames that came.
     fn hear_all(&mut self) -> Result<(), AllocError>
         ensures input { self.new.input ≡ self.old.input }
         ensures grew { Extends self.old.written self.new.written }
@@ -66,7 +65,8 @@ impl<A: Allocator + Copy> Session<A> {
     }
 }
 
-// Hears one frame, and gives the reply to it. An ask that finds no memory is replied to by a fault, which takes none.
+// Takes one frame, and returns the reply to it. If there is no memory to reply to an ask, the reply is a fault, which
+// needs none.
 fn hear<A: Allocator + Copy>(
     engine: &mut Engine<A>,
     frame: Frame<A>,
@@ -103,7 +103,7 @@ fn hear<A: Allocator + Copy>(
     }
 }
 
-// The frame that begins these bytes, and how many bytes its text has.
+// The frame with which these bytes begin, and the length of its text.
 fn first_frame<A: Allocator + Copy>(alloc: A, bytes: &[u8]) -> Result<(Frame<A>, usize), FrameFault>
     ensures lawful { IfOk result (λ p. IsLawful (value_of p.0)) }
     ensures count { IfOk result (λ p. p.1 ≡ length (text_of (value_of p.0))) }
@@ -118,7 +118,7 @@ fn first_frame<A: Allocator + Copy>(alloc: A, bytes: &[u8]) -> Result<(Frame<A>,
     }
 }
 
-// The text of a reply, if there is one, behind what was written before.
+// Appends the text of a reply, if there is one.
 fn write_reply<A: Allocator + Copy>(
     alloc: A,
     out: &mut Vec<u8, A>,
@@ -138,7 +138,7 @@ fn write_reply<A: Allocator + Copy>(
     }
 }
 
-// Bytes with this fault begin no frame, unless it was want of memory.
+// Bytes with this error begin with no frame, unless memory ran out.
 fn begins_no_frame(fault: FrameFault) -> Result<(), AllocError>
     ensures { OnOk result (IsOfStream fault) }
 {

@@ -1,4 +1,4 @@
--- A round's book: how it begins, and what the answers that it keeps name.
+-- A round's book: how it begins, and what the answers that it stores name.
 use Rattle.std.proofs.Common.{◌≡◌, ◌≢◌, ℕ, zero, suc, ◌+◌, ◌<◌, ◌≤◌, ◌↔◌, Bool, true, false, not, cond, ◌&&◌, List, [], ◌∷◌}
 use Rattle.std.proofs.Common.{◌++◌, length, map, replicate, get_or, take, Contains, Some, None, refl, sym, ap, ◌∙◌, subst, inl, inr, eq-eqb, ne_eqb, arith}
 use Rattle.std.specs.Prelude.{Option, All, count_by, slice_get}
@@ -37,7 +37,7 @@ pub book_opened : (round room : ℕ) (cut : List (List Link)) (labels looked_up 
     → looked_up ≡ labels → IsBook (record { round = round; cut = cut; labels = labels; taken = taken; answers = answers }) looked_up room best
 book_opened round room cut labels looked_up taken answers best are ends few taken_is answers_is room_is best_len best_is same = search (arith, length-replicate, all_missing, get_or-replicate)
 
--- a test of all is one of each
+-- if a test holds for all, it holds for each
 pub all_at : {X : Type 0} (p : X → Bool) (xs : List X) (i : ℕ) (d : X) → i < length xs → list_all p xs ≡ true → p (get_or xs i d) ≡ true
 all_at p [] i d lt all = absurd (omega (arith, lt))
 all_at p (x ∷ xs) zero d lt all = search arith
@@ -55,7 +55,7 @@ leaves_if labels c l test = search (arith, cases_eq, eq-eqb, ne_eqb)
 pub offered : (links : List Link) (labels : List ℕ) (o : Offer) → is_offer links labels o ≡ true → IsOffered links labels o.1
 offered links labels o test = search (arith, slice_get_cases, get_or_default, leaves_apart, leaves_if)
 
--- one more offer names one more link
+-- another offer names another link
 pub one_more_named : (links : List Link) (offers : List Offer) (i : ℕ) (o : Offer) (l : Link) → i < length offers → o ≡ get_or offers i o → o.1 < length links → l ≡ get_or links o.1 l
     → named_links links (take (i + 1) offers) ≡ named_links links (take i offers) ++ l ∷ []
 one_more_named links offers i o l lt at within here =
@@ -64,7 +64,7 @@ one_more_named links offers i o l lt at within here =
     let more = flat_map_more (λ (x : Offer). option_to_list (slice_get links x.1)) [] (take i offers) o in
     ap (named_links links) next ∙ sym more ∙ ap (λ x. named_links links (take i offers) ++ option_to_list x) read
 
--- one more answer names the links of its offers
+-- another answer names the links of its offers
 pub one_more_answer : (cut : List (List Link)) (answers : List AnswerValue) (i : ℕ) (a : AnswerValue) → i < length answers → a ≡ get_or answers i a
     → all_named cut (take (i + 1) answers) ≡ all_named cut (take i answers) ++ named_links (links_at cut a.shard) a.offers
 one_more_answer cut answers i a lt at =
@@ -77,7 +77,7 @@ in_option None l l_in = absurd (contains_none l l_in)
 in_option (Some m) l (zero, lt, at) = ap Some at
 in_option (Some m) l (suc k, lt, at) = absurd (omega (arith, lt))
 
--- an offer names just the link at its place
+-- an offer names exactly the link at its index
 named_by : (h : Hearing) (l : Link) → Contains (named_links h.shard h.offers) l ↔ Names h l
 named_by h l = (to, back)
   where
@@ -99,7 +99,7 @@ named_by h l = (to, back)
         (any_from (λ (x : Offer). Contains (option_to_list (slice_get h.shard x.1)) l) h.offers (names.label, names.place) names.offered
         (subst (λ (x : Option Link). Contains (option_to_list x) l) (sym some) (contains_head l [])))
 
--- what stands in a list that is made element by element
+-- the elements of a list that is made element by element
 pub map_contains : {X Y : Type 0} (f : X → Y) (xs : List X) (x : X) → Contains xs x → Contains (map f xs) (f x)
 map_contains f xs x (k, lt, at) = (k, rw (length-map xs f) lt, get_or-map f xs k x (f x) lt ∙ ap f at)
 
@@ -108,7 +108,7 @@ map_from f [] k y lt at = absurd (omega (arith, lt))
 map_from f (x ∷ xs) zero y lt at = (x, contains_head x xs, at)
 map_from f (x ∷ xs) (suc k) y lt at = let (z, z_in, is) = map_from f xs k y (omega (arith, lt)) at in (z, contains_tail x z xs z_in, is)
 
--- the answers name just what the hearings do
+-- the answers name exactly what the hearings do
 pub same_named : (cut : List (List Link)) (answers : List AnswerValue) → SameLinks (Contains (all_named cut answers)) (IsNamed (map (hearing_of cut) answers))
 same_named cut answers l = (to, back)
   where
@@ -125,7 +125,7 @@ same_named cut answers l = (to, back)
         (any_from (λ (x : AnswerValue). Contains (named_links (links_at cut x.shard) x.offers) l) answers a a_in
         ((named_by (hearing_of cut a) l).1 (subst (λ (h : Hearing). Names h l) (sym is) names)))
 
--- what the offers of an answer name are links that leave a component
+-- the offers of an answer name links that leave a component
 pub offer_at : (links : List Link) (labels : List ℕ) (offers : List Offer) (i : ℕ) → i < length offers
     → list_all (is_offer links labels) offers ≡ true → IsOffered links labels (get_or offers i (0, 0)).1
 offer_at links labels offers i lt all = offered links labels (get_or offers i (0, 0)) (all_at (is_offer links labels) offers i (0, 0) lt all)
@@ -136,7 +136,7 @@ pub can_close : (p : BookValue) (looked_up : List ℕ) (room : ℕ) (best : List
     → length items ≡ length best → All (λ k. k ≡ no_pick) items → CanCountInto p.cut looked_up answers numbers
 can_close p looked_up room best answers items numbers is answers_are numbers_are long none = search arith
 
--- the least numbers of the links that its answers name make the picks of what it heard
+-- the least numbers of the links that its answers name are those of the picks of what it heard
 pub picks_of_numbers : (p : BookValue) (looked_up : List ℕ) (answers : List AnswerValue) (numbers items : List ℕ) (picks : List (Option Link))
     → looked_up ≡ p.labels → answers ≡ p.answers → items ≡ numbers → picks ≡ map pick_in items
     → AreLeastNumbers looked_up (all_named p.cut answers) numbers → ArePicks p.labels (IsNamed (hearings p)) picks

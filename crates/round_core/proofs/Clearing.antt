@@ -1,4 +1,4 @@
--- Labels that are left without a pick.
+-- Labels whose picks are removed.
 use Rattle.std.proofs.Common.{◌≡◌, ◌≢◌, ℕ, ◌+◌, ◌-◌, ◌<◌, ◌≤◌, List, length, map, get_or, set, Some, None, refl, sym, ap, ◌∙◌, subst, inl, inr, below_more, arith}
 use Rattle.std.specs.Prelude.{Option, All}
 use Rattle.std.proofs.lemmas.Bool.{cases_eq}
@@ -12,7 +12,7 @@ pub cleared_more : (labels old new : List ℕ) (k : ℕ) → 1 ≤ get_or labels
     → AreCleared labels k old new → AreCleared labels (k + 1) old (set new (get_or labels k 0 - 1) no_pick)
 cleared_more labels old new k one within are i = search (arith, cases_eq, get_or-set_same, get_or-set_other, below_more, set)
 
--- what is left are numbers of picks
+-- the numbers that are left are those of picks
 pub cleared_are_numbers : (labels old new : List ℕ) → length new ≡ length old → AreCleared labels (length labels) old new → All IsPickNumber old → All IsPickNumber new
 cleared_are_numbers labels old new long are all i d lt =
     let at : get_or new i d ≡ get_or new i 0 = get_or_default new i d 0 lt in
@@ -21,7 +21,7 @@ cleared_are_numbers labels old new long are all i d lt =
       | inr (same, _) ↦ subst IsPickNumber (sym (at ∙ same)) (all i 0 (omega (arith, lt, long)))
     ]
 
--- and where the labels had all picks, no picks
+-- and if only these labels had picks, none are left
 pub cleared_have_none : (labels old new : List ℕ) → length new ≡ length old → AreCleared labels (length labels) old new → HaveAllPicks (map pick_in old) labels → AreNoPicks (map pick_in new)
 cleared_have_none labels old new long are have i d lt = get_or-map pick_in new i 0 d within ∙ elim (are i) [
   | inl none ↦ no_pick_is_none (get_or new i 0) none

@@ -1,4 +1,4 @@
--- The numbers of picks, to which links are counted one at a time.
+-- The numbers of picks, into which links are counted one at a time.
 use Rattle.std.proofs.Common.{◌≡◌, ◌≢◌, ℕ, ◌+◌, ◌-◌, ◌<◌, ◌≤◌, min, List, [], ◌∷◌, ◌++◌, length, map, get_or, set, Contains, Some, None, sym, ◌∙◌, subst, inl, inr, arith}
 use Rattle.std.specs.Prelude.{Option, All}
 use Rattle.std.proofs.lemmas.Bool.{cases_eq, cases_lt}
@@ -18,7 +18,7 @@ use Rattle.round_core.specs.PickNumbers.{IsKeyNumber, no_pick, IsPickNumber, pic
 use Rattle.round_core.specs.OwnPicks.{IsCountedIn, IsNumberOf, AreLeastNumbers, Counts}
 use Rattle.round_core.proofs.PickNumbers.{number_of, has_number, no_pick_is_none, key_is_pick, key_below_no_pick, below_is_less}
 
--- the numbers, once the one at place i is lowered to k where that is less
+-- the numbers after the one at index `i` was lowered to `k`, if that is less
 record IsLowered (old new : List ℕ) (i k : ℕ) : Type 0 where
   long : length new ≡ length old
   here : get_or new i 0 ≡ min (get_or old i 0) k
@@ -30,7 +30,7 @@ lowered old i v k lt is = search (arith, length-set, get_or-set_same, get_or-set
 no_more : (old new : List ℕ) (i k : ℕ) → IsLowered old new i k → (j : ℕ) → get_or new j 0 ≤ get_or old j 0
 no_more old new i k low j = search (arith, cases_eq)
 
--- to the number of a link that leaves its label
+-- lowered to the number of a link that leaves its label
 from_lowered : (labels : List ℕ) (links : List Link) (l : Link) (old new : List ℕ) (c k : ℕ) → 1 ≤ c → IsLowered old new (c - 1) k → Contains links l → Leaves labels l c → IsKeyNumber l k
     → ((j : ℕ) → j < length old → IsNumberOf labels links (j + 1) (get_or old j 0)) → (j : ℕ) → j < length new → IsNumberOf labels links (j + 1) (get_or new j 0)
 from_lowered labels links l old new c k one low l_in leaves key from j lt = elim (cases_eq j (c - 1)) [
@@ -54,7 +54,7 @@ of_more : (labels : List ℕ) (seen : List Link) (l : Link) (c k : ℕ) → IsNu
 of_more labels seen l c k (inl none) = inl none
 of_more labels seen l c k (inr (m, m_in, leaves, key)) = inr (m, Contains-append_left seen (l ∷ []) m m_in, leaves, key)
 
--- a link is counted for the labels of both of its ends, where these differ
+-- a link is counted for the labels of both of its endpoints, if these differ
 module _ (labels numbers : List ℕ) (l : Link) (m a b v w : ℕ) (end : l.high ≤ length labels) (apart : label_of labels l.low ≢ label_of labels l.high) (long : length numbers ≡ length labels)
     (a_is : a ≡ label_of labels l.low) (b_is : b ≡ label_of labels l.high) (a_in : IsVertex (length labels) a) (b_in : IsVertex (length labels) b) (key : IsKeyNumber l m)
     (v_is : v ≡ min (get_or numbers (a - 1) 0) m) (w_is : w ≡ min (get_or (set numbers (a - 1) v) (b - 1) 0) m) where
@@ -101,7 +101,7 @@ module _ (labels numbers : List ℕ) (l : Link) (m a b v w : ℕ) (end : l.high 
     ];
   }
 
--- a link whose ends have one label leaves none, and changes no number
+-- a link whose endpoints have one label leaves none, and changes no number
 pub counted_none : (labels : List ℕ) (seen : List Link) (l : Link) (numbers : List ℕ) → l.high ≤ length labels → label_of labels l.low ≡ label_of labels l.high
     → AreLeastNumbers labels seen numbers → AreLeastNumbers labels (seen ++ l ∷ []) numbers
 counted_none labels seen l numbers end same are = record {
@@ -113,7 +113,7 @@ counted_none labels seen l numbers end same are = record {
   ];
 }
 
--- no numbers but those of no picks are the least of no links
+-- if all numbers are that of no pick, they are the least of no links
 pub none_are_least : (labels numbers : List ℕ) → length numbers ≡ length labels → All (λ k. k ≡ no_pick) numbers → AreLeastNumbers labels [] numbers
 none_are_least labels numbers long none = record { each_vertex = long; from = λ i lt. inl (none i 0 lt); counted = λ l l_in. absurd (contains_none l l_in) }
 
@@ -123,7 +123,7 @@ are_numbers labels links numbers are i d lt = subst IsPickNumber (get_or_default
   | inr (l, _, _, key) ↦ inr (l, key)
 ])
 
--- the picks of the least numbers are those of the links: no link that leaves a label has a lesser number than its pick
+-- The picks of the least numbers are those of the links: no link that leaves a label has a lesser number than its pick.
 are_picks : (labels : List ℕ) (links : List Link) (numbers : List ℕ) → AreLeastNumbers labels links numbers → ArePicks labels (Contains links) (map pick_in numbers)
 are_picks labels links numbers are = record {
   each_vertex = length-map numbers pick_in ∙ are.each_vertex;

@@ -1,4 +1,5 @@
--- A book's answers: each shard that was taken has one, so those of a book that misses no shard are of all its links.
+-- A book's answers. Each shard that was taken has one, so the answers of a book that misses no shard are about all its
+-- links.
 use Rattle.std.proofs.Common.{◌≡◌, ◌≢◌, ℕ, zero, suc, ◌+◌, ◌<◌, ◌==◌, ◌↔◌, Bool, true, false, not, cond, List, []}
 use Rattle.std.proofs.Common.{◌∷◌, ◌++◌, length, get_or, set, Contains, Some, None, refl, sym, ap, ◌∙◌, subst, inl, inr, arith, length-append}
 use Rattle.std.specs.Prelude.{Option, Any, count_by}
@@ -20,7 +21,7 @@ use Rattle.round_core.specs.BookValue.{hearings, IsAnswered, IsRight, IsBookValu
 use Rattle.round_core.specs.declared.refusals.Refusal.TheVariants.{Stale, Stranger, Double, NotALink}
 use Rattle.round_core.proofs.Books.{map_contains, map_from}
 
--- an answer that isn't refused
+-- an answer that isn't rejected
 pub record IsAccepted (p : BookValue) (s : ℕ) (a : AnswerValue) : Type 0 where
   pub round : a.round ≡ p.round
   pub shard : a.shard ≡ s
@@ -93,14 +94,14 @@ pub book_heard : (p : BookValue) (looked_up : List ℕ) (room : ℕ) (best : Lis
     → IsBook (with_answer p a) looked_up room best
 book_heard p looked_up room best s a is lt none = search (arith, value_heard, accepted)
 
--- where none is missing each is taken
+-- if none is missing, each is taken
 none_missing : (taken : List Bool) → count_by not taken ≡ 0 → (s : ℕ) → s < length taken → get_or taken s true ≡ true
 none_missing [] none s lt = refl
 none_missing (true ∷ taken) none zero lt = refl
 none_missing (false ∷ taken) none zero lt = let n = sum_by-cons (λ (x : Bool). cond (not x) 1 0) false taken in absurd (omega (arith, n, none))
 none_missing (x ∷ taken) none (suc s) lt = let n = sum_by-cons (λ (x : Bool). cond (not x) 1 0) x taken in none_missing taken (omega (arith, n, none)) s (omega (arith, lt))
 
--- a full book has an answer for each shard, so what was heard are shards with all links of the cut
+-- a full book has an answer for each shard, so the shards that were heard about have all links of the cut
 pub full_book_has_all_links : FullBookHasAllLinks
 full_book_has_all_links p is full l = (to, back)
   where

@@ -18,7 +18,7 @@ use Rattle.round_core.specs.Solver.{Progress, vertices, IsProgress, IsFirstPicke
 use Rattle.round_core.proofs.Leading.{root_at}
 use Rattle.round_core.proofs.Picking.{place_of, picked_there, first_place}
 
--- the place of the pick of the root that so many roots stand before
+-- the index of the pick of root `j`
 abbrev pub place_at : List ℕ → ℕ → ℕ
 place_at roots j = get_or roots j 0 - 1
 
@@ -66,7 +66,7 @@ given_more picks labels roots k links l are_roots k_in here are = record {
       | inr other ↦ Contains-append_left links (l ∷ []) m ((are.exact m).1 (j, omega (arith, lt, other), within, first))
     ]
 
--- all roots gave theirs: these are all links picked, since no other vertex has a pick
+-- after all roots gave their links, these are all links picked, since no other vertex has a pick
 pub given_all : (picks : List (Option Link)) (S : LinkSet) (labels roots : List ℕ) (k : ℕ) (links : List Link) → AreLabels labels → ArePicks labels S picks → AreRoots labels roots → length roots ≤ k
     → AreGiven picks roots k links → ArePickedOnce picks links
 given_all picks S labels roots k links are_labels are_picks are_roots past are = record {
@@ -83,7 +83,7 @@ given_all picks S labels roots k links are_labels are_picks are_roots past are =
   in_order = are.in_order;
 }
 
--- where no root has a pick, no vertex has one
+-- if no root has a pick, no vertex has one
 pub none_of_roots : (picks : List (Option Link)) (S : LinkSet) (labels roots : List ℕ) → AreLabels labels
     → ArePicks labels S picks → AreRoots labels roots → All (λ c. pick_of picks c ≡ None) roots ↔ AreNoPicks picks
 none_of_roots picks S labels roots are_labels are_picks are_roots = (to, back)
@@ -116,7 +116,7 @@ pub all_at_roots : (p : Progress) (roots : List ℕ) (picks : List (Option Link)
 all_at_roots p roots picks is are_roots (heard, are) i l here =
     (are_roots.exact (i + 1)).1 (root_at p.labels (IsNamed heard) picks (labelling_is_labels (vertices p) (Contains p.taken) p.labels is.few_vertices is.labelling) are i l here)
 
--- behind those taken before stand the links that the first i roots give, and then room for those of the others
+-- the links taken before, then those that the first `i` roots give, and then capacity for those of the others
 pub record HaveGiven (picks : List (Option Link)) (roots : List ℕ) (i : ℕ) (before items : List Link) (count : ℕ) : Type 0 where
   pub within : i ≤ length roots
   pub room : length items ≡ length before + length roots
@@ -126,11 +126,11 @@ pub record HaveGiven (picks : List (Option Link)) (roots : List ℕ) (i : ℕ) (
   pub few : length added ≤ i
   pub given : AreGiven picks roots i added
 
--- a list with room behind it still begins with what stood in it
+-- a list with more capacity after it still begins with its elements
 pub with_room : (old rest new : List Link) (n m : ℕ) → length old ≡ n → n ≤ m → new ≡ take m old ++ rest → take n new ≡ old
 with_room old rest new n m long le is = search (arith, take_all, take_at)
 
--- The pick of the next root is written behind those that were given so far, and counted where the root takes it.
+-- The pick of the next root is written after those that were given so far, and counted if the root takes it.
 pub next_written : (picks : List (Option Link)) (labels roots : List ℕ) (i : ℕ) (before items : List Link) (count count' : ℕ) (l : Link) (takes : Bool) → AreRoots labels roots → i < length roots
     → Gives picks (get_or roots i 0) takes l → count' ≡ count + bool_byte takes → HaveGiven picks roots i before items count → HaveGiven picks roots (i + 1) before (set items count l) count'
 next_written picks labels roots i before items count count' l true are_roots lt gives count_is have =
@@ -162,7 +162,7 @@ next_written picks labels roots i before items count count' l false are_roots lt
       given = given_skip picks roots i have.added (gives.none refl) have.given;
     }
 
--- all roots gave theirs, behind what was taken before
+-- all roots gave their links, after those taken before
 pub all_given : (picks : List (Option Link)) (labels roots : List ℕ) (i : ℕ) (before items : List Link) (count : ℕ) → CanStep labels roots picks → length roots ≤ i
     → HaveGiven picks roots i before items count → TakesPicked picks (length roots) before (take count items)
 all_given picks labels roots i before items count can past have = record {

@@ -1,4 +1,4 @@
--- A jump: a root's parent's parent in place of its parent.
+-- A jump replaces a root's parent by the parent's parent.
 use Rattle.std.proofs.Common.{◌≡◌, ◌≢◌, ℕ, ◌+◌, ◌<◌, ◌≤◌, ◌⊎◌, List, get_or, set, Contains, sym, ap, ◌∙◌, subst, inl, inr, below_more, arith}
 use Rattle.std.specs.Prelude.{Option}
 use Rattle.std.specs.List.{sum_by}
@@ -39,8 +39,8 @@ module _ (roots old : List ℕ) (c : ℕ) (c_in : Contains roots c) (pointers : 
     ];
   }
 
-  -- Where something is the same along the new parents, it is the same along the old ones: the parent that was jumped
-  -- over still has its own parent, the new one of the root.
+  -- A value that is the same along the new parents is the same along the old ones. The parent that was jumped over
+  -- still has its own parent, the new one of the root.
   jump_joins : (labels : List ℕ) (picks : List (Option Link)) → AreParents labels roots picks old → AreParents labels roots picks new
   jump_joins labels picks are = record {
     joined = λ x x_in. elim (cases_eq x c) [
@@ -61,7 +61,8 @@ module _ (roots old : List ℕ) (c : ℕ) (c_in : Contains roots c) (pointers : 
   pub settled_on : (x : ℕ) → IsSettled old x → IsSettled new x
   settled_on x settled = search (arith, cases_eq, set, set-get_or, off, at)
 
-  -- ranks still descend along the parents: the rank of the root's new parent is at most that of the old one, and less where that wasn't settled
+  -- ranks still descend along the parents: the rank of the root's new parent is at most that of the old one, and less
+  -- if that wasn't settled
   module _ (rank : ℕ → ℕ) (down : Descend roots rank old) where
     jump_descends : Descend roots rank new
     jump_descends x x_in = search (arith, cases_eq, at, parent_in, off)
@@ -81,7 +82,7 @@ pub record HaveJumped (roots old new : List ℕ) : Type 0 where
   pub parents : (labels : List ℕ) (picks : List (Option Link)) → AreParents labels roots picks old → AreParents labels roots picks new
   pub descend : (rank : ℕ → ℕ) → Descend roots rank old → Descend roots rank new × (sum_by rank new ≤ sum_by rank old)
 
--- and one more
+-- and another one
 pub jumped_more : (roots old new : List ℕ) (c : ℕ) → Contains roots c → HaveJumped roots old new → HaveJumped roots old (jumped new c)
 jumped_more roots old new c c_in have = record {
   pointers = jump_points roots new c c_in have.pointers;
@@ -92,18 +93,18 @@ jumped_more roots old new c c_in have = record {
       (jump_descends roots new c c_in have.pointers rank down', omega (arith, le, le'));
 }
 
--- the ranks of the parents add up to less than before
+-- the sum of the parents' ranks is less than before
 abbrev pub LowersRanks : List ℕ → List ℕ → List ℕ → Type 0
 LowersRanks roots old new = (rank : ℕ → ℕ) → Descend roots rank old → sum_by rank new < sum_by rank old
 
--- so it is once a root's parent has led to another
+-- this holds after a root's parent led to another
 pub lower_by_last : (roots old new : List ℕ) (c : ℕ) → Contains roots c → HaveJumped roots old new → ¬ (IsSettled new c) → LowersRanks roots old (jumped new c)
 lower_by_last roots old new c c_in have moves rank down = search (arith, fewer)
 
 pub lower_still : (roots old new : List ℕ) (c : ℕ) → Contains roots c → HaveJumped roots old new → LowersRanks roots old new → LowersRanks roots old (jumped new c)
 lower_still roots old new c c_in have lower rank down = search (arith, no_more)
 
--- where it has nowhere to jump to, and those before it had not, all of them are settled
+-- if a root has no new parent to jump to, and those before it had none, all of them are settled
 pub settled_more : (roots new : List ℕ) (k : ℕ) → ((j : ℕ) → j < k → IsSettled new (get_or roots j 0)) → get_or new (get_or new (get_or roots k 0) 0) 0 ≡ get_or new (get_or roots k 0) 0
     → (j : ℕ) → j < k + 1 → IsSettled (set new (get_or roots k 0) (get_or new (get_or new (get_or roots k 0) 0) 0)) (get_or roots j 0)
 settled_more roots new k before rests j lt = search (arith, set, set-get_or, below_more)

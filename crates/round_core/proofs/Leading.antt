@@ -1,4 +1,4 @@
--- Where picks lead the roots: each to a root that it is joined to, whose pick is less, or to one that stays.
+-- Where picks lead the roots: each to a root to which it is connected and whose pick is less, or to one that stays.
 use Rattle.std.proofs.Common.{◌≡◌, ◌≢◌, ℕ, ◌+◌, ◌-◌, ◌*◌, ◌<◌, ◌≤◌, ◌^◌, ◌⊎◌, min, List, [], ◌∷◌, length, get_or, Contains}
 use Rattle.std.proofs.Common.{Some, None, refl, sym, ap, ◌∙◌, subst, inl, inr, ◌↔◌, Bool, true, false, not, ltb, ◌&&◌, ◌||◌, arith}
 use Rattle.std.specs.Prelude.{Option}
@@ -18,7 +18,7 @@ use Rattle.round_core.proofs.HookWalks.{over_same}
 use Rattle.round_core.proofs.PickNumbers.{number_of, has_number, below_is_less}
 use Rattle.round_core.proofs.Picking.{place_of, picked_there, least_at, least_end, first_at, pick_dec}
 
--- a root's rank is the number of its pick's key, and of equal ones its own
+-- a root's rank is the number of its pick's key, and of two equal ones its own
 rank_of_pick : Option Link → ℕ
 rank_of_pick None = 0
 rank_of_pick (Some l) = number_of l
@@ -30,12 +30,12 @@ rank_below : (l m : Link) → IsBelow l m → rank_of_pick (Some l) < rank_of_pi
 unfolding rank_of_pick
 rank_below l m below = below_is_less l m (number_of l) (number_of m) (has_number l) (has_number m) below
 
--- the other end of a link that leaves label c
+-- the other endpoint of a link that leaves label `c`
 other_end : (labels : List ℕ) (l : Link) (c : ℕ) → Leaves labels l c → (d : ℕ) × HasEndLabels labels l c d
 other_end labels l c (inl (low, other)) = (label_of labels l.high, inl (low, refl))
 other_end labels l c (inr (other, high)) = (label_of labels l.low, inr (refl, high))
 
--- labels of a link's ends are roots
+-- labels of a link's endpoints are roots
 pub end_root : (labels : List ℕ) → AreLabels labels → (v : ℕ) → IsVertex (length labels) v → IsRoot labels (label_of labels v)
 end_root labels are v vertex = search arith
 
@@ -53,12 +53,12 @@ turned : (labels : List ℕ) (l : Link) (c d : ℕ) → HasEndLabels labels l c 
 turned labels l c d (inl ends) = inr ends
 turned labels l c d (inr ends) = inl ends
 
--- a picked link joins the labels of its ends
+-- a picked link connects the labels of its endpoints
 joins_ends : (labels : List ℕ) (picks : List (Option Link)) (l : Link) (c d : ℕ) → Picked picks l → IsRoot labels c → IsRoot labels d → HasEndLabels labels l c d → JoinsOver labels (Picked picks) c d
 joins_ends labels picks l c d picked c_root d_root (inl (low, high)) = (l ∷ [], (picked, tt), inl (c_root.1 ∙ sym low, high ∙ sym d_root.1))
 joins_ends labels picks l c d picked c_root d_root (inr (low, high)) = (l ∷ [], (picked, tt), inr (c_root.1 ∙ sym high, low ∙ sym d_root.1))
 
--- a link has one other end
+-- a link has one other endpoint
 same_other : (labels : List ℕ) (l : Link) (c d e : ℕ) → HasEndLabels labels l c d → HasEndLabels labels l c e → d ≡ e
 same_other labels l c d e (inl (low, high)) (inl (low', high')) = sym high ∙ high'
 same_other labels l c d e (inl (low, high)) (inr (low', high')) = sym high ∙ high' ∙ sym low ∙ low'
@@ -80,7 +80,7 @@ record HasPick (labels : List ℕ) (S : LinkSet) (picks : List (Option Link)) (c
   other_root : IsRoot labels other
   leaves_other : Leaves labels l other
 
--- a link with ends of different labels leaves the other one too
+-- a link whose endpoints have different labels leaves the other one too
 leaves_both : (labels : List ℕ) (l : Link) (c d : ℕ) → Leaves labels l c → HasEndLabels labels l c d → Leaves labels l d
 leaves_both labels l c d leaves ends = search (arith, leaves_both_ends, leaves_apart)
 
@@ -96,7 +96,7 @@ module _ (labels : List ℕ) (S : LinkSet) (picks : List (Option Link)) (are_lab
       let (root, other_root) = ends_root labels l c d are_labels (are.ends l picked) ends in
       record { least = least; picked = picked; other = d; ends = ends; root = root; other_root = other_root; leaves_other = leaves_both labels l c d least.leaves ends }
 
-  -- each picked link is the pick of some root
+  -- each picked link is the pick of a root
   root_of : (l : Link) → Picked picks l → (c : ℕ) × (pick_of picks c ≡ Some l) × HasPick labels S picks c l
   root_of l picked =
       let (i, here) = place_of picks l picked in
@@ -105,14 +105,14 @@ module _ (labels : List ℕ) (S : LinkSet) (picks : List (Option Link)) (are_lab
       let pick : pick_of picks (i + 1) ≡ Some l = ap (λ k. get_or picks k None) back ∙ here in
       (i + 1, pick, has_pick (i + 1) l at.vertex pick)
 
-  -- so a place that has a pick is that of a root
+  -- so an index that has a pick is that of a root
   pub root_at : (i : ℕ) (l : Link) → get_or picks i None ≡ Some l → IsRoot labels (i + 1)
   root_at i l here =
       let at = least_at labels S picks i l are here in
       let back : i + 1 - 1 ≡ i = omega arith in
       (has_pick (i + 1) l at.vertex (ap (λ k. get_or picks k None) back ∙ here)).root
 
-  -- of the two labels of a picked link's ends the lesser takes it, or the one that alone picks it
+  -- of the labels of a picked link's endpoints, the lesser takes it, or the only one that picks it
   module _ (c d : ℕ) (l : Link) (vertex : IsVertex (length labels) c) (here : pick_of picks c ≡ Some l) (ends : HasEndLabels labels l c d) where
     least_is : (low high : ℕ) → ((low ≡ c) × (high ≡ d)) ⊎ ((low ≡ d) × (high ≡ c)) → min low high ≡ min c d
     least_is low high (inl (is, is')) = omega (arith, is, is')
@@ -143,7 +143,7 @@ module _ (labels : List ℕ) (S : LinkSet) (picks : List (Option Link)) (are_lab
     takes_where : (takes : Bool) → 1 ≤ d → (takes ≡ true → (pick_of picks d ≢ Some l) ⊎ (c < d)) → (takes ≡ false → (pick_of picks d ≡ Some l) × (d ≤ c)) → Gives picks c takes l
     takes_where takes one if_so if_not = search (arith, first_here, not_first_here)
 
-    -- a look whether the labels have the same pick decides which takes it
+    -- whether the labels have the same pick decides which takes it
     pub is_taker : (paired : Bool) → 1 ≤ d → (paired ≡ true) ↔ (pick_of picks c ≡ pick_of picks d) → Gives picks c (not paired || ltb c d) l
     is_taker true one same = takes_where (ltb c d) one (λ tested. inr (ltb-true c d tested)) (λ failed. (sym (same.0 refl) ∙ here, ltb-false c d failed))
     is_taker false one same = takes_where true one (λ _. inl (λ there. let wrong : false ≡ true = same.1 (here ∙ sym there) in absurd (cc))) (λ wrong. absurd (cc))
@@ -166,7 +166,7 @@ module _ (labels : List ℕ) (S : LinkSet) (picks : List (Option Link)) (are_lab
     lead : (c : ℕ) → IsRoot labels c → IsLed labels picks c (up c)
     lead c root = led c ((are_roots.exact c).1 root)
 
-    -- of two labels that pick one link both go to the lesser
+    -- if two labels pick the same link, both go to the lesser
     both_to : (c : ℕ) (l : Link) → (has : HasPick labels S picks c l) → pick_of picks c ≡ Some l → pick_of picks has.other ≡ Some l → (up c ≡ min c has.other) × (up has.other ≡ min c has.other)
     both_to c l has here there =
         let to : up c ≡ min c has.other = (lead c has.root).to_lesser l has.other here has.ends there in
@@ -197,7 +197,7 @@ module _ (labels : List ℕ) (S : LinkSet) (picks : List (Option Link)) (are_lab
               | inr not_there ↦ goes l has ((lead c root).to_other l has.other is has.ends not_there)
             ]
 
-    -- what is the same along parents is the same at both ends of a pick
+    -- a value that is the same along parents is the same at both endpoints of a pick
     together_up : (f : ℕ → ℕ) → ((c : ℕ) → Contains roots c → f c ≡ f (up c)) → (l : Link) → Picked picks l → f (label_of labels l.low) ≡ f (label_of labels l.high)
     together_up f along l picked = at_ends has.ends same
       where
@@ -228,7 +228,7 @@ module _ (labels : List ℕ) (S : LinkSet) (picks : List (Option Link)) (are_lab
     pub are_parents : AreParents labels roots picks parents
     are_parents = record { joined = joined_up; together = together_up }
 
-    -- the other label's pick is less, where it isn't the same
+    -- the other label's pick is less, if it isn't the same
     lower : (c : ℕ) (l : Link) → (has : HasPick labels S picks c l) → pick_of picks c ≡ Some l → pick_of picks has.other ≢ Some l → (pick : Option Link) → pick_of picks has.other ≡ pick
         → rank_of_pick (pick_of picks has.other) < rank_of_pick (pick_of picks c)
     lower c l has here not_there None there = search arith
@@ -242,7 +242,8 @@ module _ (labels : List ℕ) (S : LinkSet) (picks : List (Option Link)) (are_lab
         subst (λ (x : Option Link). rank_of_pick x < rank_of_pick (pick_of picks c)) (sym there)
         (subst (λ (x : Option Link). rank_of_pick (Some m) < rank_of_pick x) (sym here) (rank_below m l below))
 
-    -- so a root goes to one whose pick is less, or of two that have one pick the greater to the lesser, or it stays
+    -- So a root goes to one whose pick is less; or the greater of two with the same pick goes to the lesser; or it
+    -- stays.
     pub descend_at_first : Descend roots (rank_of picks) parents
     unfolding rank_of
     descend_at_first c c_in = by_pick (pick_of picks c) refl

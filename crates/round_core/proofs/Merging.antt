@@ -25,7 +25,7 @@ use Rattle.round_core.proofs.Naming.{kept_roots, roots_within}
 use Rattle.round_core.proofs.HookWalks.{over_more}
 use Rattle.round_core.proofs.Picking.{picked_is_pick, each_once}
 
--- so few rounds that the next one's number fits, and its power of two
+-- there are so few rounds that the next one's number fits, and so does its power of two
 pub rounds_few : (n r : ℕ) → n ≤ 2 ^ 26 → 2 ^ r ≤ max 1 n → r ≤ 26
 rounds_few n r few in_time = elim (cases_lt 26 r) [
   | inl past ↦ let more = pow_below 26 r past in absurd (omega (arith, more, few, in_time))
@@ -60,14 +60,15 @@ picked_part labels S picks links are once l l_in = picked_is_pick labels S picks
 picked_ends : (labels : List ℕ) (S : LinkSet) (picks : List (Option Link)) (links : List Link) → ArePicks labels S picks → ArePickedOnce picks links → EndsUpTo (length labels) links
 picked_ends labels S picks links are once i d lt = are.ends (get_or links i d) ((once.exact (get_or links i d)).0 (Contains-get_or links i d lt))
 
--- the picks join what they pick
+-- the picks connect the vertices of what they pick
 merged : (p : Progress) (picks : List (Option Link)) (labels : List ℕ) (links : List Link) → IsProgress p → ArePicksOfHearings p.labels picks → ArePickedOnce picks links
     → IsRelabelling (vertices p) p.labels (Picked picks) labels → IsLabelling (vertices p) (Contains (p.taken ++ links)) labels
 merged p picks labels links is (heard, are) once joined =
     (relabelled_by_steps (vertices p) p.taken links p.labels is.ends (picked_ends p.labels (IsNamed heard) picks links are once) is.labelling labels).1
     (relabelling_alike (vertices p) p.labels labels (Picked picks) (Contains links) (λ l. ((once.exact l).1, (once.exact l).0)) joined)
 
--- The links that a step took close no cycle and are new, whatever was heard; and what was a root and still labels itself is one.
+-- The links that a step took close no cycle and are new, whatever was heard. A vertex that was a root and still labels
+-- itself is a root.
 module _ (p q : Progress) (picks : List (Option Link)) (count : ℕ) (is : IsProgress p) (S : LinkSet) (are : ArePicks p.labels S picks) (to : IsMerged picks count p q) where
   abbrev long : length q.labels ≡ vertices p
   long = to.labelling.each_vertex
@@ -99,7 +100,8 @@ module _ (p q : Progress) (picks : List (Option Link)) (count : ℕ) (is : IsPro
       labels_of : (r : Progress) → IsProgress r → AreLabels r.labels
       labels_of r is_r = labelling_is_labels (vertices r) (Contains r.taken) r.labels is_r.few_vertices is_r.labelling
 
--- After a turn that merged, what were roots are still vertices, and those of them that still label themselves are the roots.
+-- After a step that merged, those that were roots are still vertices, and those of them that still label themselves are
+-- the roots.
 module _ (p q : Progress) (picks : List (Option Link)) (turn : Turn) (count : ℕ) (merged_so : turn ≡ Merged count) (did : IsTurn picks p q turn)
     (roots labels : List ℕ) (are_roots : AreRoots p.labels roots) (new : labels ≡ q.labels) where
   abbrev to : IsMerged picks count p q
@@ -113,7 +115,7 @@ module _ (p q : Progress) (picks : List (Option Link)) (turn : Turn) (count : �
       let rest : kept ≡ filter (λ c. label_of q.labels c == c) roots = kept_is ∙ ap (λ (ls : List ℕ). filter (λ c. label_of ls c == c) roots) new in
       (goes_on p q picks count is (IsNamed heard.0) heard.1 to, subst (AreRoots q.labels) (sym rest) (roots_after p q picks count is (IsNamed heard.0) heard.1 to roots are_roots))
 
--- where there are picks, some link is taken
+-- if there are picks, a link is taken
 pub some_taken : (picks : List (Option Link)) (links : List Link) → ¬ (AreNoPicks picks) → ArePickedOnce picks links → 0 < length links
 some_taken picks (l ∷ links) some once = omega arith
 some_taken picks [] some once = absurd (some none)
@@ -147,6 +149,6 @@ is_merged p picks labels links taken count r is are decides fails once joined in
   in_time = in_time;
 }
 
--- the new links, behind those that were there, are as many as are more
+-- the number of new links is how many more there are
 pub so_many_more : (before added after : List Link) → after ≡ before ++ added → length after ≡ length before + length added
 so_many_more before added after behind = ap length behind ∙ length-append before added

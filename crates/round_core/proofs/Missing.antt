@@ -17,7 +17,7 @@ use Rattle.links.proofs.Cycles.{no_cycle_part}
 use Rattle.round_theory.proofs.Leaving.{leaves_apart, spans_where_none_leaves}
 use Rattle.round_core.specs.Solver.{Progress, vertices, IsProgress, is_apart, missed, IsFinished}
 
--- where none is missed each link's ends have one label
+-- if no link is missed, each link's endpoints have one label
 not_apart : (labels : List ℕ) (links : List Link) (l : Link) → missed labels links ≡ None → Contains links l → is_apart labels l ≡ false
 not_apart labels [] l none l_in = absurd (contains_none l l_in)
 not_apart labels (x ∷ links) l none l_in = search (arith, cond, contains_cases, not_apart labels links l)
@@ -31,7 +31,7 @@ none_leave labels links none l c l_in leaves =
     let wrong : false ≡ true = sym (not_apart labels links l none l_in) ∙ apart_is labels l (leaves_apart labels l c leaves) in
     absurd (cc)
 
--- the ends of a cut's links are vertices, joined together too
+-- the endpoints of a cut's links are vertices, also after its shards are joined
 pub joined_ends : (n : ℕ) (cut : List (List Link)) → All (EndsUpTo n) cut → EndsUpTo n (joined cut)
 joined_ends n cut ends i d lt =
     let l : Link = get_or (joined cut) i d in
@@ -39,7 +39,7 @@ joined_ends n cut ends i d lt =
     let s_ends : EndsUpTo n s = All-contains (EndsUpTo n) cut s ends (k, s_lt, at) in
     All-contains (λ (m : Link). m.high ≤ n) s l s_ends l_in
 
--- Where no link is missed none leaves a label, so the links taken span; in another order they are the same set.
+-- If no link is missed, none leaves a label, so the links taken span. In another order they are the same set.
 pub finished : (p : Progress) (cut : List (List Link)) (forest : List Link) → IsProgress p → All (EndsUpTo (vertices p)) cut → missed p.labels (joined cut) ≡ None
     → IsPermutation p.taken forest → IsAscending forest → IsFinished p (joined cut) forest
 finished p cut forest is ends none moved up = record {

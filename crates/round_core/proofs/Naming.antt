@@ -1,4 +1,4 @@
--- The least root under each parent, and the labels that it gives.
+-- The least root under each parent, and the labels that follow from it.
 use Rattle.std.proofs.Common.{◌≡◌, ◌≢◌, ℕ, zero, suc, ◌+◌, ◌-◌, ◌<◌, ◌≤◌, ◌==◌, Bool, true, false, List, length, get_or, set, map, Contains, refl, sym, ap, ◌∙◌, subst, inl, inr, arith}
 use mir.Val.{bool_byte}
 use Rattle.std.specs.Prelude.{Option, AllPairs, All, filter}
@@ -18,11 +18,11 @@ use Rattle.round_theory.proofs.Steps.{relabelling_is_labels}
 use Rattle.round_core.proofs.HookWalks.{over_same, over_from, over_then, over_back, over_equal}
 use Rattle.round_core.proofs.Leading.{end_root}
 
--- what holds of the roots at all places holds of all roots
+-- what holds for the roots at all indices holds for all roots
 pub at_contained : (P : ℕ → Type 0) (roots : List ℕ) (k : ℕ) → length roots ≤ k → ((j : ℕ) → j < k → P (get_or roots j 0)) → (c : ℕ) → Contains roots c → P c
 at_contained P roots k past all c (j, within, here) = subst P (get_or_default roots j 0 c within ∙ here) (all j (omega (arith, past, within)))
 
--- the vertices from 1 on ascend, and are just these
+-- the vertices from 1 on ascend, and are exactly these
 pub vertices_ascend : (vertices : List ℕ) → ((k : ℕ) → k < length vertices → get_or vertices k 0 ≡ k + 1) → AllPairs (λ b c. b < c) vertices
 vertices_ascend vertices own i j d lt within = search (arith, get_or_default)
 
@@ -36,7 +36,7 @@ vertex_is_contained vertices c own vertex =
     let within : c - 1 < length vertices = omega (arith, vertex.0, vertex.1) in
     (c - 1, within, get_or_default vertices (c - 1) c 0 within ∙ own (c - 1) within ∙ (let e : c - 1 + 1 ≡ c = omega (arith, vertex.0) in e))
 
--- of all vertices those that label themselves are the roots
+-- the vertices that label themselves are the roots
 pub own_roots : (vertices labels : List ℕ) → length vertices ≡ length labels → ((k : ℕ) → k < length vertices → get_or vertices k 0 ≡ k + 1)
     → AreRoots labels (filter (λ c. label_of labels c == c) vertices)
 own_roots vertices labels long own = record {
@@ -53,18 +53,18 @@ own_roots vertices labels long own = record {
     back c (vertex, itself) =
         kept_if (λ c. label_of labels c == c) vertices c (vertex_is_contained vertices c own (subst (λ n. IsVertex n c) (sym long) vertex)) (eq-eqb (label_of labels c) c itself)
 
--- of the roots from place k on with the parent p, u is the least
+-- `u` is the least of the roots from index `k` on with the parent `p`
 pub record IsLeastFrom (roots parents : List ℕ) (k p u : ℕ) : Type 0 where
   pub root : Contains roots u
   pub same : get_or parents u 0 ≡ p
   pub least : (j : ℕ) → k ≤ j → j < length roots → get_or parents (get_or roots j 0) 0 ≡ p → u ≤ get_or roots j 0
 
--- the roots from place k on have given their parents the least of them
+-- the least of the roots from index `k` on with each parent is stored
 pub record AreFoundFrom (roots parents least : List ℕ) (k : ℕ) : Type 0 where
   pub room : (c : ℕ) → Contains roots c → c < length least
   pub found : (j : ℕ) → k ≤ j → j < length roots → IsLeastFrom roots parents k (get_or parents (get_or roots j 0) 0) (get_or least (get_or parents (get_or roots j 0) 0) 0)
 
--- one more root, which is less than those before
+-- another root, which is less than those before
 pub found_more : (roots parents least : List ℕ) (k c p : ℕ) → AllPairs (λ b c. b < c) roots → ArePointers roots parents → k < length roots → get_or roots k 0 ≡ c → get_or parents c 0 ≡ p
     → AreFoundFrom roots parents least (k + 1) → AreFoundFrom roots parents (set least p c) k
 found_more roots parents least k c p ascending pointers k_in c_is p_is are = record {
@@ -120,7 +120,7 @@ found_all roots parents least are c (j, within, here) = subst (λ b. IsLeastUnde
     found : IsLeastFrom roots parents 0 (get_or parents (get_or roots j 0) 0) (get_or least (get_or parents (get_or roots j 0) 0) 0)
     found = are.found j (omega arith) within
 
--- the first k roots have the least root under their parent in its place
+-- the first `k` roots have the least root under their parent instead of it
 pub record AreNamed (roots least old new : List ℕ) (k : ℕ) : Type 0 where
   pub long : length new ≡ length old
   pub named : (j : ℕ) → j < k → j < length roots → get_or new (get_or roots j 0) 0 ≡ get_or least (get_or old (get_or roots j 0) 0) 0
@@ -144,8 +144,8 @@ pub named_all : (roots least old new : List ℕ) (k : ℕ) → length roots ≤ 
 named_all roots least old new k past are c (j, within, here) =
     subst (λ b. get_or new b 0 ≡ get_or least (get_or old b 0) 0) (get_or_default roots j 0 c within ∙ here) (are.named j (omega (arith, past, within)) within)
 
--- What the labels and the picks join to a root has one parent, since all parents are settled; and a vertex is never less than its
--- label, so that the least root under that parent is the least vertex too.
+-- All vertices that the labels and the picks connect to a root have one parent, since all parents are settled. A vertex
+-- is never less than its label, so the least root under that parent is the least vertex too.
 pub least_joined : (labels roots parents : List ℕ) (picks : List (Option Link)) → AreLabels labels → AreRoots labels roots → AreParents labels roots picks parents → AreSettled roots parents
     → (c u : ℕ) → IsRoot labels c → IsLeastUnder roots parents c u → IsLeastJoinedOver (length labels) labels (Picked picks) c u
 least_joined labels roots parents picks are are_roots are_parents settled c u root name = record {
@@ -164,11 +164,12 @@ least_joined labels roots parents picks are are_roots are_parents settled c u ro
     one_parent w over = ap (λ b. get_or parents b 0) (sym root.1)
         ∙ over_equal labels (Picked picks) (λ b. get_or parents b 0) (are_parents.together (λ b. get_or parents b 0) (λ b b_in. sym (settled b b_in))) c w over
 
--- the name of each root, at the place of its number, is the least vertex that the components of the labels and the picks join it to
+-- the name of each root, at the root's index, is the least vertex to which the components of the labels and the picks
+-- connect it
 abbrev AreNames : List ℕ → List (Option Link) → List ℕ → Type 0
 AreNames labels picks names = (c : ℕ) → IsRoot labels c → IsLeastJoinedOver (length labels) labels (Picked picks) c (get_or names c 0)
 
--- The labels by these names: what is joined to a vertex is joined to its label.
+-- The labels by these names: what is connected to a vertex is connected to its label.
 relabelled_by_names : (labels names new : List ℕ) (picks : List (Option Link)) → AreLabels labels → AreNames labels picks names → new ≡ map (λ c. get_or names c 0) labels
     → IsRelabelling (length labels) labels (Picked picks) new
 relabelled_by_names labels names new picks are named new_is = record {
@@ -211,7 +212,7 @@ kept_roots labels roots new picks are are_new are_roots is = record {
         let same : label_of labels c ≡ c = omega (arith, label, least, own) in
         kept_if (λ c. label_of new c == c) roots c ((are_roots.exact c).1 (here, same)) (eq-eqb (label_of new c) c own)
 
--- A vertex is written behind those kept, and counted where it passes.
+-- A vertex is written after those retained, and counted if it passes.
 pub kept_by_test : (p : ℕ → Bool) (xs ys : List ℕ) (k k' i x : ℕ) → FiltersInPlace p xs ys k i
     → i < length ys → x ≡ get_or ys i x → k' ≡ k + bool_byte (p x) → FiltersInPlace p xs (set ys k x) k' (i + 1)
 kept_by_test p xs ys k k' i x so_far within at count = by_test (p x) refl
@@ -232,7 +233,7 @@ kept_by_test p xs ys k k' i x so_far within at count = by_test (p x) refl
           long = length-set ys k x ∙ passed.long;
         })
 
--- what is above all roots is above all labels
+-- a number above all roots is above all labels
 labels_within : (labels roots : List ℕ) (m : ℕ) → AreLabels labels → AreRoots labels roots → All (λ c. c < m) roots → All (λ c. c < m) labels
 labels_within labels roots m are are_roots within k d lt =
     let back : k + 1 - 1 ≡ k = omega arith in
@@ -240,7 +241,7 @@ labels_within labels roots m are are_roots within k d lt =
     let root = end_root labels are (k + 1) (omega arith, omega (arith, lt)) in
     subst (λ c. c < m) (sym at) (All-contains (λ c. c < m) roots (label_of labels (k + 1)) within ((are_roots.exact (label_of labels (k + 1))).1 root))
 
--- there are no more roots than vertices: the root that j others stand before is above j
+-- there are no more roots than vertices: the root at index `j` is above `j`
 pub roots_few : (labels roots : List ℕ) → AreRoots labels roots → length roots ≤ length labels
 roots_few labels roots are = elim (cases_lt 0 (length roots)) [
   | inl some ↦
@@ -258,11 +259,10 @@ roots_few labels roots are = elim (cases_lt 0 (length roots)) [
     at zero lt = (root 0 lt).0.0
     at (suc j) lt = search (arith, at j)
 
--- all roots are vertices
 pub roots_within : (labels roots : List ℕ) (n : ℕ) → n ≡ length labels → AreRoots labels roots → All (IsVertex n) roots
 roots_within labels roots n is are k d lt = subst (λ m. IsVertex m (get_or roots k d)) (sym is) ((are.exact (get_or roots k d)).0 (Contains-get_or roots k d lt)).0
 
--- so they are among the numbers up to their number
+-- so they are below any number above the number of vertices
 pub roots_below : (labels roots : List ℕ) (n m : ℕ) → n ≡ length labels → n < m → AreRoots labels roots → All (λ c. c < m) roots
 roots_below labels roots n m is above are k d lt = let vertex = roots_within labels roots n is are k d lt in omega (arith, vertex.1, above)
 

@@ -22,14 +22,14 @@ use Rattle.round_core.specs.PickNumbers.{IsKeyNumber, no_pick}
 use Rattle.round_core.specs.BookValue.{is_leaving, is_offer, named_links, all_named, IsRight, CanCount}
 use Rattle.round_core.specs.OwnPicks.{IsPlaced, IsOfferedBy, IsOfferedIn, AreTakenFrom, IsCountedIn, AreCountedIn, AreLeastNumbers}
 
--- an offer offers the link at its place
+-- an offer offers the link at its index
 pub offers_at : (links : List Link) (offers : List Offer) (i : ℕ) (l : Link) → i < length offers → (get_or offers i (0, 0)).1 < length links → l ≡ get_or links (get_or offers i (0, 0)).1 l
     → IsOfferedBy links offers (get_or offers i (0, 0)).0 l
 offers_at links offers i l lt within here =
     let o : Offer = get_or offers i (0, 0) in
     (o.1, All-contains_itself offers i (0, 0) lt, slice_get_read links (length links) o.1 l refl within here)
 
--- one vertex more has the lesser of its number and that of a link that is offered for it
+-- another vertex has the lesser of its number and that of a link that is offered for it
 pub taken_more : (offered : ℕ → Link → Type 0) (start own x k : ℕ) (old part : List ℕ) (l : Link) → own < length part → x ≡ get_or part own 0 → offered (start + own + 1) l → IsKeyNumber l k
     → AreTakenFrom offered start old part → AreTakenFrom offered start old (set part own (min x k))
 taken_more offered start own x k old part l within x_is is key before = λ i lt.
@@ -65,7 +65,7 @@ taken_of_answer cut answers i a start old new lt at taken = λ j in_old. elim (t
   | inr (l, offered, key) ↦ inr (l, any_from (λ (b : AnswerValue). IsOfferedBy (links_at cut b.shard) b.offers (start + j + 1) l) answers a (i, lt, sym at) offered, key)
 ]
 
--- a link that is offered for a label is one that the offers name, and leaves it
+-- a link that is offered for a label is one that the offers name, and leaves the label
 pub offered_leaves : (links : List Link) (labels : List ℕ) (offers : List Offer) (c : ℕ) (l : Link) → list_all (is_offer links labels) offers ≡ true → IsOfferedBy links offers c l
     → Contains (named_links links offers) l × Leaves labels l c
 offered_leaves links labels offers c l all (place, (i, lt, at), some) =
@@ -78,7 +78,7 @@ offered_leaves links labels offers c l all (place, (i, lt, at), some) =
       leaves_if labels c l leaving,
     )
 
--- the same of the answers
+-- the same for the answers
 pub offered_leaves_in : (cut : List (List Link)) (labels : List ℕ) (answers : List AnswerValue) (c : ℕ) (l : Link)
     → CanCount cut labels answers → IsOfferedIn cut answers c l → Contains (all_named cut answers) l × Leaves labels l c
 offered_leaves_in cut labels answers c l can (i, a, lt, at, offered) =
@@ -89,7 +89,7 @@ offered_leaves_in cut labels answers c l can (i, a, lt, at, offered) =
       here.1,
     )
 
--- the numbers taken are the least, where no link that is offered is less than one of its own
+-- the numbers taken are the least, if no link that is offered is less than one of its own
 pub taken_are_least : (cut : List (List Link)) (labels : List ℕ) (answers : List AnswerValue) (old new : List ℕ)
     → CanCount cut labels answers → length old ≡ length labels → length new ≡ length old → All (λ k. k ≡ no_pick) old
     → AreTakenFrom (IsOfferedIn cut answers) 0 old new → AreCountedIn labels new (all_named cut answers) → AreLeastNumbers labels (all_named cut answers) new
@@ -107,15 +107,15 @@ taken_are_least cut labels answers old new can each long none taken counted = re
   counted = counted;
 }
 
--- ---- looked at one after the other
+-- ---- checked one after the other
 
--- a link that leaves labels is counted where it isn't less than the numbers of both
+-- a link that leaves labels is counted if it isn't less than the numbers of both
 pub counted_by : (labels numbers : List ℕ) (l : Link) (m a b : ℕ) → l.high ≤ length labels
     → label_of labels l.low ≢ label_of labels l.high → a ≡ label_of labels l.low → b ≡ label_of labels l.high → IsKeyNumber l m
     → (get_or numbers (a - 1) 0 ≤ m) × (get_or numbers (b - 1) 0 ≤ m) ↔ IsCountedIn labels numbers l
 counted_by labels numbers l m a b end apart a_is b_is key = search (arith, leaves_end, leaves_low, leaves_high, ints)
 
--- the links of offers are counted where a look at each offer finds that the link it names is
+-- the links of offers are counted if a check of each offer finds that the link it names is
 pub all_counted : (labels numbers : List ℕ) (links : List Link) (offers : List Offer) (b : Bool) {X : Type 0} (now : X → Offer) (xs : List X)
     → map now xs ≡ offers → list_all (is_offer links labels) offers ≡ true
     → MatchBool b (All (λ x. (l : Link) → slice_get links (now x).1 ≡ Some l → IsTrue true ↔ IsCountedIn labels numbers l) xs)
@@ -144,7 +144,7 @@ all_counted labels numbers links offers false now xs are leaving (k, x, lt, at, 
       ],
 )
 
--- and those of answers where a look at each answer finds that the links it names are
+-- and those of answers are if a check of each answer finds that the links it names are
 pub all_answers_counted : (cut : List (List Link)) (labels numbers : List ℕ) (answers : List AnswerValue) (b : Bool) {X : Type 0} (now : X → AnswerValue) (xs : List X) → map now xs ≡ answers
     → MatchBool b (All (λ x. IsTrue true ↔ AreCountedIn labels numbers (named_links (links_at cut (now x).shard) (now x).offers)) xs)
     (Any (λ x. IsTrue false ↔ AreCountedIn labels numbers (named_links (links_at cut (now x).shard) (now x).offers)) xs)
@@ -165,7 +165,7 @@ all_answers_counted cut labels numbers answers false now xs are (k, x, lt, at, n
       not.1 (λ l l_in. counted l ((flat_map_contains named answers l).1 (any_from (λ a. Contains (named a) l) answers (now x) here l_in))),
 )
 
--- answers that can be counted name places
+-- answers that can be counted name indices
 pub placed_of : (cut : List (List Link)) (labels : List ℕ) (answers : List AnswerValue) → CanCount cut labels answers → All (IsPlaced cut) answers
 placed_of cut labels answers can i a lt =
     let b : AnswerValue = get_or answers i a in

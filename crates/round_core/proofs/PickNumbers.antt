@@ -1,4 +1,4 @@
--- The numbers of picks: each link's number stands for it alone, and the lesser of two numbers is that of the lesser link.
+-- The numbers of picks: no two links have the same number, and the lesser of two numbers is that of the lesser link.
 use Rattle.std.proofs.Common.{◌≡◌, ◌≢◌, ℕ, ◌+◌, ◌-◌, ◌*◌, ◌/◌, ◌%◌, ◌^◌, ◌<◌, ◌≤◌, ◌⊎◌, ◌↔◌, ℤ, pos, negsuc, List, length, map, get_or, Some, None, refl, sym, ap, ◌∙◌, subst, inl, inr, arith}
 use Rattle.std.specs.Prelude.{Option, All, ◌+ℤ◌, ◌-ℤ◌, FitsSigned}
 use Rattle.std.specs.Int.{w64, int_wrap}
@@ -15,7 +15,7 @@ use Rattle.round_core.specs.PickNumbers.{IsKeyNumber, no_pick, IsPickNumber, lin
 use Rattle.round_theory.specs.Labelling.{IsVertex}
 use Rattle.round_core.specs.Picks.{pick_of, AreNoPicks}
 
--- ends that don't ascend are no link's
+-- endpoints that don't ascend aren't a link's
 no_link : (above low high : ℕ) (b : (0 < low) ⊎ (low ≤ 0)) (c : (low < high) ⊎ (high ≤ low)) (d : (MAX_VERTICES < high) ⊎ (high ≤ MAX_VERTICES))
     → high ≤ low → link_of above low high b c d ≡ None
 no_link above low high (inr b) c d le = refl
@@ -26,7 +26,7 @@ pub no_pick_is_none : (k : ℕ) → k ≡ no_pick → pick_in k ≡ None
 unfolding pick_in
 no_pick_is_none k is = search (arith, no_link, cases_lt)
 
--- a weight, counted from the least one on
+-- a weight, relative to the least one
 counted_weight : (w : ℤ) → FitsSigned w64 w → (above : ℕ) × (pos above ≡ w +ℤ pos (2 ^ 63))
 counted_weight (pos n) fits = (n + 2 ^ 63, omega (arith, ints))
 counted_weight (negsuc n) fits = (2 ^ 63 - 1 - n, omega (arith, ints, fits.sfits))
@@ -44,7 +44,7 @@ is_link l above low high (inl b) (inl c) (inl d) is_weight is_low is_high = absu
 is_link l above low high (inl b) (inr c) d is_weight is_low is_high = absurd (omega (arith, c, is_low, is_high, l.ascending))
 is_link l above low high (inr b) c d is_weight is_low is_high = absurd (omega (arith, b, is_low, l.from_one))
 
--- the number of a link stands for it
+-- the number of a link determines it
 pub key_is_pick : (l : Link) (k : ℕ) → IsKeyNumber l k → pick_in k ≡ Some l
 unfolding pick_in
 key_is_pick l k is =
@@ -64,24 +64,23 @@ pub has_number : (l : Link) → IsKeyNumber l (number_of l)
 unfolding to_number number_of
 has_number l = search (arith, to_number, negsuc, ints)
 
--- no link has the number of no pick
 pub key_below_no_pick : (l : Link) (k : ℕ) → IsKeyNumber l k → k < no_pick
 key_below_no_pick l k is = omega (arith, ints, is, l.ascending, l.in_limit, l.weight_fits)
 
--- of two links the one with the lesser number is below
+-- the lesser of two links has the lesser number
 pub below_is_less : (l m : Link) (j k : ℕ) → IsKeyNumber l j → IsKeyNumber m k → IsBelow l m → j < k
 below_is_less l m j k l_is m_is below = let less = wide_below l m below in omega (arith, ints, less, l_is, m_is)
 
--- the pick that a number stands for, made of its fields
+-- the pick with a number, made of its fields
 pub pick_is : (k : ℕ) (x : Link) → IsPickNumber k → k ≢ no_pick → pos (k / 2 ^ 64) ≡ x.weight +ℤ pos (2 ^ 63) → k / 2 ^ 32 % 2 ^ 32 ≡ x.low → k % 2 ^ 32 ≡ x.high → Some x ≡ pick_in k
 pick_is k x (inl none) some above low high = absurd (some none)
 pick_is k x (inr (l, is)) some above low high = search (arith, has_fields, link_eq, key_is_pick, ints)
 
--- two numbers of picks are equal just where they stand for the same pick
+-- two numbers of picks are equal exactly if they have the same pick
 pub same_pick : (j k : ℕ) → IsPickNumber j → IsPickNumber k → (j ≡ k) ↔ (pick_in j ≡ pick_in k)
 same_pick j k j_is k_is = search (arith, no_pick_is_none, key_is_pick)
 
--- the numbers of no picks are those that stand for none
+-- all numbers are that of no pick exactly if there are no picks
 pub none_where_no_picks : (numbers : List ℕ) → All IsPickNumber numbers → All (λ k. k ≡ no_pick) numbers ↔ AreNoPicks (map pick_in numbers)
 none_where_no_picks numbers are = (to, back)
   where
@@ -97,7 +96,7 @@ none_where_no_picks numbers are = (to, back)
     back : AreNoPicks (map pick_in numbers) → All (λ k. k ≡ no_pick) numbers
     back none i d lt = at (get_or numbers i d) (are i d lt) (sym (get_or-map pick_in numbers i d None lt) ∙ none i None (omega (arith, lt, length-map numbers pick_in)))
 
--- the pick of a label, whose number stands among those of all
+-- the pick of a label, from the list of all numbers
 pub number_at : (numbers : List ℕ) (picks : List (Option Link)) (c x : ℕ) → map pick_in numbers ≡ picks → All IsPickNumber numbers
     → IsVertex (length picks) c → x ≡ get_or numbers (c - 1) x → IsPickNumber x × (pick_of picks c ≡ pick_in x)
 number_at numbers picks c x picks_are all vertex at =

@@ -1,4 +1,4 @@
--- The links picked, each once: of two labels that pick a link the lesser one gives it.
+-- The links picked, each once: if two labels pick a link, the lesser gives it.
 use Rattle.std.proofs.Common.{◌≡◌, ◌≢◌, ℕ, zero, suc, ◌+◌, ◌-◌, ◌<◌, ◌≤◌, ◌⊎◌, min, List, [], ◌∷◌, length, get_or, Some, None, ap, ◌∙◌, subst, inl, inr, arith}
 use Rattle.std.specs.Prelude.{Option, AllPairs}
 use Rattle.std.proofs.lemmas.List.{get_or_default}
@@ -12,7 +12,7 @@ use Rattle.round_theory.proofs.Leaving.{leaves_end}
 use Rattle.round_core.specs.Picks.{pick_of, Picked, IsPickOf, ArePicks}
 use Rattle.round_core.specs.Solver.{IsFirstPickedAt, ArePickedOnce}
 
--- a place that has a pick is one of the list
+-- an index that has a pick is one of the list
 pub picked_within : (picks : List (Option Link)) (i : ℕ) (l : Link) → get_or picks i None ≡ Some l → i < length picks
 picked_within [] i l here = absurd (cc)
 picked_within (x ∷ picks) zero l here = omega arith
@@ -26,7 +26,7 @@ picked_there picks i l here =
 pub place_of : (picks : List (Option Link)) (l : Link) → Picked picks l → (i : ℕ) × (get_or picks i None ≡ Some l)
 place_of picks l (i, within, here) = (i, get_or_default picks i None (Some l) within ∙ here)
 
--- the pick at a place is the least link that leaves the label of that place
+-- the pick at an index is the least link that leaves the label of that index
 pub record IsLeastAt (labels : List ℕ) (S : LinkSet) (i : ℕ) (l : Link) : Type 0 where
   pub vertex : IsVertex (length labels) (i + 1)
   pub least : IsLeastLeaving labels S (i + 1) l
@@ -44,16 +44,16 @@ picked_is_pick labels S picks l are picked =
     let (i, here) = place_of picks l picked in
     (i + 1, (least_at labels S picks i l are here).least)
 
--- so the label of the place is that of one end
+-- so the label of the index is that of one endpoint
 end_at : (labels : List ℕ) (S : LinkSet) (picks : List (Option Link)) (i : ℕ) (l : Link) → ArePicks labels S picks
     → get_or picks i None ≡ Some l → (i + 1 ≡ label_of labels l.low) ⊎ (i + 1 ≡ label_of labels l.high)
 end_at labels S picks i l are here = leaves_end labels l (i + 1) (least_at labels S picks i l are here).least.leaves
 
--- the lesser label of a link's ends, as a place
+-- the lesser label of a link's endpoints, as an index
 abbrev pub least_end : List ℕ → Link → ℕ
 least_end labels l = min (label_of labels l.low) (label_of labels l.high) - 1
 
--- where it is the place, or doesn't pick the link, the place is the first that does
+-- if it is the index, or doesn't pick the link, the index is the first that does
 pub first_at : (labels : List ℕ) (S : LinkSet) (picks : List (Option Link)) (i : ℕ) (l : Link) → ArePicks labels S picks → get_or picks i None ≡ Some l
     → (least_end labels l ≡ i) ⊎ (get_or picks (least_end labels l) None ≢ Some l) → IsFirstPickedAt picks l i
 first_at labels S picks i l are here test = record { here = here; first = first }
@@ -75,7 +75,7 @@ first_at labels S picks i l are here test = record { here = here; first = first 
         lesser a b (inr at) (inl at') = omega (arith, lt, at, at')
         lesser a b (inr at) (inr at') = omega (arith, lt, at, at')
 
--- a link that is picked is so somewhere first
+-- a link that is picked has a first index at which it is
 pub pick_dec : (x : Option Link) (l : Link) → (x ≡ Some l) ⊎ (x ≢ Some l)
 pick_dec None l = inr (λ is. absurd (cc))
 pick_dec (Some m) l = elim (link_dec m l) [ inl is ↦ inl (ap Some is) | inr other ↦ inr (λ is. let same : m ≡ l = cc in other same) ]
@@ -92,7 +92,7 @@ first_place (x ∷ picks) (suc i) l here = elim (pick_dec x l) [
     later other j first zero lt = other
     later other j first (suc k) lt = first.first k (omega (arith, lt))
 
--- a link has one first place
+-- a link has only one first index
 pub each_once : (picks : List (Option Link)) (links : List Link) → ArePickedOnce picks links → AllPairs (λ l m. l ≢ m) links
 each_once picks links are i j d lt within same =
     let (a, b, first, second, before) = are.in_order i j d lt within in

@@ -1,4 +1,4 @@
--- The picks of a list of links, as those of an answer that was heard.
+-- The picks of a list of links, as those of one answer.
 use Rattle.std.proofs.Common.{ℕ, zero, suc, List, [], ◌∷◌, Contains, Some, None, sym, subst, arith}
 use Rattle.std.specs.Prelude.{Option, Any}
 use Rattle.std.proofs.lemmas.List.Elements.{All-from_recursion}
@@ -9,7 +9,7 @@ use Rattle.round_theory.proofs.Cutting.{any_from, light_offers_suffice}
 use Rattle.round_theory.proofs.LightOffers.{light_offers_exist}
 use Rattle.round_core.specs.Picks.{pick_of, IsPickOf, ArePicks, ArePicksOfHearings}
 
--- the picks of a list are those of its light offers, heard as one shard's
+-- the picks of a list are those of its light offers, as those of one shard
 module _ (links : List Link) (labels : List ℕ) (picks : List (Option Link)) (are : ArePicks labels (Contains links) picks) where
   abbrev whole : Hearing
   whole = record { shard = links; offers = (light_offers_exist links labels).0 }

@@ -28,7 +28,7 @@ use Rattle.round_core.specs.declared.solver.SolveFault.TheVariants.{Rounds, Miss
 use Rattle.round_core.proofs.Picking.{picked_there, picked_is_pick}
 use Rattle.round_core.proofs.Missing.{none_leave}
 
--- what is picked of a list are its picks
+-- the links picked from a list are its picks
 module _ (labels : List ℕ) (links : List Link) (picks : List (Option Link)) (are_labels : AreLabels labels) (ends : EndsUpTo (length labels) links) (are : ArePicks labels (Contains links) picks) where
   is_picked : (l : Link) → IsPick labels (Contains links) l → Picked picks l
   is_picked l (c, least) =
@@ -45,7 +45,7 @@ module _ (labels : List ℕ) (links : List Link) (picks : List (Option Link)) (a
 same_at : (links taken taken' : List Link) (n n' i i' : ℕ) → n' ≡ n → i' ≡ i → taken' ≡ taken → SameLinks (Contains taken) (TakenAfter n links i) → SameLinks (Contains taken') (TakenAfter n' links i')
 same_at links taken taken' n n' i i' same_n same_i same_taken same = search arith
 
--- what so many rounds took, and what the next one picks
+-- what the rounds so far took, and what the next one picks
 module _ (links : List Link) (p : Progress) (picks : List (Option Link)) (is : IsProgress p)
     (ends : EndsUpTo (vertices p) links) (so_far : HasRoundsOf links p) (are : ArePicks p.labels (Contains links) picks) where
   are_labels : AreLabels p.labels
@@ -95,7 +95,7 @@ module _ (links : List Link) (p : Progress) (picks : List (Option Link)) (is : I
   round_of new (Merged count) merged = one_round new count merged
   round_of new Done (none, same) = (same, no_round none)
 
-  -- where there are picks the round adds them, so it isn't past the bound
+  -- if there are picks, the round adds them, so it isn't past the bound
   pub only_memory : (fault : SolveFault) → IsStepFault p picks fault → fault ≡ Memory
   only_memory Memory refused = refl
   only_memory (Missed l) refused = absurd refused
@@ -123,12 +123,12 @@ module _ (links : List Link) (p : Progress) (picks : List (Option Link)) (is : I
 pub at_first : (links : List Link) (n : ℕ) (p : Progress) → IsAtStart n p → HasRoundsOf links p
 at_first links n p start = search (arith, nothing_taken)
 
--- a link that is missed is one of the list, with ends of different labels
+-- a link that is missed is one of the list, and its endpoints have different labels
 missed_is : (labels : List ℕ) (links : List Link) (l : Link) → missed labels links ≡ Some l → Contains links l × (label_of labels l.low ≢ label_of labels l.high)
 missed_is labels [] l found = absurd (cc)
 missed_is labels (x ∷ links) l found = search (arith, cond, contains_head, not, eq-eqb, contains_tail, missed_is labels links l)
 
--- what is left after so many rounds
+-- what is left after the rounds so far
 module _ (links : List Link) (p : Progress) (is : IsProgress p) (ends : EndsUpTo (vertices p) links) (so_far : HasRoundsOf links p) where
   still : SameLinks (TakenAfter (vertices p) links (suc p.rounds)) (TakenAfter (vertices p) links p.rounds) ↔ ((l : Link) (c : ℕ) → Contains links l → ¬ (Leaves p.labels l c))
   still = adds_nothing (vertices p) links ends p.rounds p.labels (labelling_alike (vertices p) (Contains p.taken) (TakenAfter (vertices p) links p.rounds) p.labels so_far.same is.labelling)
@@ -137,7 +137,7 @@ module _ (links : List Link) (p : Progress) (is : IsProgress p) (ends : EndsUpTo
   none_is all None is_none = is_none
   none_is all (Some l) is_l = let (l_in, apart) = missed_is p.labels links l is_l in absurd (still.0 all.still l (label_of p.labels l.low) l_in (leaves_low p.labels l apart))
 
-  -- no link is missed just where all rounds are done
+  -- no link is missed exactly if all rounds are done
   pub none_missed : (missed p.labels links ≡ None) ↔ IsMergingRounds (vertices p) links p.rounds
   none_missed = (
     λ none. record { still = still.1 (none_leave p.labels links none); first = so_far.earlier },
@@ -149,7 +149,7 @@ module _ (links : List Link) (p : Progress) (is : IsProgress p) (ends : EndsUpTo
   finish_only_memory all (Rounds round) refused = absurd refused
   finish_only_memory all (Missed l) refused = let none = none_missed.1 all in absurd (cc)
 
--- rounds take links of the forest alone, so where they span they are the forest
+-- rounds take only links of the forest, so if they span, they are the forest
 pub is_forest : (links : List Link) (p : Progress) → HasRoundsOf links p → (forest : List Link) → IsFinished p links forest → IsForestOf links forest
 is_forest links p so_far forest finished = record { ascending = finished.ascending; exact = spanning_part_is_forest links (Contains forest) part finished.spans }
   where

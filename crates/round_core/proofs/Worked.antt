@@ -1,4 +1,4 @@
--- The premises of a solver's laws, shown for the triangle.
+-- The premises of a solver's laws hold for the triangle.
 use Rattle.std.proofs.Common.{◌≡◌, ◌≢◌, ℕ, zero, suc, ◌<◌, ◌≤◌, [], Contains, Some, None, refl, ap, arith, lit≤, lit<, ◌+◌, ◌==◌, cond}
 use Rattle.std.proofs.Common.{not, ◌&&◌, ◌||◌, Bool, true, false, true≢false, is_lt, List, ◌∷◌, get_or, sym, ap₂, ◌∙◌, subst, inl, inr, eq-eqb, ne_eqb}
 use Rattle.std.specs.Prelude.{Option, AllPairs, if◌then◌else◌}
@@ -48,7 +48,7 @@ all_member p (x ∷ links) all l l_in = split (p x) refl all (λ rest. all_membe
     split true is all later = elim (contains_cases x l links l_in) [ inl same ↦ ap p same ∙ is | inr in_links ↦ later all in_links ]
     split false is all later = absurd (true≢false (sym all))
 
--- none that leaves a label is below a link
+-- no link that leaves a label is below this link
 least_test : List ℕ → ℕ → Link → Link → Bool
 least_test labels c l m = not (leaves_test labels m c) || not (is_lt (key_cmp m l))
 
@@ -62,21 +62,21 @@ is_least labels links c l l_in leaves all = record {
       true≢false (sym (all_member (least_test labels c l) links all m m_in) ∙ ap₂ (λ a b. not a || not b) (test_from_leaves labels m c m_leaves) (ap is_lt below));
 }
 
--- every end is one of the vertices 1 to 3
+-- each endpoint is one of the vertices 1 to 3
 pub triangle_ends : EndsUpTo 3 triangle
 triangle_ends = All-from_recursion (λ (l : Link). l.high ≤ 3) triangle (lit≤ tt, (lit≤ tt, (lit≤ tt, tt)))
 
 none_ends : EndsUpTo 3 []
 none_ends = All-from_recursion (λ (l : Link). l.high ≤ 3) [] tt
 
--- the labels once the first link is taken, and once all three are in one component
+-- the labels after the first link is taken, and after all three are in one component
 abbrev first_joined : List ℕ
 first_joined = 1 ∷ (1 ∷ (3 ∷ []))
 
 abbrev joined : List ℕ
 joined = 1 ∷ (1 ∷ (1 ∷ []))
 
--- the labels by no link, by the first, and by two
+-- the labels with no link, with the first, and with two
 apart_is : IsLabelling 3 (Contains []) apart
 apart_is = labelling_none 3 apart refl own
   where
@@ -126,7 +126,7 @@ least_3 : IsLeastLeaving apart (Contains triangle) 3 link_1_3
 unfolding leaves_test least_test
 least_3 = is_least apart triangle 3 link_1_3 in_triangle_1_3 refl refl
 
--- once all are in one component no link leaves it
+-- after all are in one component, no link leaves it
 none_left : (l : Link) (c : ℕ) → Contains triangle l → ¬ (Leaves joined l c)
 none_left l c l_in leaves = search (arith, contains_cases, leaves_apart, contains_none)
 

@@ -14,7 +14,7 @@ use Rattle.round_core.specs.Picks.{ArePicks, AreNoPicks}
 use Rattle.round_core.specs.declared.refusals.Refusal.{Refusal}
 use Rattle.round_core.specs.declared.refusals.Refusal.TheVariants.{Stale, Stranger, Double, NotALink}
 
--- the round, the cut and the labels that are asked about, which shards were taken, and the answers taken, in order
+-- the round, the cut and the labels that are asked about, which shards have an answer, and the answers taken, in order
 pub record BookValue : Type 0 where
   pub round : ℕ
   pub cut : List (List Link)
@@ -30,11 +30,10 @@ opened round cut labels = record { round = round; cut = cut; labels = labels; ta
 abbrev pub is_taken : BookValue → ℕ → Bool
 is_taken p s = slice_index_or p.taken s true
 
--- how many shards are missing
 abbrev pub missing : BookValue → ℕ
 missing p = count_by not p.taken
 
--- whether exactly one end of the link has the label c
+-- whether exactly one endpoint of the link has the label `c`
 abbrev pub is_leaving : List ℕ → ℕ → Link → Bool
 is_leaving labels c l = cond (label_of labels l.low == c) (not (label_of labels l.high == c)) (label_of labels l.high == c)
 
@@ -42,26 +41,26 @@ is_leaving labels c l = cond (label_of labels l.low == c) (not (label_of labels 
 abbrev pub is_offer : List Link → List ℕ → Offer → Bool
 is_offer links labels o = option_map_or (is_leaving labels o.0) (slice_get links o.1) false
 
--- why an answer to an ask for the shard is refused
+-- why an answer to an ask about the shard is rejected, if it is
 abbrev pub refusal : BookValue → ℕ → AnswerValue → Option Refusal
 refusal p s a =
     if a.round == p.round then (if a.shard == s then (if is_taken p s then Some Double
     else (if list_all (is_offer (links_at p.cut s) p.labels) a.offers then None else Some NotALink))
     else Some Stranger) else Some Stale
 
--- the book once an answer is taken
+-- the book after it takes an answer
 abbrev pub with_answer : BookValue → AnswerValue → BookValue
 with_answer p a = record { round = p.round; cut = p.cut; labels = p.labels; taken = slice_set p.taken a.shard true; answers = p.answers ++ a ∷ [] }
 
--- an answer beside the links of its shard
+-- an answer together with the links of its shard
 abbrev pub hearing_of : List (List Link) → AnswerValue → Hearing
 hearing_of cut a = record { shard = links_at cut a.shard; offers = a.offers }
 
--- what was heard of the shards
+-- what was heard about the shards
 abbrev pub hearings : BookValue → List Hearing
 hearings p = map (hearing_of p.cut) p.answers
 
--- the answer is one of this round for a shard of the cut, and each of its offers names a link that leaves its component
+-- the answer is of this round and for a shard of the cut, and each of its offers names a link that leaves its component
 pub record IsRight (round : ℕ) (cut : List (List Link)) (labels : List ℕ) (a : AnswerValue) : Type 0 where
   pub round_is : a.round ≡ round
   pub within : a.shard < length cut
@@ -71,7 +70,7 @@ pub record IsRight (round : ℕ) (cut : List (List Link)) (labels : List ℕ) (a
 abbrev pub IsAnswered : BookValue → ℕ → Type 0
 IsAnswered p s = Any (λ (a : AnswerValue). a.shard ≡ s) p.answers
 
--- what holds of each book: the shards that were taken are those that have an answer, and each has one at most
+-- what holds for each book: the shards that were taken are those with an answer, and each has at most one
 pub record IsBookValue (p : BookValue) : Type 0 where
   pub labels : AreLabels p.labels
   pub ends : All (EndsUpTo (length p.labels)) p.cut
@@ -82,7 +81,7 @@ pub record IsBookValue (p : BookValue) : Type 0 where
   pub answered : (s : ℕ) → s < length p.cut → (is_taken p s ≡ true) ↔ IsAnswered p s
   pub once : AllPairs (λ (a b : AnswerValue). a.shard ≢ b.shard) p.answers
 
--- a book that looks up its own labels, and whose memory has room for an answer of each shard and a pick of each label
+-- a book that looks up its own labels, and has memory for an answer of each shard and a pick of each label
 pub record IsBook (p : BookValue) (looked_up : List ℕ) (room : ℕ) (best : List (Option Link)) : Type 0 where
   pub value : IsBookValue p
   pub same_labels : looked_up ≡ p.labels
@@ -98,29 +97,30 @@ named_links links offers = flat_map (λ (o : Offer). option_to_list (slice_get l
 abbrev pub all_named : List (List Link) → List AnswerValue → List Link
 all_named cut answers = flat_map (λ (a : AnswerValue). named_links (links_at cut a.shard) a.offers) answers
 
--- offers of a shard that can be counted: each names a link that leaves its component
+-- offers about a shard that can be counted: each names a link that leaves its component
 pub record CanCountOffers (links : List Link) (labels : List ℕ) (offers : List Offer) : Type 0 where
   pub labelled : AreLabels labels
   pub ends : EndsUpTo (length labels) links
   pub leaving : list_all (is_offer links labels) offers ≡ true
 
--- answers that can be counted: each is for a shard of the cut, and each of its offers names a link that leaves its component
+-- answers that can be counted: each is for a shard of the cut, and each of its offers names a link that leaves its
+-- component
 pub record CanCount (cut : List (List Link)) (labels : List ℕ) (answers : List AnswerValue) : Type 0 where
   pub labelled : AreLabels labels
   pub ends : All (EndsUpTo (length labels)) cut
   pub right : All (λ (a : AnswerValue). IsRight a.round cut labels a) answers
 
--- the light offers of a shard that is missing, in an answer of this round and for that shard, are no answer to refuse
+-- An answer of this round and for a missing shard isn't rejected if it has the shard's light offers.
 abbrev pub LightOffersAreTaken : Type 0
 LightOffersAreTaken =
     (p : BookValue) (s : ℕ) (a : AnswerValue) → is_taken p s ≡ false → a.round ≡ p.round → a.shard ≡ s
     → AreLightOffers (links_at p.cut s) p.labels a.offers → refusal p s a ≡ None
 
--- where no shard is missing, what was heard are shards with the links of the cut, and no others
+-- If no shard is missing, the links of the shards that were heard about are exactly those of the cut.
 abbrev pub FullBookHasAllLinks : Type 0
 FullBookHasAllLinks = (p : BookValue) → IsBookValue p → missing p ≡ 0 → HaveLinksOf (hearings p) (joined p.cut)
 
--- and where each answer has the light offers of its shard, the picks are those of all links of the cut
+-- If each answer also has the light offers of its shard, the picks are those among all links of the cut.
 abbrev pub FullBookIsLeast : Type 0
 FullBookIsLeast =
     (p : BookValue) (picks : List (Option Link)) → IsBookValue p → missing p ≡ 0 → AreAllLight p.labels (hearings p)

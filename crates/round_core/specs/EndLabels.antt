@@ -1,8 +1,8 @@
--- The labels in which those of links' ends are looked up.
+-- The labels in which those of endpoints are looked up.
 use Rattle.std.specs.Prelude.{◌≡◌, ◌↔◌, ℕ, Bool, true, List, length}
 use Rattle.links.specs.Labels.{AreLabels, AreApart}
 
--- they are said to be apart just where each vertex is labelled by itself
+-- `apart` says whether each vertex labels itself
 pub record AreEndLabels (labels : List ℕ) (apart : Bool) : Type 0 where
   pub labelled : AreLabels labels
   pub each_own : (apart ≡ true) ↔ AreApart (length labels) labels

@@ -1,4 +1,4 @@
--- A worked example for each law of a solver: three vertices, each two of them linked by the same weight.
+-- A worked example for each law of a solver: three vertices with a link of the same weight between any two.
 use Rattle.std.specs.Prelude.{◌≡◌, ℕ, pos, List, [], ◌∷◌, Option, Some, None}
 use Rattle.std.proofs.Common.{lit≤, lit<}
 use Rattle.links.specs.declared.links.Link.{Link}
@@ -20,15 +20,12 @@ link_1_3 = record { weight = pos 5; low = 1; high = 3; from_one = lit≤ tt; asc
 abbrev pub triangle : List Link
 triangle = link_1_2 ∷ (link_2_3 ∷ (link_1_3 ∷ []))
 
--- its forest
 abbrev pub two_sides : List Link
 two_sides = link_1_2 ∷ (link_1_3 ∷ [])
 
--- each vertex labels itself
 abbrev pub apart : List ℕ
 apart = 1 ∷ (2 ∷ (3 ∷ []))
 
--- before the first round
 abbrev pub at_start : Progress
 at_start = record { labels = apart; taken = []; rounds = 0 }
 
@@ -55,7 +52,7 @@ FirstStepIsRound = IsRoundOf triangle at_start after_first (Merged 2)
 abbrev pub FirstStepIsInTime : Type 0
 FirstStepIsInTime = (fault : SolveFault) → IsStepFault at_start first_picks fault → fault ≡ Memory
 
--- the second takes none, and then all merging rounds are made
+-- the second takes none, and then all merging rounds are done
 abbrev pub SecondStepIsLast : Type 0
 SecondStepIsLast = IsRoundOf triangle after_first after_first Done
 

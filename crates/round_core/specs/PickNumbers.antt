@@ -1,5 +1,5 @@
--- Picks as numbers that compare as the keys of the picked links do: the weight, counted from the least one on, the lower
--- end and the higher end, one behind the other.
+-- Picks as numbers, which compare as the keys of the picked links do. A number consists of the weight, relative to the
+-- least one, then the lower endpoint, then the higher endpoint.
 use Rattle.std.specs.Prelude.{◌≡◌, ◌≢◌, ℕ, ◌+◌, ◌-◌, ◌/◌, ◌%◌, ◌^◌, ◌<◌, ◌≤◌, ◌⊎◌, pos, ◌+ℤ◌, ◌-ℤ◌}
 use Rattle.std.specs.Prelude.{List, slice_index, Option, Some, None}
 use Rattle.std.specs.Int.{w64, int_wrap}
@@ -10,23 +10,23 @@ use Rattle.limits.specs.declared.TheConstants.{MAX_VERTICES}
 use Rattle.links.specs.declared.links.Link.{Link}
 use Rattle.links.specs.WideKey.{wide_key}
 
--- the number of the link's key: the key as one signed number, counted from the least one of 128 bits on
+-- the number of the link's key: the key as one signed number, relative to the least one of 128 bits
 abbrev pub IsKeyNumber : Link → ℕ → Type 0
 IsKeyNumber l k = pos k ≡ wide_key l +ℤ pos (2 ^ 127)
 
--- the number of no pick, past those of all keys
+-- the number of no pick, greater than those of all keys
 abbrev pub no_pick : ℕ
 no_pick = 2 ^ 128 - 1
 
--- the number of a pick: that of a link's key, or that of no pick
+-- the number of a link's key, or that of no pick
 abbrev pub IsPickNumber : ℕ → Type 0
 IsPickNumber k = (k ≡ no_pick) ⊎ ((l : Link) × IsKeyNumber l k)
 
--- the first k labels have the number of no pick, and the others what they had
+-- the first `k` labels have the number of no pick, and the others what they had
 abbrev pub AreCleared : List ℕ → ℕ → List ℕ → List ℕ → Type 0
 AreCleared labels k old new = (i : ℕ) → (slice_index new i ≡ no_pick) ⊎ ((slice_index new i ≡ slice_index old i) × ((j : ℕ) → j < k → slice_index labels j ≢ i + 1))
 
--- the link of a weight of 64 bits, counted from the least one on, and of two ends, where they are a link's
+-- The link with a weight of 64 bits, relative to the least one, and two endpoints, if they are a link's.
 abbrev pub link_of : (above low high : ℕ) → (0 < low) ⊎ (low ≤ 0) → (low < high) ⊎ (high ≤ low)
     → (MAX_VERTICES < high) ⊎ (high ≤ MAX_VERTICES) → Option Link
 link_of above low high (inl from_one) (inl ascending) (inr in_limit) =
@@ -41,7 +41,7 @@ link_of above low high (inl from_one) (inl ascending) (inr in_limit) =
     })
 link_of above low high _ _ _ = None
 
--- the pick that a number stands for: the link whose key has the number, if there is one
+-- the pick with a number: the link whose key has the number, if there is one
 unfoldable pub pick_in : ℕ → Option Link
 pick_in k =
     let above : ℕ = k / 2 ^ 64 in

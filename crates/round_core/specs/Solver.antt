@@ -14,22 +14,22 @@ use Rattle.round_core.specs.declared.solver.Turn.TheVariants.{Merged, Done}
 use Rattle.round_core.specs.declared.solver.SolveFault.{SolveFault}
 use Rattle.round_core.specs.declared.solver.SolveFault.TheVariants.{Rounds, Missed, Memory}
 
--- how far a solver has come: the labels of the vertices, the links taken, in the order of taking, and the number of rounds that took some
+-- how far a solver has come: the labels of the vertices, the links taken, in order, and the number of rounds that took
+-- some
 pub record Progress : Type 0 where
   pub labels : List ℕ
   pub taken : List Link
   pub rounds : ℕ
 
--- how far a solver of these parts has come
+-- how far a solver with these parts has come
 abbrev pub so_far : List ℕ → List Link → ℕ → Progress
 so_far labels taken rounds = record { labels = labels; taken = taken; rounds = rounds }
 
--- the number of vertices
 abbrev pub vertices : Progress → ℕ
 vertices p = length p.labels
 
--- what holds of each solver: the links taken are between its vertices, each once, and close no cycle, the labels are the
--- labelling by them, and no round came past the bound
+-- What holds for each solver: the links taken are between its vertices, each once, and close no cycle. The labels are
+-- the labelling by them, and no round was past the bound.
 pub record IsProgress (p : Progress) : Type 0 where
   pub few_vertices : vertices p ≤ MAX_VERTICES
   pub ends : EndsUpTo (vertices p) p.taken
@@ -38,31 +38,33 @@ pub record IsProgress (p : Progress) : Type 0 where
   pub no_cycle : HasNoCycle (Contains p.taken)
   pub in_time : 2 ^ p.rounds ≤ max 1 (vertices p)
 
--- each of the vertices 1 to n is apart, and no link is taken
+-- each of the vertices 1 to `n` is a component, and no link is taken
 pub record IsAtStart (n : ℕ) (p : Progress) : Type 0 where
   pub labels : AreApart n p.labels
   pub taken : p.taken ≡ []
   pub rounds : p.rounds ≡ 0
 
--- n vertices can't have so many merging rounds: each of them halves the number of components that links leave, at least
+-- `n` vertices can't have this many merging rounds: each of them at least halves the number of components that links
+-- leave
 abbrev pub IsPastBound : ℕ → ℕ → Type 0
 IsPastBound n round = max 1 n < 2 ^ round
 
--- the link is the pick at place i, and at none before it
+-- the link is the pick at index `i`, and at none before it
 pub record IsFirstPickedAt (picks : List (Option Link)) (l : Link) (i : ℕ) : Type 0 where
   pub here : slice_index_or picks i None ≡ Some l
   pub first : (k : ℕ) → k < i → slice_index_or picks k None ≢ Some l
 
--- the least label that picks l is below the least one that picks m
+-- the least label that picks `l` is below the least one that picks `m`
 abbrev pub IsPickedBefore : List (Option Link) → Link → Link → Type 0
 IsPickedBefore picks l m = (i : ℕ) × (j : ℕ) × IsFirstPickedAt picks l i × IsFirstPickedAt picks m j × (i < j)
 
--- the links picked, each once, in the order of the least labels that pick them
+-- the picked links, each once, in the order of the least labels that pick them
 pub record ArePickedOnce (picks : List (Option Link)) (links : List Link) : Type 0 where
   pub exact : SameLinks (Contains links) (Picked picks)
   pub in_order : AllPairs (IsPickedBefore picks) links
 
--- the solver took so many links in one more round: just the picked ones, each once; and what they join has one label
+-- The solver took `count` links in one more round: exactly the picked ones, each once. The vertices that they connect
+-- have one label.
 pub record IsMerged (picks : List (Option Link)) (count : ℕ) (old new : Progress) : Type 0 where
   pub some : 0 < count
   pub added : List Link
@@ -73,22 +75,22 @@ pub record IsMerged (picks : List (Option Link)) (count : ℕ) (old new : Progre
   pub rounds : new.rounds ≡ old.rounds + 1
   pub in_time : 2 ^ new.rounds ≤ max 1 (vertices old)
 
--- what a step that ends well has done: it merged by the picks, or there were none and nothing changed
+-- what a successful step did: it merged by the picks, or there were none and nothing changed
 abbrev pub IsTurn : List (Option Link) → Progress → Progress → Turn → Type 0
 IsTurn picks old new (Merged count) = IsMerged picks count old new
 IsTurn picks old new Done = AreNoPicks picks × (new ≡ old)
 
--- why a step is refused: its round is past the bound, or else memory; never where there are no picks
+-- why a step fails: its round is past the bound, or otherwise memory; it never fails if there are no picks
 abbrev pub IsStepFault : Progress → List (Option Link) → SolveFault → Type 0
 IsStepFault p picks (Rounds round) = (round ≡ p.rounds + 1) × IsPastBound (vertices p) round × ¬ (AreNoPicks picks)
 IsStepFault p picks (Missed link) = ⊥
 IsStepFault p picks Memory = (2 ^ (p.rounds + 1) ≤ max 1 (vertices p)) × ¬ (AreNoPicks picks)
 
--- whether the ends of the link have different labels
+-- whether the endpoints of the link have different labels
 abbrev pub is_apart : List ℕ → Link → Bool
 is_apart labels l = not (label_of labels l.low == label_of labels l.high)
 
--- the first link of the list whose ends have different labels
+-- the first link of the list whose endpoints have different labels
 abbrev pub missed : List ℕ → List Link → Option Link
 missed labels links = find (is_apart labels) links
 
@@ -100,13 +102,13 @@ pub record IsFinished (p : Progress) (links forest : List Link) : Type 0 where
   pub no_cycle : HasNoCycle (Contains forest)
   pub spans : Spans (Contains forest) links
 
--- why a solver can't be finished: a link of the list is missed, or else memory
+-- why a solver can't be finished: a link of the list is missed, or otherwise memory
 abbrev pub IsFinishFault : Progress → List Link → SolveFault → Type 0
 IsFinishFault p links (Rounds round) = ⊥
 IsFinishFault p links (Missed link) = missed p.labels links ≡ Some link
 IsFinishFault p links Memory = missed p.labels links ≡ None
 
--- the links taken are those of so many rounds over the list, each of which took some
+-- the links taken are those of this many rounds over the list, each of which took some
 pub record HasRoundsOf (links : List Link) (p : Progress) : Type 0 where
   pub same : SameLinks (Contains p.taken) (TakenAfter (vertices p) links p.rounds)
   pub earlier : (k : ℕ) → k < p.rounds → ¬ (SameLinks (TakenAfter (vertices p) links (suc k)) (TakenAfter (vertices p) links k))

@@ -1,4 +1,4 @@
--- What a solver comes to where the picks of each round are the least links of a whole list that leave each component.
+-- What a solver reaches if the picks of each round are the least links of a whole list that leave each component.
 use Rattle.std.specs.Prelude.{◌≡◌, ℕ, ◌↔◌, List, Contains, Option, None}
 use Rattle.links.specs.declared.links.Link.{Link}
 use Rattle.links.specs.Link.{EndsUpTo}
@@ -10,31 +10,31 @@ use Rattle.round_core.specs.declared.solver.Turn.{Turn}
 use Rattle.round_core.specs.declared.solver.SolveFault.{SolveFault}
 use Rattle.round_core.specs.declared.solver.SolveFault.TheVariants.{Memory}
 
--- at the start no link is taken, as by no round, whatever the list
+-- at the start no link is taken, as after no rounds, whatever the list
 abbrev pub StartIsBeforeRounds : Type 0
 StartIsBeforeRounds = (links : List Link) (n : ℕ) (p : Progress) → IsAtStart n p → HasRoundsOf links p
 
--- a step by the least links of the list is one more round over it, or all merging rounds are made
+-- a step by the least links of the list is one more round over it, or all merging rounds are done
 abbrev pub StepByLeastIsRound : Type 0
 StepByLeastIsRound =
     (links : List Link) (old : Progress) (picks : List (Option Link)) → IsProgress old → EndsUpTo (vertices old) links
     → HasRoundsOf links old → ArePicks old.labels (Contains links) picks
     → (new : Progress) (turn : Turn) → IsTurn picks old new turn → IsRoundOf links old new turn
 
--- such a step is never past the bound: what refuses it is memory
+-- such a step is never past the bound, so it fails only for lack of memory
 abbrev pub StepByLeastIsInTime : Type 0
 StepByLeastIsInTime =
     (links : List Link) (old : Progress) (picks : List (Option Link)) → IsProgress old → EndsUpTo (vertices old) links
     → HasRoundsOf links old → ArePicks old.labels (Contains links) picks
     → (fault : SolveFault) → IsStepFault old picks fault → fault ≡ Memory
 
--- no link of the list is missed exactly where all merging rounds over it are made
+-- no link of the list is missed exactly if all merging rounds over it are done
 abbrev pub NoneMissedWhereAllRounds : Type 0
 NoneMissedWhereAllRounds =
     (links : List Link) (p : Progress) → IsProgress p → EndsUpTo (vertices p) links → HasRoundsOf links p
     → (missed p.labels links ≡ None) ↔ IsMergingRounds (vertices p) links p.rounds
 
--- and what is finished then is the forest
+-- and then the finished links are the forest
 abbrev pub FinishedIsForest : Type 0
 FinishedIsForest =
     (links : List Link) (p : Progress) → HasRoundsOf links p → (forest : List Link) → IsFinished p links forest → IsForestOf links forest

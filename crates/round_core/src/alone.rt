@@ -1,4 +1,4 @@
-//! The whole run by one thread, which scans the shards itself.
+//! Runs all rounds in one thread, which scans the shards itself.
 ghost use Rattle.std.specs.Prelude.{◌≡◌, ◌≤◌, ◌^◌, max, length, All, Contains, IfOk, IfErr};
 ghost use Rattle.links.specs.Cut.{joined};
 ghost use Rattle.links.specs.Forest.{IsForestOf};
@@ -17,16 +17,16 @@ use limits::MAX_VERTICES;
 use links::{Cut, Forest, Labels, Link};
 use std::alloc::{AllocError, Allocator};
 
-/// The minimum spanning forest of the links of a cut, between the vertices 1 to `n`, and in how many rounds components
-/// were merged.
+/// Finds the minimum spanning forest of the links of a cut, between the vertices 1 to `n`, and in how many rounds
+/// components were merged.
 ///
-/// These are Borůvka's rounds (1926): each component picks the least link that leaves it, and what the picks join is one
-/// component in the next round. The only error is want of memory.
+/// These are Borůvka's rounds (1926): each component picks the least link that leaves it, and components that the picks
+/// connect are one component in the next round. It fails only if it is out of memory.
 ///
-/// There are at most log2 n + 1 rounds, the last of which picks nothing. For m links a round costs O(m + n)
-/// time and what [`Solver::step`](crate::Solver::step) does: each link of each shard counts for both of the components
-/// that it leaves. Memory: 48 bytes a vertex for labels, picks, links and what a step needs; at the end 16 for each
-/// link in the forest, in place of the picks.
+/// There are at most log2 n + 1 rounds, the last of which picks nothing. With m links, a round takes O(m + n) time and
+/// that of [`Solver::step`](crate::Solver::step). Each link of each shard is counted for both of the components that it
+/// leaves. It takes 48 bytes per vertex for labels, picks, links and what a step needs. At the end, 16 bytes per link
+/// of the forest replace the picks.
 pub fn solve_alone<A: Allocator + Copy>(
     alloc: A,
     n: u32,
@@ -46,7 +46,7 @@ pub fn solve_alone<A: Allocator + Copy>(
     Ok((forest, rounds))
 }
 
-// One round: the picks of all links, and the solver's step by them.
+// Makes one round: the picks among all links, and the solver's step by them.
 fn go_round<A: Allocator + Copy>(
     alloc: A,
     cut: &Cut<A>,
@@ -61,7 +61,7 @@ fn go_round<A: Allocator + Copy>(
     solver.step(&picks)
 }
 
-// The picks of all of the links.
+// The picks among all of the links.
 fn picks_of_links<A: Allocator + Copy>(
     alloc: A,
     labels: &Labels<A>,

@@ -17,12 +17,12 @@ use std::alloc::{AllocError, Allocator, Global};
 use std::marker::Model;
 use std::thread::Threads;
 
-/// The book of a round: what was asked, and the answers taken so far, one for each shard of the cut.
+/// The book of a round: which shards are asked about, and the answers taken so far, one for each shard of the cut.
 ///
-/// It believes no answer: what isn't of this round, for a shard that is missing, or offers what is no outgoing link is
-/// refused. It keeps the answers that it takes, with their offers. Its own memory is 33 bytes a shard (an answer without
-/// its offers, and whether it came), where the allocator has no size of its own, and 16 bytes a vertex, all of it got
-/// when it is opened.
+/// It trusts no answer. It rejects an answer that is of another round, for a shard that has one, or with an offer that
+/// isn't a link leaving its component. It stores the answers that it takes, with their offers. In addition, it takes 33
+/// bytes per shard for an answer without its offers and whether it came, if the allocator has no size of its own. It
+/// also takes 16 bytes per vertex. All of this is allocated when it is opened.
 #[derive(Drop)]
 pub struct RoundBook<'a, A: Allocator = Global> {
     round: u32,
@@ -46,7 +46,7 @@ impl<'a, A: Allocator> Model for RoundBook<'a, A> {
 }
 
 impl<'a, A: Allocator + Copy> RoundBook<'a, A> {
-    /// A book for the round of this number, with no answer yet. The only error is want of memory.
+    /// Opens a book for the round of this number, with no answer yet. It fails only if it is out of memory.
     pub fn open(
         alloc: A,
         round: u32,
@@ -59,10 +59,10 @@ impl<'a, A: Allocator + Copy> RoundBook<'a, A> {
         RoundBook::open_over(Picks::empty(alloc), round, cut, labels)
     }
 
-    /// The same in the room of picks of which none is left, as a step in place leaves them
-    /// ([`Solver::step_in_place`](crate::Solver::step_in_place)): no pick is written, and room for picks is asked for only where there
-    /// are more labels. What it takes for each shard is as `open` takes it. Labels are looked at up to the first that isn't
-    /// its own vertex, so that no label of an end is looked up where each is.
+    /// Opens a book that reuses the memory of picks of which none is left, as
+    /// [`Solver::step_in_place`](crate::Solver::step_in_place) leaves them. It writes no pick, and allocates memory for
+    /// picks only if there are more labels. For each shard it allocates what `open` does. It reads the labels up to the
+    /// first vertex that doesn't label itself; if there is none, no label is looked up later.
     pub fn open_over(
         picks: Picks<A>,
         round: u32,
@@ -98,14 +98,14 @@ impl<'a, A: Allocator> RoundBook<'a, A> {
         self.round
     }
 
-    /// The cut whose shards are asked for.
+    /// The cut whose shards are asked about.
     pub fn cut(&self) -> &'a Cut<'a, A>
         ensures { result.now ≡ self.now.cut }
     {
         self.cut
     }
 
-    /// The labels under which they are asked for.
+    /// The labels under which they are asked about.
     pub fn labels(&self) -> &'a Labels<A>
         ensures { result.now ≡ self.now.labels }
     {
@@ -136,7 +136,8 @@ impl<'a, A: Allocator> RoundBook<'a, A> {
         self.taken.len() - self.answers.len()
     }
 
-    /// Whether an answer to an ask for the shard would be taken, else why it is refused. It looks at each offer once.
+    /// Checks whether an answer to an ask about the shard would be taken, and otherwise returns why not. It reads each
+    /// offer once.
     pub fn judge(&self, shard: u32, answer: &Answer<A>) -> Result<(), Refusal>
         requires { shard < length self.now.cut }
         ensures allowed { OnOk result (refusal self.now shard answer.now ≡ None) }
@@ -158,8 +159,8 @@ impl<'a, A: Allocator> RoundBook<'a, A> {
         Ok(())
     }
 
-    /// Takes an answer to an ask for the shard; it is refused just where `judge` refuses it, and dropped, and the book
-    /// stays as it was. It takes no memory.
+    /// Takes an answer to an ask about the shard. If `judge` rejects it, it is dropped, and the book stays as it was.
+    /// It allocates nothing.
     pub fn take(&mut self, shard: u32, answer: Answer<A>) -> Result<(), Refusal>
         requires { shard < length self.old.cut }
         ensures allowed { OnOk result (refusal self.old shard answer ≡ None) }
@@ -172,7 +173,7 @@ impl<'a, A: Allocator> RoundBook<'a, A> {
         Ok(())
     }
 
-    /// Takes an answer that `judge` allows for the shard that it names. It looks at no offer again, and takes no memory.
+    /// Takes an answer that `judge` accepted for the shard that it names. It reads no offer, and allocates nothing.
     pub fn take_allowed(&mut self, answer: Answer<A>)
         requires allowed { refusal self.old answer.shard answer ≡ None }
         ensures took { self.new ≡ with_answer self.old answer }
@@ -181,8 +182,8 @@ impl<'a, A: Allocator> RoundBook<'a, A> {
         self.answers.push_reserved(answer);
     }
 
-    /// The picks of the round, once each shard has an answer: for each label the least link that leaves it among all
-    /// links offered. It looks at each offer once, and takes no memory.
+    /// Returns the picks of the round after each shard has an answer: for each label, the least of all offered links
+    /// that leave it. It reads each offer once, and allocates nothing.
     pub fn close(self) -> Picks<A>
         requires { missing self ≡ 0 }
         ensures picks { ArePicks self.entry.labels (IsNamed (hearings self.entry)) result }
@@ -202,11 +203,11 @@ impl<'a, A: Allocator> RoundBook<'a, A> {
 }
 
 impl<'a, A: Allocator + Copy + Send + Sync> RoundBook<'a, A> {
-    /// The picks of the round, as `close` makes them, counted by several threads where there are 16,384 offers or more.
+    /// Returns the same picks as `close`. Several threads count them if there are at least 16,384 offers.
     ///
-    /// Each thread takes the offers for a part of the components, and then all offers are looked at once more: where answers
-    /// are light no offered link is below the pick of its other component. Where one is, all are counted as `close` counts
-    /// them. Like it this takes no memory, and where no thread can be made the caller's does all.
+    /// Each thread takes the offers for a part of the components. Then all offers are read once more: if answers are
+    /// light, no offered link is less than the pick of its other component. If one is less, all offers are counted
+    /// again, as in `close`. It allocates nothing. If no thread can be started, the caller's thread does all of it.
     pub fn close_par<R: Threads + Sync>(self, rt: &R) -> Picks<A>
         requires { missing self ≡ 0 }
         ensures picks { ArePicks self.entry.labels (IsNamed (hearings self.entry)) result }
@@ -231,7 +232,7 @@ impl<'a, A: Allocator + Copy + Send + Sync> RoundBook<'a, A> {
     }
 }
 
-// Whether each pair is the place of a link with exactly one end under the label.
+// Whether each pair has the index of a link with exactly one endpoint under the label.
 fn are_offers(links: &[Link], labels: &EndLabels, pairs: &[(u32, u32)]) -> bool
     requires labels { AreLabels labels.now }
     requires ends { EndsUpTo (length labels.now) links.now }
@@ -245,7 +246,7 @@ fn are_offers(links: &[Link], labels: &EndLabels, pairs: &[(u32, u32)]) -> bool
     true
 }
 
-// Whether the pair is the place of a link with exactly one end under the label.
+// Whether the pair has the index of a link with exactly one endpoint under the label.
 #[inline]
 fn is_offered(links: &[Link], labels: &EndLabels, pair: (u32, u32)) -> bool
     requires labels { AreLabels labels.now }
@@ -256,7 +257,7 @@ fn is_offered(links: &[Link], labels: &EndLabels, pair: (u32, u32)) -> bool
     place < links.len() && leaves(labels, links[place], pair.0)
 }
 
-// Whether exactly one end of the link has the label.
+// Whether exactly one endpoint of the link has the label.
 #[inline]
 fn leaves(labels: &EndLabels, link: Link, label: u32) -> bool
     requires ends { link.high ≤ length labels.now }

@@ -4,8 +4,8 @@ ghost use Rattle.round_theory.specs.Labelling.{IsVertex};
 
 use std::marker::Model;
 
-// The labels of a round, for those of the ends of links. Before components are merged each vertex labels itself, and the
-// most links are offered: then a label is told by its vertex, and no look-up waits for memory.
+// The labels of a round, for looking up those of endpoints. In the first round, each vertex labels itself, and the most
+// links are offered. Then the label is the vertex, and no look-up waits for memory.
 #[derive(Drop)]
 pub(crate) struct EndLabels<'a> {
     labels: &'a [u32],
@@ -24,7 +24,7 @@ impl<'a> Model for EndLabels<'a> {
 }
 
 impl<'a> EndLabels<'a> {
-    // The labels of a list. It looks at them up to the first that isn't its vertex, or at all.
+    // The labels of a list. It reads them up to the first vertex that doesn't label itself.
     pub(crate) fn over(labels: &'a [u32]) -> Self
         requires { AreLabels labels.now }
         ensures { result ≡ labels.now }
@@ -35,7 +35,6 @@ impl<'a> EndLabels<'a> {
         }
     }
 
-    // The label of a vertex.
     #[inline]
     pub(crate) fn of(&self, vertex: u32) -> u32
         requires from_one { 1 ≤ vertex }
@@ -49,7 +48,6 @@ impl<'a> EndLabels<'a> {
         self.labels[vertex as usize - 1]
     }
 
-    // How many labels there are.
     pub(crate) fn len(&self) -> usize
         ensures each { result ≡ length self.now }
         ensures labelled { AreLabels self.now }
@@ -58,7 +56,7 @@ impl<'a> EndLabels<'a> {
     }
 }
 
-// Whether each vertex is labelled by itself.
+// Whether each vertex labels itself.
 fn are_apart(labels: &[u32]) -> bool
     requires { AreLabels labels.now }
     ensures { IsTrue result ↔ AreApart (length labels.now) labels.now }

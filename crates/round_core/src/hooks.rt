@@ -7,13 +7,14 @@ use crate::roots::Roots;
 use links::Labels;
 use std::alloc::{AllocError, Allocator};
 
-/// The labels of the next round: each vertex gets the least vertex that the old components and the picks join it to.
+/// Returns the labels of the next round: each vertex gets the least vertex to which the old components and the picks
+/// connect it.
 ///
-/// The picks are those of a book with these labels, whatever was answered. It merges as a step of a solver does
-/// ([`Solver::step`](crate::Solver::step)), and keeps no link. The only error is want of memory.
+/// The picks are those of a book with these labels, whatever was answered. It merges as
+/// [`Solver::step`](crate::Solver::step) does, and stores no link. It fails only if it is out of memory.
 ///
-/// For n vertices, k of which are their own label, it costs O(n + k log k) time. Memory: while it works 12 bytes a vertex and
-/// 16 for each of the k, and 4 bytes a vertex for the new labels.
+/// With n vertices, k of which label themselves, it takes O(n + k log k) time. While it works it takes 12 bytes per
+/// vertex and 16 for each of the k, and 4 bytes per vertex for the new labels.
 pub fn hook_relabel<A: Allocator + Copy>(
     alloc: A,
     labels: &Labels<A>,

@@ -1,22 +1,27 @@
-//! The coordinator's side of a run: the book that judges what workers answer in a round, the picks that it makes of it,
-//! and the solver that merges components by them. [`solve_alone`] runs all of it in one thread, over the whole cut.
+//! The coordinator's side of a run. A book checks what workers answer in a round, and makes picks of it; a solver
+//! merges components by these picks. [`solve_alone`] does all of it in one thread, over the whole cut.
 //!
 //! ```text
-//!     cut, labels  --open-->  RoundBook  --take, once a shard-->  RoundBook  --close-->  Picks
-//!     Picks  --step-->  Solver, with new labels for the next book  --finish, where nothing was picked-->  Forest
+//!     cut, labels  --open-->  RoundBook  --take, once per shard-->  RoundBook  --close-->  Picks
+//!     Picks  --step-->  Solver, with new labels for the next book  --finish, if nothing was picked-->  Forest
 //! ```
 //!
 //! What it promises:
-//! - A book takes one answer for each shard, and refuses one of another round, for another shard, for an answered
-//!   shard, or that offers what is no outgoing link, in this order; light offers are never refused.
-//! - Picks are each component's least link offered, in any order, by any threads; where all are light, its least link.
-//! - Whatever was offered, a solver's links close no cycle, its labels are the labelling by them, and it finishes only
-//!   where they span; by the least links it makes just the merging rounds, and the forest.
+//! - A book takes one answer for each shard. It rejects an answer of another round, for another shard, for an answered
+//!   shard, or with an offer that isn't a link leaving its component, in this order. It never rejects light offers.
+//! - A pick is the least link that was offered for a component, in any order and with any threads. If all offers are
+//!   light, it is the component's least link.
+//! - Whatever was offered, a solver's links close no cycle, and its labels are the labelling by them. It finishes only
+//!   if they span the cut. By the least links it makes exactly the merging rounds, and returns the forest.
 //!
-//! Where to start a change: `specs/BookValue` says what a book is and when it refuses, `specs/Picks` what picks are,
-//! `specs/EndLabels` in what labels of ends are looked up, `specs/OwnPicks` how offers are counted, `specs/Roots` how a solver
-//! joins those that are left, and `specs/Solver` what a round and the end are; `laws` ties them to the theory. `book`,
-//! `end_labels`, `tally`, `own_picks`, `picks`, `hooks`, `roots`, `missed`, `solver` and `alone` do it.
+//! Where to make a change:
+//! - `specs/BookValue` says what a book is and what it rejects, and `specs/Picks` what picks are.
+//! - `specs/EndLabels` says in what the labels of endpoints are looked up, and `specs/OwnPicks` how offers are counted.
+//! - `specs/Roots` says how a solver connects the components that are left, and `specs/Solver` what a round and the end
+//!   are.
+//! - `laws` connects these definitions to the theory.
+//! - The code is in `book`, `end_labels`, `tally`, `own_picks`, `picks`, `hooks`, `roots`, `missed`, `solver` and
+//!   `alone`.
 #![tactic(auto)]
 
 pub mod alone;

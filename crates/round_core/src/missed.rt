@@ -1,11 +1,10 @@
-//! The first link that the links taken miss, since its ends have different labels.
+//! Finds the first link that the links taken miss, since its endpoints have different labels.
 ghost use Rattle.std.specs.Prelude.{◌≡◌, ◌≤◌, length};
 ghost use Rattle.links.specs.Link.{EndsUpTo};
 ghost use Rattle.round_core.specs.Solver.{is_apart, missed};
 
 use links::Link;
 
-// The first of the links whose ends have different labels.
 pub(crate) fn first_missed(labels: &[u32], links: &[Link]) -> Option<Link>
     requires ends { EndsUpTo (length labels.now) links.now }
     ensures { result ≡ missed labels.now links.now }

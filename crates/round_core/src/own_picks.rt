@@ -1,5 +1,6 @@
-//! A link that is offered for each component, the least, by parts of the components: no two threads write one pick. Contracts
-//! say that it is offered; that none is less is looked at behind it (`tally`), and nothing but the time stands on it here.
+//! Takes the least link that is offered for each component, by parts of the components, so that no two threads write
+//! the same pick. Contracts say only that a pick was offered. That none is less is checked later (`tally`), so here
+//! only the time depends on it.
 ghost use Rattle.std.specs.Prelude.{All};
 ghost use Rattle.round_core.specs.OwnPicks.{HavePlaces, IsPlaced, IsOfferedBy, IsOfferedIn, AreTakenFrom};
 
@@ -9,10 +10,10 @@ use std::alloc::Allocator;
 use std::thread;
 use std::thread::Threads;
 
-// Into so many parts the labels are cut.
+// The number of parts into which the labels are split.
 const PARTS: usize = 4;
 
-// Takes into the number of each label the least of the links that the answers offer for it, where that is less.
+// Replaces the number of each label by that of the least link that the answers offer for it, if that is less.
 pub(crate) fn take_by_parts<R: Threads + Sync, A: Allocator + Sync>(
     rt: &R,
     numbers: &mut [u128],
@@ -34,7 +35,7 @@ pub(crate) fn take_by_parts<R: Threads + Sync, A: Allocator + Sync>(
     );
 }
 
-// The same of the labels behind the first `start`.
+// The same for the labels after the first `start`.
 fn take_part<A: Allocator>(cut: &Cut<A>, answers: &[Answer<A>], start: usize, part: &mut [u128])
     requires placed { All (IsPlaced cut.now) answers.now }
     ensures { AreTakenFrom (IsOfferedIn cut.now answers.now) start part.old part.new }
@@ -45,7 +46,8 @@ fn take_part<A: Allocator>(cut: &Cut<A>, answers: &[Answer<A>], start: usize, pa
     }
 }
 
-// The same of the links that the offers of one shard name. Offers ascend, so that those for a part stand side by side.
+// The same for the links that the offers about one shard name. Offers ascend, so those for a part are next to each
+// other.
 fn take_each(links: &[Link], pairs: &[(u32, u32)], start: usize, part: &mut [u128])
     requires places { HavePlaces links.now pairs.now }
     ensures { AreTakenFrom (IsOfferedBy links.now pairs.now) start part.old part.new }

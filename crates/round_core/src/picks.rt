@@ -9,10 +9,10 @@ use std::alloc::{AllocError, Allocator, Global};
 use std::marker::Model;
 use std::mem;
 
-// The number of no pick, past those of all keys.
+// The number of no pick, greater than those of all keys.
 pub(crate) const NO_PICK: u128 = u128::MAX;
 
-// A unit of the weight's number, and one of the lower end, in a key's number.
+// A unit of the weight and one of the lower endpoint, in the number of a key.
 const PER_WEIGHT: u128 = 1 << 64;
 
 const PER_LOW: u128 = 1 << 32;
@@ -20,10 +20,11 @@ const PER_LOW: u128 = 1 << 32;
 // How far 0 is above the least weight.
 const ABOVE_LEAST: i128 = 1 << 63;
 
-/// The picks of a round: for each label the least of all offered links with exactly one end under it. An offered link
-/// counts for both of its components.
+/// The picks of a round: for each label, the least of all offered links with exactly one endpoint under it. An offered
+/// link counts for both of its components.
 ///
-/// 16 bytes a vertex: a pick is kept as the number of its key, so that a link is counted without a branch.
+/// They take 16 bytes per vertex: a pick is stored as the number of its key, so that a link is counted without a
+/// branch.
 #[derive(Drop)]
 pub struct Picks<A: Allocator = Global> {
     numbers: Vec<u128, A>,
@@ -42,7 +43,7 @@ impl<A: Allocator> Model for Picks<A> {
 }
 
 impl<A: Allocator + Copy> Picks<A> {
-    /// Picks of no labels. It takes no memory.
+    /// Picks of no labels. It allocates nothing.
     pub fn empty(alloc: A) -> Self
         ensures { result ≡ [] }
     {
@@ -55,7 +56,7 @@ impl<A: Allocator + Copy> Picks<A> {
         *self.numbers.allocator()
     }
 
-    /// Takes the picks, and leaves those of no labels. It takes no memory.
+    /// Returns the picks, and leaves those of no labels. It allocates nothing.
     pub fn take(&mut self) -> Self
         ensures taken { result ≡ self.old }
         ensures left { self.new ≡ [] }
@@ -64,7 +65,7 @@ impl<A: Allocator + Copy> Picks<A> {
         mem::replace(self, none)
     }
 
-    /// No pick for each of n labels, 16 bytes each. The only error is want of memory.
+    /// No pick for each of `n` labels, 16 bytes each. It fails only if it is out of memory.
     pub fn none(alloc: A, n: u32) -> Result<Self, AllocError>
         ensures each_vertex { IfOk result (λ picks. length picks ≡ n) }
         ensures none { IfOk result AreNoPicks }
@@ -72,7 +73,8 @@ impl<A: Allocator + Copy> Picks<A> {
         Picks::empty(alloc).none_over(n)
     }
 
-    // No pick for each of n labels, in the room of such for others. It writes only those that are not there yet.
+    // No pick for each of `n` labels, in the memory of picks of which there are none. It writes only those that it
+    // adds.
     pub(crate) fn none_over(self, n: u32) -> Result<Self, AllocError>
         requires { AreNoPicks self }
         ensures each_vertex { IfOk result (λ picks. length picks ≡ n) }
@@ -85,7 +87,7 @@ impl<A: Allocator + Copy> Picks<A> {
 }
 
 impl<A: Allocator> Picks<A> {
-    // The numbers of the picks, of which there are none.
+    // The numbers of the picks, if there are none.
     pub(crate) fn into_numbers(self) -> Vec<u128, A>
         requires { AreNoPicks self }
         ensures each_vertex { length result.items ≡ length self }
@@ -95,7 +97,6 @@ impl<A: Allocator> Picks<A> {
         numbers
     }
 
-    // The picks of these numbers.
     pub(crate) fn of_numbers(numbers: Vec<u128, A>) -> Self
         requires { All IsPickNumber numbers.items }
         ensures { result ≡ map pick_in numbers.items }
@@ -103,7 +104,7 @@ impl<A: Allocator> Picks<A> {
         Picks { numbers }
     }
 
-    /// The pick of a label, or of any vertex, which has none where it is no label.
+    /// The pick of a label, or of any vertex; one that isn't a label has none.
     pub fn of(&self, label: u32) -> Option<Link>
         requires from_one { 1 ≤ label }
         requires to_n { label ≤ length self.now }
@@ -112,14 +113,13 @@ impl<A: Allocator> Picks<A> {
         pick_of_number(self.numbers[label as usize - 1])
     }
 
-    /// Whether no label has a pick.
     pub fn is_empty(&self) -> bool
         ensures { IsTrue result ↔ AreNoPicks self.now }
     {
         are_no_picks(self.numbers.as_slice())
     }
 
-    // Whether two labels have the same pick, or both have none. It takes no branch, whatever the picks are.
+    // Whether two labels have the same pick, or both have none. It has no branch that depends on the picks.
     #[inline]
     pub(crate) fn are_same(&self, one: u32, other: u32) -> bool
         requires one { IsVertex (length self.now) one }
@@ -129,7 +129,7 @@ impl<A: Allocator> Picks<A> {
         self.numbers[one as usize - 1] == self.numbers[other as usize - 1]
     }
 
-    // Leaves these labels without a pick. Where no other has one, none is left.
+    // Removes the picks of these labels. If no other label has one, none is left.
     pub(crate) fn clear_each(&mut self, labels: &[u32])
         requires { All (IsVertex (length self.old)) labels.now }
         ensures each_vertex { length self.new ≡ length self.old }
@@ -139,7 +139,7 @@ impl<A: Allocator> Picks<A> {
     }
 }
 
-// Makes so many numbers of no pick of others.
+// Extends a list of numbers of no pick to this length.
 fn fill_up<A: Allocator>(numbers: &mut Vec<u128, A>, count: usize) -> Result<(), AllocError>
     requires { All (λ k. k ≡ NO_PICK) numbers.old.items }
     ensures none { OnOk result (All (λ k. k ≡ NO_PICK) numbers.new.items) }
@@ -148,14 +148,12 @@ fn fill_up<A: Allocator>(numbers: &mut Vec<u128, A>, count: usize) -> Result<(),
     numbers.resize(count, NO_PICK)
 }
 
-// Whether each number is that of no pick.
 fn are_no_picks(numbers: &[u128]) -> bool
     ensures { IsTrue result ↔ All (λ k. k ≡ NO_PICK) numbers.now }
 {
     numbers.iter().all(|number| *number == NO_PICK)
 }
 
-// Gives these labels the number of no pick.
 fn clear_each(numbers: &mut [u128], labels: &[u32])
     requires { All (IsVertex (length numbers.old)) labels.now }
     ensures { AreCleared labels.now (length labels.now) numbers.old numbers.new }
@@ -173,7 +171,7 @@ pub(crate) fn key_number(link: Link) -> u128
     wide(&link).abs_diff(i128::MIN)
 }
 
-// The pick that a number stands for.
+// The pick with this number.
 #[inline]
 fn pick_of_number(number: u128) -> Option<Link>
     requires { IsPickNumber number }

@@ -13,17 +13,17 @@ use links::{Labels, Link};
 use std::alloc::{AllocError, Allocator, Global};
 use std::marker::Model;
 
-// What stands where no link was taken.
+// What is written where no link was taken.
 const BLANK: Link = Link {
     weight: 0,
     low: 1,
     high: 2,
 };
 
-/// The vertices that label themselves, in ascending order: each names a component, and no other vertex has a pick.
+/// The vertices that label themselves, in ascending order. Each names a component, and no other vertex has a pick.
 ///
-/// 4 bytes a vertex, and from the first step on 8 more: room for a parent of each label and for the least root of each
-/// component, which isn't filled anew each round.
+/// They take 4 bytes per vertex, and from the first step on 8 more: a parent for each label and the least root of each
+/// component. These aren't reset between rounds.
 #[derive(Drop)]
 pub(crate) struct Roots<A: Allocator = Global> {
     roots: Vec<u32, A>,
@@ -40,7 +40,6 @@ impl<A: Allocator> Model for Roots<A> {
 }
 
 impl<A: Allocator + Copy> Roots<A> {
-    // The vertices that label themselves under these labels.
     pub(crate) fn of_labels(alloc: A, labels: &Labels<A>) -> Result<Self, AllocError>
         ensures { IfOk result (AreRoots labels.now) }
     {
@@ -53,9 +52,9 @@ impl<A: Allocator + Copy> Roots<A> {
         })
     }
 
-    // Merges the components that the picks join. The links picked go behind those taken before, each once, in the order of
-    // the least roots that pick them; and the new labels are written over the old ones, whose roots stay: for k roots of n
-    // vertices in O(n + k log k) time.
+    // Merges the components that the picks connect. The picked links are appended to those taken before, each once, in
+    // the order of the least roots that pick them. The new labels overwrite the old ones, and the roots remain those of
+    // the old labels. With k roots of n vertices, it takes O(n + k log k) time.
     pub(crate) fn merge(
         &mut self,
         labels: &mut Labels<A>,
@@ -82,7 +81,7 @@ impl<A: Allocator + Copy> Roots<A> {
 }
 
 impl<A: Allocator> Roots<A> {
-    // Whether no root has a pick, and so no vertex.
+    // Whether no root has a pick, and so no vertex has.
     pub(crate) fn have_no_picks(&self, picks: &Picks<A>) -> bool
         requires { All (IsVertex (length picks.now)) self.now }
         ensures { IsTrue result ↔ All (λ c. pick_of picks.now c ≡ None) self.now }
@@ -95,7 +94,7 @@ impl<A: Allocator> Roots<A> {
         )
     }
 
-    // Leaves the roots without a pick. Where no other vertex has one, none is left.
+    // Removes the picks of the roots. If no other vertex has one, none is left.
     pub(crate) fn clear(&self, picks: &mut Picks<A>)
         requires { All (IsVertex (length picks.old)) self.now }
         ensures each_vertex { length picks.new ≡ length picks.old }
@@ -104,7 +103,7 @@ impl<A: Allocator> Roots<A> {
         picks.clear_each(&self.roots);
     }
 
-    // Keeps the roots that label themselves under these labels too.
+    // Retains the roots that label themselves under these labels too.
     pub(crate) fn keep(&mut self, labels: &[u32])
         requires { All (IsVertex (length labels.now)) self.old }
         ensures { self.new ≡ filter (λ c. label_of labels.now c == c) self.old }
@@ -113,7 +112,7 @@ impl<A: Allocator> Roots<A> {
     }
 }
 
-// Keeps the vertices that label themselves, in place. It takes no branch on the labels.
+// Retains the vertices that label themselves, in place. It has no branch that depends on the labels.
 fn keep_own<A: Allocator>(vertices: &mut Vec<u32, A>, labels: &[u32])
     requires { All (IsVertex (length labels.now)) vertices.old.items }
     ensures { vertices.new.items ≡ filter (λ c. label_of labels.now c == c) vertices.old.items }
@@ -127,7 +126,6 @@ fn keep_own<A: Allocator>(vertices: &mut Vec<u32, A>, labels: &[u32])
     vertices.truncate(kept);
 }
 
-// The vertices 1 to n.
 fn vertices_to<A: Allocator + Copy>(alloc: A, n: u32) -> Result<Vec<u32, A>, AllocError>
     requires { n ≤ MAX_VERTICES }
     ensures len { IfOk result (λ vertices. length vertices.items ≡ n) }
@@ -140,7 +138,7 @@ fn vertices_to<A: Allocator + Copy>(alloc: A, n: u32) -> Result<Vec<u32, A>, All
     Ok(vertices)
 }
 
-// Makes room for a number of each of the labels 1 to n, where there is none yet.
+// Makes space for a number of each of the labels 1 to `n`, unless there is enough.
 fn make_room<A: Allocator + Copy>(
     alloc: A,
     numbers: &mut Vec<u32, A>,
@@ -155,7 +153,7 @@ fn make_room<A: Allocator + Copy>(
     Ok(())
 }
 
-// What a step goes by: the labels, the roots of their components, and what these pick.
+// What a step depends on: the labels, the roots of their components, and what these pick.
 #[derive(Clone, Copy)]
 struct Picking<'a, A: Allocator> {
     labels: &'a [u32],
@@ -163,8 +161,8 @@ struct Picking<'a, A: Allocator> {
     picks: &'a Picks<A>,
 }
 
-// Takes the picks of the roots, behind what was taken before, and writes to `parents` the name of the component that each
-// root comes to: the least vertex that the components and the picks join it to.
+// Appends the picks of the roots to what was taken before. Writes to `parents` the name of the component that each root
+// comes to: the least vertex to which the components and the picks connect it.
 fn take_and_name<A: Allocator + Copy>(
     picking: Picking<A>,
     taken: &mut Vec<Link, A>,
@@ -187,9 +185,9 @@ fn take_and_name<A: Allocator + Copy>(
     Ok(())
 }
 
-// Gives each root the parent that its pick leads it to, and takes the links picked, behind those taken before, in the order of
-// the least roots that pick them. It takes no branch on which roots take their picks: each pick is written behind those that
-// are taken, and only these are counted.
+// Gives each root the parent to which its pick leads. Appends the picked links to those taken before, in the order of
+// the least roots that pick them. It has no branch that depends on which roots take their picks. Each pick is written
+// after those that are taken, and only these are counted.
 fn lead_each<A: Allocator>(
     picking: Picking<A>,
     parents: &mut [u32],
@@ -213,8 +211,8 @@ fn lead_each<A: Allocator>(
     Ok(())
 }
 
-// Gives all roots that the picks join one parent, which is one of them, where each has the parent that its pick leads it to. It
-// ends: along parents picks become less, so that each jump to another parent leads to a lesser pick.
+// Gives all roots that the picks connect one parent, which is one of them, if each has the parent to which its pick
+// leads. It terminates because picks become less along parents, so each jump to another parent leads to a lesser pick.
 fn join_led<A: Allocator>(picking: Picking<A>, parents: &mut [u32])
     requires can { CanStep picking.labels.now picking.roots.now picking.picks.now }
     requires within { All (λ c. c < length parents.old) picking.roots.now }
@@ -226,8 +224,8 @@ fn join_led<A: Allocator>(picking: Picking<A>, parents: &mut [u32])
     'jumps: while jump(picking.roots, parents) {}
 }
 
-// Lets each root jump three times in a row, where its chain is at hand, and says whether the last jump of one led to another
-// parent. It takes no branch on what it looks up.
+// Lets each root jump three times in a row, while its chain is in the cache. Returns whether the last jump of a root
+// led to another parent. It has no branch that depends on what it looks up.
 fn jump(roots: &[u32], parents: &mut [u32]) -> bool
     requires { ArePointers roots.now parents.old }
     ensures pointers { ArePointers roots.now parents.new }
@@ -245,7 +243,7 @@ fn jump(roots: &[u32], parents: &mut [u32]) -> bool
     moved
 }
 
-// Gives a root its parent's parent in place of its parent, and says whether that is another.
+// Replaces a root's parent by the parent's parent, and returns whether that is another.
 #[inline]
 fn jump_once(parents: &mut [u32], root: u32) -> bool
     requires { (root < length parents.old) × (slice_index parents.old root < length parents.old) }
@@ -258,7 +256,7 @@ fn jump_once(parents: &mut [u32], root: u32) -> bool
     next != parent
 }
 
-// Gives each root the least root under its parent in place of its parent.
+// Replaces each root's parent by the least root with that parent.
 fn name_roots(roots: &[u32], parents: &mut [u32], least: &mut [u32])
     requires ascending { AllPairs (λ b c. b < c) roots.now }
     requires pointers { ArePointers roots.now parents.old }
@@ -286,7 +284,7 @@ fn find_least(roots: &[u32], parents: &[u32], least: &mut [u32])
     }
 }
 
-// Where its pick leads a root, what it picks, and whether it takes that.
+// Where a root's pick leads it, what it picks, and whether it takes that link.
 #[derive(Clone, Copy)]
 struct Lead {
     parent: u32,
@@ -294,7 +292,7 @@ struct Lead {
     takes: bool,
 }
 
-// The lead of a root. Of two roots that pick one link both go to the lesser, which takes it.
+// The lead of a root. If two roots pick the same link, both go to the lesser, which takes it.
 #[inline]
 fn lead_of<A: Allocator>(labels: &[u32], picks: &Picks<A>, root: u32) -> Lead
     requires labels { AreLabels labels.now }
@@ -322,7 +320,8 @@ fn lead_of<A: Allocator>(labels: &[u32], picks: &Picks<A>, root: u32) -> Lead
     }
 }
 
-// The label of the link's other end: what the labels of both ends add up to, less the root. So no branch waits for either.
+// The label of the link's other endpoint: the sum of both endpoints' labels, less the root. So no branch waits for a
+// label.
 #[inline]
 fn other_label(labels: &[u32], link: Link, root: u32) -> u32
     requires labels { AreLabels labels.now }

@@ -1,4 +1,5 @@
-//! The solver of a coordinator: it takes the picks of round after round, and is finished where the links taken span.
+//! The coordinator's solver. It takes the picks of one round after another, and is finished if the links taken span the
+//! cut.
 ghost use Rattle.std.specs.Prelude.{◌≡◌, ◌+◌, ◌-◌, ◌<◌, ◌≤◌, ◌^◌, ◌↔◌, max, length, All, Some, IsTrue, IfOk, IfErr, OnErr, OnOk};
 ghost use Rattle.links.specs.Link.{EndsUpTo};
 ghost use Rattle.links.specs.Cut.{joined};
@@ -20,22 +21,22 @@ use thiserror::Error;
 /// What a step did.
 #[derive(Clone, Copy, Debug, PartialEq, Eq)]
 pub enum Turn {
-    /// It took so many links.
+    /// It took this many links.
     Merged(u32),
-    /// There were no picks, so nothing leaves a component any more.
+    /// There were no picks, so no link leaves a component any more.
     Done,
 }
 
-/// Why a solver can't go on, or can't be finished.
+/// Why a step or the end of a solver failed.
 #[derive(Clone, Copy, Debug, PartialEq, Eq, Error)]
 pub enum SolveFault {
-    /// There are picks in a round that comes past the bound: `2^round` is more than the number of vertices, and than 1.
+    /// There are picks in a round past the bound: `2^round` is greater than the number of vertices, and than 1.
     #[error("round {round} is past the bound")]
     Rounds { round: u32 },
-    /// The links taken don't join the ends of a link.
+    /// The links taken don't connect the endpoints of this link.
     #[error("link {} {} {} was missed", .link.low, .link.high, .link.weight)]
     Missed { link: Link },
-    /// An allocation was refused.
+    /// An allocation failed.
     #[error("no memory")]
     Memory,
 }
@@ -48,15 +49,15 @@ impl From<AllocError> for SolveFault {
     }
 }
 
-/// The links taken so far and the components that they make.
+/// The links taken so far, and the components that they make.
 ///
-/// Whatever was offered, the links that it takes close no cycle, and it is finished only where they span the links of a
-/// cut; where each pick was the least link that leaves its component, they are then the forest, as
-/// [`laws::rounds_end_with_forest`](crate::laws::rounds_end_with_forest) says. It believes no count of rounds: a round with
-/// picks that comes past the bound is refused.
+/// Whatever was offered, the links that it takes close no cycle, and it is finished only if they span the links of a
+/// cut. If each pick was the least link that leaves its component, they are then the forest, as
+/// [`laws::rounds_end_with_forest`](crate::laws::rounds_end_with_forest) says. A round with picks that is past the
+/// bound is rejected.
 ///
-/// 8 bytes a vertex, 4 more where the labels' bytes are kept, and 24 more from the first step that takes links on: 16 of them
-/// for the links, of which there are fewer than vertices.
+/// It takes 8 bytes per vertex, and 4 more if the labels' bytes are stored. From the first step that takes links, it
+/// takes 24 more; 16 of them are for the links, of which there are fewer than vertices.
 #[derive(Drop)]
 pub struct Solver<A: Allocator = Global> {
     labels: Labels<A>,
@@ -78,7 +79,7 @@ impl<A: Allocator> Model for Solver<A> {
 }
 
 impl<A: Allocator + Copy> Solver<A> {
-    /// A solver for the vertices 1 to `n`, each of them apart. The only error is want of memory.
+    /// A solver for the vertices 1 to `n`, each a component. It fails only if it is out of memory.
     pub fn new(alloc: A, n: u32) -> Result<Self, AllocError>
         requires { n ≤ MAX_VERTICES }
         ensures { IfOk result (IsAtStart n) }
@@ -93,15 +94,15 @@ impl<A: Allocator + Copy> Solver<A> {
         })
     }
 
-    /// Takes the picks of a round, each link once, and merges the components that they join. The picks are those of a
-    /// book with these labels, whatever was answered.
+    /// Takes the picks of a round, each link once, and merges the components that they connect. The picks are those of
+    /// a book with these labels, whatever was answered.
     ///
-    /// Where there are none it does nothing. A round with picks that is past the bound is refused before memory is asked
-    /// for. After an error the solver is as it was.
+    /// If there are no picks, it does nothing. A round with picks that is past the bound is rejected before memory is
+    /// allocated. After an error the solver is as it was.
     ///
-    /// It looks at the picks of the k vertices that are their own label, and once at each of n vertices: O(n + k log k)
-    /// time. The new labels are written over the old ones, with their bytes where these are kept. Memory: from the first step
-    /// that takes links on 24 bytes a vertex that stay: all links of the run have room there.
+    /// It reads the picks of the k vertices that label themselves, and each of n vertices once, so it takes O(n + k log
+    /// k) time. The new labels overwrite the old ones, and their bytes if these are stored. The first step that takes
+    /// links allocates 24 bytes per vertex that stay, with space for all links of the run.
     pub fn step(&mut self, picks: &Picks<A>) -> Result<Turn, SolveFault>
         requires picks { ArePicksOfHearings self.old.labels picks.now }
         ensures turn { IfOk result (IsTurn picks.now self.old self.new) }
@@ -122,8 +123,9 @@ impl<A: Allocator + Copy> Solver<A> {
         Ok(turn)
     }
 
-    /// The same as [`step`](Solver::step), and each pick is let go of, so that a book can be opened over the picks
-    /// ([`RoundBook::open_over`](crate::RoundBook::open_over)) without clearing them. After an error they are as they were.
+    /// Does the same as [`step`](Solver::step) and removes each pick, so that a book can be opened over the picks
+    /// ([`RoundBook::open_over`](crate::RoundBook::open_over)) without clearing them. After an error they are as they
+    /// were.
     pub fn step_in_place(&mut self, picks: &mut Picks<A>) -> Result<Turn, SolveFault>
         requires picks { ArePicksOfHearings self.old.labels picks.old }
         ensures turn { IfOk result (IsTurn picks.old self.old self.new) }
@@ -148,19 +150,20 @@ impl<A: Allocator + Copy> Solver<A> {
         Ok(turn)
     }
 
-    /// Keeps the bytes of the labels beside them ([`Labels::spell`]), for all who are asked under them: 4 bytes a vertex. A
-    /// step keeps them so. The only error is want of memory; then they are not kept.
+    /// Stores the bytes of the labels too ([`Labels::spell`]), for all who are asked under them: 4 bytes per vertex. A
+    /// step updates them. It fails only if it is out of memory, and then they aren't stored.
     pub fn spell_labels(&mut self) -> Result<(), AllocError>
         ensures { self.new ≡ self.old }
     {
         self.labels.spell()
     }
 
-    /// The links taken, as a forest, where they join the ends of each link of the cut. Else the first link of the cut,
-    /// in its order, whose ends they don't join; that is looked for before memory is asked for.
+    /// Returns the links taken, as a forest, if they connect the endpoints of each link of the cut. Otherwise it
+    /// returns the first link of the cut, in its order, whose endpoints they don't connect. It checks this before it
+    /// allocates memory.
     ///
-    /// It looks at each link of the cut once, and sorts the links taken: for m links of n vertices O(m + n log n) time.
-    /// Memory: 16 bytes for each link taken.
+    /// It reads each link of the cut once, and sorts the links taken. With m links and n vertices, it takes O(m + n log
+    /// n) time, and 16 bytes per link taken.
     pub fn finish(&self, cut: &Cut<A>) -> Result<Forest<A>, SolveFault>
         requires ends { All (EndsUpTo (vertices self.now)) cut.now }
         ensures forest { IfOk result (IsFinished self.now (joined cut.now)) }
@@ -173,8 +176,8 @@ impl<A: Allocator + Copy> Solver<A> {
         Ok(Forest::of_distinct(taken))
     }
 
-    /// The same, but the threads of [`Forest::of_distinct_par`] sort. It takes the solver, at a fault too, and copies no link
-    /// taken: the forest stays in their list. It takes no memory.
+    /// Returns the same as `finish`, with the links sorted by the threads of [`Forest::of_distinct_par`]. It consumes
+    /// the solver, even on an error, and copies no link: the forest uses the list of links taken. It allocates nothing.
     pub fn finish_par<R: Threads + Sync>(
         self,
         rt: &R,
@@ -192,7 +195,7 @@ impl<A: Allocator + Copy> Solver<A> {
 }
 
 impl<A: Allocator> Solver<A> {
-    /// The number of the round that comes next: one more than those that took links.
+    /// The number of the next round: one more than the number of rounds that took links.
     pub fn round(&self) -> u32
         ensures round { result ≡ self.now.rounds + 1 }
         ensures progress { IsProgress self.now }
@@ -200,7 +203,7 @@ impl<A: Allocator> Solver<A> {
         self.rounds + 1
     }
 
-    /// The labels of the vertices: what the links taken join has one label, its least vertex.
+    /// The labels of the vertices. All vertices that the links taken connect have one label, the least of them.
     pub fn labels(&self) -> &Labels<A>
         ensures labels { result.now ≡ self.now.labels }
         ensures progress { IsProgress self.now }
@@ -208,7 +211,6 @@ impl<A: Allocator> Solver<A> {
         &self.labels
     }
 
-    // The first link of the cut whose ends have different labels.
     fn first_missed(&self, cut: &Cut<A>) -> Option<Link>
         requires { All (EndsUpTo (vertices self.now)) cut.now }
         ensures { result ≡ missed self.now.labels (joined cut.now) }
@@ -217,7 +219,7 @@ impl<A: Allocator> Solver<A> {
     }
 }
 
-// Takes the picks of a round over the parts of a solver. The roots stay those of the old labels: only they have picks.
+// Makes a step on the parts of a solver. The roots stay those of the old labels, since only these have picks.
 fn merge_by<A: Allocator + Copy>(
     picks: &Picks<A>,
     roots: &mut Roots<A>,
@@ -246,7 +248,7 @@ fn merge_by<A: Allocator + Copy>(
     Ok(Turn::Merged((taken.len() - before) as u32))
 }
 
-// Whether so many merging rounds are more than n vertices can have.
+// Whether this many merging rounds are more than `n` vertices can have.
 fn is_past_bound(round: u32, n: u32) -> bool
     requires { round < 32 }
     ensures { IsTrue result ↔ IsPastBound n round }

@@ -1,9 +1,10 @@
-//! The count of what a round's answers offer: in one thread, or by several.
+//! Counts the offers in a round's answers, by one thread or by several.
 //!
-//! By several, each offered link is first taken for the component that its offer names, by parts of the components. That is
-//! all where answers are light: the link's other component has an offer of its own there, of a link that isn't greater. Whether
-//! it is so is looked at, by several threads too, which write nothing. Where it isn't, all offers are counted in one thread. So
-//! nothing but the time stands on whether the least was taken: what was taken has to be offered, and the look finds the rest.
+//! Several threads first count each offered link for the component that its offer names, by parts of the components.
+//! That is enough if answers are light: the link's other component then has an offer of its own there, of a link that
+//! isn't greater. Several threads, which write nothing, check whether this is so. If it isn't, one thread counts all
+//! offers. So only the time depends on whether the least link was taken: what was taken has to be offered, and the
+//! check finds the rest.
 ghost use Rattle.std.specs.Prelude.{◌≡◌, ◌≢◌, [], ◌∷◌, ◌<◌, ◌≤◌, ◌↔◌, length, slice_get, Some, IsTrue};
 ghost use Rattle.links.specs.declared.links.Link.{Link as TheLink};
 ghost use Rattle.links.specs.Labels.{label_of};
@@ -19,13 +20,12 @@ use rayon::prelude::*;
 use std::alloc::Allocator;
 use std::thread::Threads;
 
-// Fewer offers than these are counted in one thread.
+// Fewer offers than these are counted by one thread.
 const FEW_OFFERS: usize = 1 << 14;
 
-// No thread looks at fewer offers of one answer than these.
+// No thread reads fewer offers of one answer than these.
 const MANY_OFFERS: usize = 1 << 16;
 
-// How many offers the answers have.
 pub(crate) fn offers_in<A: Allocator>(answers: &[Answer<A>]) -> usize {
     let mut offers = 0usize;
     for answer in answers {
@@ -34,7 +34,7 @@ pub(crate) fn offers_in<A: Allocator>(answers: &[Answer<A>]) -> usize {
     offers
 }
 
-// Counts each link that the answers offer, for both of its components, by threads where there are many.
+// Counts each link that the answers offer, for both of its components, by threads if there are many.
 pub(crate) fn count_by_threads<R: Threads + Sync, A: Allocator + Copy + Send + Sync>(
     rt: &R,
     cut: &Cut<A>,
@@ -81,7 +81,7 @@ fn are_counted<R: Threads + Sync, A: Allocator + Copy + Send + Sync>(
     )
 }
 
-// The same of the offers of one shard, which threads share where there are very many.
+// The same for the offers about one shard, which threads share if there are very many.
 fn offers_are_counted<R: Threads + Sync>(
     rt: &R,
     labels: &EndLabels,
@@ -103,7 +103,6 @@ fn offers_are_counted<R: Threads + Sync>(
     )
 }
 
-// Whether the link is below the number of neither of its components.
 #[inline]
 fn is_counted(labels: &EndLabels, link: Link, numbers: &[u128]) -> bool
     requires each_vertex { length numbers.now ≡ length labels.now }
@@ -117,7 +116,7 @@ fn is_counted(labels: &EndLabels, link: Link, numbers: &[u128]) -> bool
     numbers[low] <= number && numbers[high] <= number
 }
 
-// Counts each link that the answers offer, for both of its components, in one thread.
+// Counts each link that the answers offer, for both of its components, by one thread.
 pub(crate) fn count_answers<A: Allocator>(
     cut: &Cut<A>,
     labels: &EndLabels,
@@ -144,7 +143,6 @@ fn count_all(labels: &EndLabels, links: &[Link], pairs: &[(u32, u32)], numbers: 
     }
 }
 
-// Counts a link for both of the components that it leaves.
 #[inline]
 pub(crate) fn count(labels: &EndLabels, link: Link, numbers: &mut [u128])
     requires each_vertex { length numbers.old ≡ length labels.now }

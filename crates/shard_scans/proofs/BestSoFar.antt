@@ -1,4 +1,4 @@
--- The best place for a label, as the links at more places of a list are seen.
+-- The best index for a label, as the links at more indices of a list are scanned.
 use Rattle.std.proofs.Common.{◌≡◌, ℕ, ◌+◌, ◌<◌, ◌≤◌, List, length, get_or, Contains, true, false, Ordering, Less, Equal}
 use Rattle.std.proofs.Common.{Greater, is_le, is_lt, Option, Some, None, refl, sym, ap, ◌∙◌, subst, inl, inr, arith}
 use Rattle.std.specs.Ordering.{ordering_reverse}
@@ -10,7 +10,7 @@ use Rattle.links.proofs.Keys.{key_cmp_total, trichotomy, below_irrefl, below_asy
 use Rattle.round_theory.specs.Offers.{Leaves, IsLightOffer}
 use Rattle.shard_scans.specs.Scanning.{ComesFirst, IsBestPlace, NoneLeavesIn, IsBest}
 
--- two reads of one place of a list
+-- two reads at one index of a list
 pub one_read : (links : List Link) (i : ℕ) (l m : Link) → i < length links → l ≡ get_or links i l → m ≡ get_or links i m → l ≡ m
 one_read links i l m within l_read m_read = l_read ∙ get_or_default links i l m within ∙ sym m_read
 
@@ -27,18 +27,18 @@ not_below_from_lt l x test below = let less : is_lt Less ≡ false = subst (λ (
 pub below_from_gt : (l x : Link) → is_le (key_cmp l x) ≡ false → IsBelow x l
 below_from_gt l x gt = key_cmp_total.antisymm x l ∙ ap ordering_reverse (le_false (key_cmp l x) gt)
 
--- a link that comes first before another, which comes first before a third
+-- a link that comes before another, which comes before a third
 below_then_first : (l x m : Link) (p q : ℕ) → IsBelow x l → ComesFirst l p m q → IsBelow x m
 below_then_first a1 a2 a3 a4 a5 a6 a7 = search (arith, below_trans)
 
 pub first_then_first : (l x m : Link) (p i q : ℕ) → ComesFirst l p x i → ComesFirst x i m q → ComesFirst l p m q
 first_then_first a1 a2 a3 a4 a5 a6 a7 a8 = search (arith, below_trans)
 
--- a link that isn't below an earlier one comes behind it
+-- a link that isn't below an earlier one comes after it
 pub first_from_le : (l x : Link) (p i : ℕ) → ¬ (IsBelow x l) → p ≤ i → ComesFirst l p x i
 first_from_le l x p i not_below le = search (arith, trichotomy)
 
--- the link at a place, alone
+-- the link at one index, alone
 pub best_alone : (links : List Link) (labels : List ℕ) (c i : ℕ) (x : Link) → i < length links → x ≡ get_or links i x → Leaves labels x c → IsBestPlace links labels i (i + 1) c i
 best_alone links labels c i x within read leaves = record {
   link = x;
@@ -53,7 +53,7 @@ best_alone links labels c i x within read leaves = record {
 }
 
 module _ (links : List Link) (labels : List ℕ) (c from at to : ℕ) where
-  -- it comes first before each link at the later places that leaves the label
+  -- it comes before each link at the later indices that leaves the label
   pub best_longer : (p : ℕ) → at ≤ to → (is : IsBestPlace links labels from at c p)
       → ((q : ℕ) (m : Link) → at ≤ q → q < to → q < length links → m ≡ get_or links q m → Leaves labels m c → ComesFirst is.link p m q) → IsBestPlace links labels from to c p
   best_longer p le is first = record {
@@ -69,7 +69,7 @@ module _ (links : List Link) (labels : List ℕ) (c from at to : ℕ) where
     ];
   }
 
-  -- no link at the later places leaves the label
+  -- no link at the later indices leaves the label
   pub best_goes_on : (best : Option ℕ) → at ≤ to → NoneLeavesIn links labels at to c → IsBest links labels from at c best → IsBest links labels from to c best
   best_goes_on None le none is = λ q m from_start before_end in_list read leaves. elim (cases_lt q at) [
     | inl lt ↦ is q m from_start lt in_list read leaves
@@ -78,7 +78,7 @@ module _ (links : List Link) (labels : List ℕ) (c from at to : ℕ) where
   best_goes_on (Some p) le none is = best_longer p le is (λ q m later before_end in_list read leaves. absurd (none q m later before_end in_list read leaves))
 
   module _ (i : ℕ) (le : from ≤ at) (next : IsBestPlace links labels at to c i) where
-    -- it comes first before each link at the earlier places that leaves the label
+    -- it comes before each link at the earlier indices that leaves the label
     best_later : ((q : ℕ) (m : Link) → from ≤ q → q < at → q < length links → m ≡ get_or links q m → Leaves labels m c → ComesFirst next.link i m q) → IsBestPlace links labels from to c i
     best_later earlier = record {
       link = next.link;
@@ -93,7 +93,7 @@ module _ (links : List Link) (labels : List ℕ) (c from at to : ℕ) where
       ];
     }
 
-    -- no link at the earlier places leaves it
+    -- no link at the earlier indices leaves it
     pub best_first : NoneLeavesIn links labels from at c → IsBestPlace links labels from to c i
     best_first none = best_later (λ q m from_start lt in_list read leaves. absurd (none q m from_start lt in_list read leaves))
 
@@ -120,7 +120,7 @@ module _ (links : List Link) (labels : List ℕ) (c from at to : ℕ) where
       pub best_new : IsBelow next.link is.link → IsBestPlace links labels from to c i
       best_new below = best_later (λ q m from_start lt in_list read leaves. inl (below_then_first is.link next.link m p q below (is.first q m from_start lt in_list read leaves)))
 
--- the best place of the whole list is where the least link that leaves the label stands first
+-- the best index of the whole list is the first index of the least link that leaves the label
 pub best_is_light : (links : List Link) (labels : List ℕ) (c p : ℕ) → IsBestPlace links labels 0 (length links) c p → IsLightOffer links labels c p
 best_is_light links labels c p is = (
   is.link,
@@ -142,6 +142,6 @@ best_is_light links labels c p is = (
   },
 )
 
--- none is where none leaves it
+-- there is none if no link leaves the label
 pub none_leaves : (links : List Link) (labels : List ℕ) (c : ℕ) → NoneLeavesIn links labels 0 (length links) c → (l : Link) → Contains links l → ¬ (Leaves labels l c)
 none_leaves links labels c none l (q, within, read) leaves = none q l (omega arith) within within (sym read) leaves

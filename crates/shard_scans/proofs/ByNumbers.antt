@@ -1,8 +1,9 @@
--- A pass over links by the numbers of the labels that they have, in place of the labels.
+-- A pass over links by the numbers of their labels instead of the labels.
 --
--- The numbers of the labels of all vertices are a coarser labelling: vertices of one label have one number. A link whose
--- ends have marked labels leaves a number exactly where it leaves that number's label, since marked labels have numbers of
--- their own. So the best places by numbers are those by labels, and as numbers ascend with the labels, so do the offers.
+-- The numbers of the labels of all vertices are a coarser labelling: vertices of one label have one number. A link
+-- whose endpoints have marked labels leaves a number exactly if it leaves that number's label, since marked labels have
+-- numbers of their own. So the best indices by numbers are those by labels. Numbers ascend with the labels, and so do
+-- the offers.
 use Rattle.std.proofs.Common.{take_all, ◌≡◌, ◌≢◌, ℕ, ◌+◌, ◌-◌, ◌<◌, ◌≤◌, ◌^◌, ◌⊎◌, List, ◌++◌, length, get_or, take, drop, map, Contains, refl, sym, ap, ◌∙◌, subst, inl, inr, arith}
 use Rattle.std.proofs.Math.Seq.{take-append_seam}
 use Rattle.std.proofs.lemmas.List.{get_or-map, length-map, length-take, drop_more, drop_all, get_or_at, append-nil}
@@ -23,11 +24,11 @@ use Rattle.shard_scans.proofs.Scans.{kept_place, kept_none, end_at}
 use Rattle.shard_scans.proofs.Tables.{same_place}
 use Rattle.shard_scans.proofs.Numbering.{numbers_apart, ascends_back}
 
--- a slice that is written back stands for the whole list
+-- a slice that is written back replaces the whole list
 pub written_back : {X : Type 0} (n : ℕ) (xs ys : List X) → length ys ≡ n → take n (ys ++ drop (length ys) xs) ≡ ys
 written_back n xs ys size = subst (λ k. take k (ys ++ drop (length ys) xs) ≡ ys) size (take-append_seam ys (drop (length ys) xs))
 
--- a list over whose first elements f is written
+-- a list whose first elements are overwritten by `f`
 module _ {X : Type 0} (f : X → X) (xs ys : List X) (i : ℕ) (so_far : ys ≡ map f (take i xs) ++ drop i xs) where
   pub next_stands : (d : X) → i < length xs → get_or ys i d ≡ get_or xs i d
   next_stands d lt = search (arith, drop_more, get_or_at, length-map, length-take)
@@ -64,7 +65,7 @@ module _ (marks labels : List ℕ) where
         subst (Leaves labels l) (numbers_apart marks d c d_is c_is same) out
 
 module _ (links : List Link) (labels marks names : List ℕ) (ends : EndsUpTo (length labels) links) (has : AreNumbered links labels marks names) where
-  -- the best place for a number is that for its label
+  -- the best index for a number is that for its label
   pub best_from_own : (c place : ℕ) → IsMarked marks c → IsBestPlace links (numbered_labels marks labels) 0 (length links) (number_of marks c) place → IsBestPlace links labels 0 (length links) c place
   best_from_own c place c_is best = record {
     link = best.link;
@@ -79,7 +80,7 @@ module _ (links : List Link) (labels marks names : List ℕ) (ends : EndsUpTo (l
 
   module _ (few : length links ≤ 2 ^ 24) (within : (c : ℕ) → IsMarked marks c → number_of marks c ≤ length names) (table : List Best)
       (best : AreBestUpTo (length names) links (numbered_labels marks labels) 0 (length links) table) where
-    -- where a place is kept for a number, it is the best one for the label of the number
+    -- if an index is stored for a number, it is the best one for the label of the number
     kept_label : (p place : ℕ) → p < length table + 1 → IsKept table p place
         → (c : ℕ) × IsMarked marks c × HasItsName marks names c × (number_of marks c ≡ p) × IsBestPlace links labels 0 (length links) c place
     kept_label p place lt kept =
@@ -95,7 +96,7 @@ module _ (links : List Link) (labels marks names : List ℕ) (ends : EndsUpTo (l
     left_has_number : (l : Link) (place c : ℕ) → place < length links → l ≡ get_or links place l → Leaves labels l c → IsMarked marks c × HasItsName marks names c
     left_has_number l place c in_list read leaves = search (arith, leaves_apart, leaves_end)
 
-    -- a light offer is kept for the number of its label
+    -- a light offer is stored for the number of its label
     light_kept : (c place : ℕ) → IsLightOffer links labels c place → ((number_of marks c < length table + 1) × IsKept table (number_of marks c) place) × HasItsName marks names c
     light_kept c place (l, least, at) =
         let own = numbered_labels marks labels in
@@ -110,7 +111,7 @@ module _ (links : List Link) (labels marks names : List ℕ) (ends : EndsUpTo (l
         ((omega (arith, vertex.1, best.each_vertex), record { from_one = omega arith; here = same; some = λ none. some (same ∙ none) }), named)
 
     module _ (pairs : List Offer) (places : ArePlacesBelow table (length table + 1) pairs) where
-      -- what stands behind so many pairs
+      -- the label and the index of each pair
       label_at : (k : ℕ) (d : Offer) → k < length pairs → (c : ℕ) × IsMarked marks c × (number_of marks c ≡ (get_or pairs k d).0)
           × IsBestPlace links labels 0 (length links) c (get_or pairs k d).1 × (get_or names ((get_or pairs k d).0 - 1) 0 ≡ c)
       label_at k d lt =
@@ -156,7 +157,7 @@ module _ (links : List Link) (labels marks names : List ℕ) (ends : EndsUpTo (l
               (k, omega (arith, lt, length-map pairs (offered names)), get_or-map (offered names) pairs k x (offered names x) lt ∙ ap (offered names) here) in
               subst (λ (o : Offer). Contains (map (offered names) pairs) o) (λ j. (named j, place)) there
 
-      -- and so they are once they are written back over the pairs
+      -- and they still are after they are written back over the pairs
       pub written_light : (n : ℕ) (read written : List Offer) → length written ≡ n → read ≡ pairs
           → written ≡ map (offered names) read → AreLightOffers links labels (take n (written ++ drop (length written) pairs))
       written_light n read written size read_is written_is = search (arith, written_back, light_by_numbers)

@@ -1,4 +1,4 @@
--- Live places of a shard's links.
+-- The live indices of a shard's links.
 use Rattle.std.proofs.Common.{◌≡◌, ℕ, zero, suc, ◌+◌, ◌<◌, ◌≤◌, List, [], ◌∷◌, ◌++◌, length, get_or, ◌⊎◌, refl, sym, ◌∙◌, subst, inl, inr, arith}
 use Rattle.std.proofs.lemmas.Bool.{cases_lt}
 use Rattle.links.specs.declared.links.Link.{Link}
@@ -6,11 +6,11 @@ use Rattle.links.specs.Labels.{label_of, Coarsens}
 use Rattle.shard_scans.specs.Live.{HaveOneLabel, IsInside, AreParallel, IsOutdone, IsAside, AreAside, AreLive}
 use Rattle.shard_scans.proofs.BestSoFar.{one_read}
 
--- what is quiet stays so under labels that coarsen
+-- a link inside a component stays inside one under labels that coarsen
 pub quiet_coarser : (labels finer : List ℕ) (l : Link) → Coarsens labels finer → IsInside finer l → IsInside labels l
 quiet_coarser labels finer l coarsens quiet = search arith
 
--- vertices of one label have one under labels that coarsen
+-- vertices of one label have one label under labels that coarsen
 pub one_label_coarser : (labels finer : List ℕ) (u v : ℕ) → Coarsens labels finer → HaveOneLabel finer u v → HaveOneLabel labels u v
 one_label_coarser labels finer u v coarsens (at_u, at_v, same) = search arith
 
@@ -18,7 +18,7 @@ one_label_coarser labels finer u v coarsens (at_u, at_v, same) = search arith
 parallel_coarser : (labels finer : List ℕ) (l m : Link) → Coarsens labels finer → AreParallel finer l m → AreParallel labels l m
 parallel_coarser a1 a2 a3 a4 a5 a6 = search (arith, one_label_coarser)
 
--- and what is laid aside stays so
+-- and links that needn't be listed still needn't
 aside_coarser : (links : List Link) (labels finer : List ℕ) (from to : ℕ) → Coarsens labels finer → AreAside links finer from to → AreAside links labels from to
 aside_coarser links labels finer from to coarsens aside q l from_start before_end read = elim (aside q l from_start before_end read) [
   | inl quiet ↦ inl (quiet_coarser labels finer l coarsens quiet)
@@ -37,22 +37,22 @@ live_coarser links labels finer from to [] coarsens (le, aside) = (le, aside_coa
 live_coarser links labels finer from to (p ∷ places) coarsens (le, aside, rest) =
     (le, aside_coarser links labels finer from p coarsens aside, live_coarser links labels finer (p + 1) to places coarsens rest)
 
--- a link that is parallel to a quiet one is quiet
+-- a link that is parallel to one inside a component is inside one too
 quiet_parallel : (labels : List ℕ) (l m : Link) → IsInside labels l → AreParallel labels l m → IsInside labels m
 quiet_parallel a1 a2 a3 a4 a5 = search arith
 
 module _ (links : List Link) (labels : List ℕ) where
-  -- the places lie in the range
+  -- the indices are in the range
   pub live_range : (from to : ℕ) (places : List ℕ) → AreLive links labels from to places → from ≤ to
   live_range from to [] (le, quiet) = le
   live_range from to (p ∷ places) (le, quiet, rest) = omega (arith, le, live_range (p + 1) to places rest)
 
-  -- up to the first place all is quiet
+  -- no link before the first index need be listed
   pub live_first : (from to : ℕ) (places : List ℕ) → AreLive links labels from to places → (from ≤ get_or places 0 to) × AreAside links labels from (get_or places 0 to)
   live_first from to [] live = live
   live_first from to (p ∷ places) (le, quiet, rest) = (le, quiet)
 
-  -- and from each to the next
+  -- nor a link between an index and the next
   live_behind : (from to : ℕ) (places : List ℕ) (k d : ℕ) → AreLive links labels from to places → k < length places
       → (get_or places k d + 1 ≤ get_or places (suc k) to) × AreAside links labels (get_or places k d + 1) (get_or places (suc k) to)
   live_behind from to [] k d live lt = absurd (omega (arith, lt))
@@ -65,31 +65,31 @@ module _ (links : List Link) (labels : List ℕ) where
       let next : suc k ≡ k + 1 = omega arith in
       subst (λ j. (get_or places k d + 1 ≤ get_or places j to) × AreAside links labels (get_or places k d + 1) (get_or places j to)) next (live_behind from to places k d live lt)
 
-  -- a place lies in the range
+  -- each index is in the range
   pub live_within : (from to : ℕ) (places : List ℕ) (k d : ℕ) → AreLive links labels from to places → k < length places → (from ≤ get_or places k d) × (get_or places k d < to)
   live_within from to [] k d live lt = absurd (omega (arith, lt))
   live_within from to (p ∷ places) zero d (le, quiet, rest) lt = (le, omega (arith, live_range (p + 1) to places rest))
   live_within from to (p ∷ places) (suc k) d (le, quiet, rest) lt = let (low, high) = live_within (p + 1) to places k d rest (omega (arith, lt)) in (omega (arith, low, le), high)
 
-  -- behind the last stands the end of the range
+  -- the end of the range follows the last index
   pub live_end : (to : ℕ) (places : List ℕ) → get_or places (length places) to ≡ to
   live_end to [] = refl
   live_end to (p ∷ places) = live_end to places
 
-  -- before the first live place all links are quiet
+  -- all links before the first live index are inside a component
   pub front_is_quiet : (to : ℕ) → AreAside links labels 0 to → (q : ℕ) (l : Link) → q < to → l ≡ get_or links q l → IsInside labels l
   front_is_quiet to aside q l before_end read = search arith
 
-  -- one more link is laid aside
+  -- another link needn't be listed
   aside_more : (from at : ℕ) → AreAside links labels from at → ((l : Link) → l ≡ get_or links at l → IsAside links labels from at l) → AreAside links labels from (at + 1)
   aside_more from at aside here q l from_start before_end read = search (arith, cases_lt)
 
-  -- the range goes on over a quiet link
+  -- the range may be extended by a link inside a component
   pub live_goes_on : (from at : ℕ) (places : List ℕ) → AreLive links labels from at places → ((l : Link) → l ≡ get_or links at l → IsInside labels l) → AreLive links labels from (at + 1) places
   live_goes_on from at [] (le, aside) quiet = (omega (arith, le), aside_more from at aside (λ l read. inl (quiet l read)))
   live_goes_on from at (p ∷ places) (le, aside, rest) quiet = (le, aside, live_goes_on (p + 1) at places rest quiet)
 
-  -- and over one that the link at the last live place outdoes
+  -- and by one that the link at the last live index outdoes
   pub live_outdone : (from at p : ℕ) (places : List ℕ) (k : ℕ) → AreLive links labels from at places → length places ≡ k + 1 → get_or places k 0 ≡ p
       → ((l : Link) → l ≡ get_or links at l → IsOutdone links labels (p + 1) at l) → AreLive links labels from (at + 1) places
   live_outdone from at p [] k live size last by = absurd (omega (arith, size))
@@ -99,26 +99,27 @@ module _ (links : List Link) (labels : List ℕ) where
   live_outdone from at p (x ∷ y ∷ places) zero live size last by = absurd (omega (arith, size))
   live_outdone from at p (x ∷ y ∷ places) (suc k) (le, aside, rest) size last by = (le, aside, live_outdone (x + 1) at p (y ∷ places) k rest (omega (arith, size)) last by)
 
-  -- one more place
+  -- another index
   pub live_push : (from at : ℕ) (places : List ℕ) → AreLive links labels from at places → AreLive links labels from (at + 1) (places ++ at ∷ [])
   live_push from at [] (le, quiet) = (le, quiet, (omega arith, λ q l from_start before_end read. absurd (omega (arith, from_start, before_end))))
   live_push from at (p ∷ places) (le, quiet, rest) = (le, quiet, live_push (p + 1) at places rest)
 
-  -- what is laid aside on both sides of a quiet link is so with it: the links that it outdoes are quiet too
+  -- If the links on both sides of one inside a component needn't be listed, all of them needn't: those that it outdoes
+  -- are inside a component too.
   aside_over : (from p to : ℕ) → AreAside links labels from p → ((l : Link) → l ≡ get_or links p l → IsInside labels l) → AreAside links labels (p + 1) to → AreAside links labels from to
   aside_over from p to aside quiet behind q l from_start before_end read = search (arith, cases_lt, quiet_parallel)
 
-  -- so a live place whose link falls quiet may be left out
+  -- so a live index may be removed after its link comes to be inside a component
   pub live_without : (from p to : ℕ) (places : List ℕ) → from ≤ p → AreAside links labels from p
       → ((l : Link) → l ≡ get_or links p l → IsInside labels l) → AreLive links labels (p + 1) to places → AreLive links labels from to places
   live_without from p to [] le aside quiet (le', behind) = (omega (arith, le, le'), aside_over from p to aside quiet behind)
   live_without from p to (x ∷ places) le aside quiet (le', behind, rest) = (omega (arith, le, le'), aside_over from p x aside quiet behind, rest)
 
-  -- a link is that at a live place, or parallel to it
+  -- a link that is at a live index, or parallel to one that is
   abbrev pub HasLive : List ℕ → Link → Type 0
   HasLive places l = (k : ℕ) × (k < length places) × (e : Link) × (e ≡ get_or links (get_or places k 0) e) × ((e ≡ l) ⊎ AreParallel labels e l)
 
-  -- so is each in the range, or it is laid aside behind the place before it
+  -- each link in the range is such, or it needn't be listed after the index before it
   pub live_or_aside : (from to : ℕ) (places : List ℕ) (q : ℕ) (l : Link) → AreLive links labels from to places → from ≤ q → q < to → l ≡ get_or links q l
       → IsAside links labels from q l ⊎ HasLive places l
   live_or_aside from to [] q l (le, aside) low high read = inl (aside q l low high read)
@@ -140,7 +141,7 @@ module _ (links : List Link) (labels : List ℕ) where
     ]
   ]
 
-  -- a link both of whose ends have one label is quiet
+  -- a link whose endpoints have one label is inside a component
   pub quiet_alone : (i : ℕ) (l : Link) → i < length links → l ≡ get_or links i l → l.high ≤ length labels
       → label_of labels l.low ≡ label_of labels l.high → (m : Link) → m ≡ get_or links i m → IsInside labels m
   quiet_alone i l within read ends same m m_read = subst (IsInside labels) (one_read links i l m within read m_read) (record { labelled = ends; one_label = same })

@@ -1,4 +1,4 @@
--- Tables of two parts of a shard's links, taken together.
+-- Tables of two parts of a shard's links, merged.
 use Rattle.std.proofs.Common.{◌≡◌, ◌≢◌, ℕ, ◌+◌, ◌-◌, ◌<◌, ◌≤◌, ◌^◌, List, length, get_or, set, Option, Some, None, sym, ap, ◌∙◌, subst, inl, inr, arith}
 use Rattle.std.proofs.lemmas.Bool.{cases_eq}
 use Rattle.std.proofs.lemmas.List.{get_or_default, get_or-set_same, get_or-set_other, length-set}
@@ -8,7 +8,7 @@ use Rattle.shard_scans.specs.declared.scanning.Best.{Best}
 use Rattle.shard_scans.specs.Scanning.{no_best, SaysBest, Keeps, KeepsLesser, best_of, AreBest}
 use Rattle.shard_scans.proofs.Scans.{kept_place, kept_none, kept_at, keeps_out}
 
--- what a table keeps says the short key of the weight of the link at its place
+-- an entry has the short key of the weight of the link at its index
 pub bests_say : (links : List Link) (labels : List ℕ) (from to : ℕ) (table : List Best) → AreBest links labels from to table → (i : ℕ) (d : Best) → i < length table
     → (get_or table i d).place ≢ no_best.place → SaysBest links (get_or table i d) (Some (get_or table i d).place)
 bests_say links labels from to table are i d within some = go keeps.best keeps.says
@@ -23,14 +23,14 @@ bests_say links labels from to table are i d within some = go keeps.best keeps.s
     go None says = absurd (some (ap (λ (b : Best). b.place) says))
     go (Some p) says = subst (λ k. SaysBest links kept (Some k)) (sym says.0) says
 
--- the labels up to one keep the best place of both parts, and those behind it that of the earlier part
+-- the entries of the labels up to one have the best index of both parts, and the others that of the earlier part
 pub record AreMerged (links : List Link) (labels : List ℕ) (from at to done : ℕ) (table : List Best) : Type 0 where
   pub each_vertex : length table ≡ length labels
   pub merged : (c : ℕ) → IsVertex (length labels) c → c ≤ done → Keeps links labels from to c (best_of table c)
   pub rest : (c : ℕ) → IsVertex (length labels) c → done < c → Keeps links labels from at c (best_of table c)
 
 module _ (links : List Link) (labels : List ℕ) (from at to : ℕ) where
-  -- at first none is merged, and in the end each is
+  -- at first no label is merged, and in the end all are
   pub merged_none : (table : List Best) → AreBest links labels from at table → AreMerged links labels from at to 0 table
   merged_none table are = search arith
 
@@ -55,7 +55,7 @@ module _ (links : List Link) (labels : List ℕ) (from at to : ℕ) where
     pub merged_skip : next.place ≡ no_best.place → AreMerged links labels from at to (i + 1) table
     merged_skip none = search (arith, cases_eq, keeps_out, kept_none, next_keeps, vertex)
 
-    -- the lesser one is kept
+    -- the lesser one is stored
     pub merged_next : from ≤ at → (after : Best) → KeepsLesser links next (get_or table i d) after → next.place ≢ no_best.place → AreMerged links labels from at to (i + 1) (set table i after)
     merged_next from_le after lesser some = record {
       each_vertex = length-set table i after ∙ are.each_vertex;

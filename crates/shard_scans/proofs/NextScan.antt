@@ -27,11 +27,11 @@ module _ (links : List Link) (labels : List ℕ) (words : List MarkWord) (names 
   within : (c : ℕ) → IsMarked marks c → number_of marks c ≤ length names
   within = number_within_names words names size
 
-  -- they are listed, by what they are written with once the numbers have their names
+  -- they are listed, by what they are written with after the numbers got their names
   pub numbers_are_listed : AreListed links labels names live
   numbers_are_listed = search (arith, shown_again, within, have_names)
 
-  -- of a link that is listed the ends have numbers
+  -- the endpoints of a link that is listed have numbers
   listed_has_numbers : (k : ℕ) (l : Link) → k < length (places_of by_labels) → l ≡ get_or links (get_or (places_of by_labels) k 0) l → HasNumbers labels marks names l
   listed_has_numbers k l lt read =
       let in_labels : k < length by_labels = omega (arith, lt, length-map by_labels (λ (x : LiveLink). x.place)) in
@@ -50,11 +50,11 @@ module _ (links : List Link) (labels : List ℕ) (words : List MarkWord) (names 
         high_named = subst (HasItsName marks names) high called.1;
       }
 
-  -- and those of a link that is parallel to it
+  -- and so have those of a link that is parallel to it
   parallel_has_numbers : (e l : Link) → AreParallel labels e l → HasNumbers labels marks names e → HasNumbers labels marks names l
   parallel_has_numbers a1 a2 a3 a4 = search arith
 
-  -- of each link the ends have one label, or they have numbers
+  -- the endpoints of each link have one label, or they have numbers
   pub next_are_numbered : AreNumbered links labels marks names
   next_are_numbered q l lt read = elim (live_or_aside links labels 0 (length links) (places_of by_labels) q l listed.live_are.places (omega arith) lt read) [
     | inl aside ↦ elim aside [
@@ -69,7 +69,7 @@ module _ (links : List Link) (labels : List ℕ) (words : List MarkWord) (names 
         ]
   ]
 
-  -- by the numbers of all labels they are written with their own
+  -- they are written with the numbers of all labels
   written_own : live ≡ map (relabelled (numbered_labels marks labels)) by_labels
   written_own =
       let mine = numbered_labels marks labels in
@@ -83,9 +83,9 @@ module _ (links : List Link) (labels : List ℕ) (words : List MarkWord) (names 
       let same : numbered marks e ≡ relabelled mine e = λ j. record { low = low j; high = high j; place = e.place } in
       get_or-map (numbered marks) by_labels k d d in_labels ∙ same ∙ sym (get_or-map (relabelled mine) by_labels k d d in_labels))
 
-  -- over a table that keeps nothing yet
+  -- over a table of empty entries
   module _ (table : List Best) (none : table ≡ replicate (length names) no_best) where
-    -- each can be taken in
+    -- each can be taken
     pub next_can_be_taken_in : (k : ℕ) (d : LiveLink) → k < length live → CanBeTakenIn links (length table) (get_or live k d)
     next_can_be_taken_in k d lt =
         let in_labels : k < length by_labels = omega (arith, lt, by_numbers_long marks names within by_labels live listed.by_numbers) in
@@ -98,7 +98,7 @@ module _ (links : List Link) (labels : List ℕ) (words : List MarkWord) (names 
           in_list = place_in_list links labels by_labels listed.live_are k in_labels d;
         })
 
-    -- once all are taken in, the best places are kept
+    -- after all are taken, the entries have the best indices
     pub next_best : (table' : List Best) → TakesInLive links live table table' → AreBestUpTo (length names) links (numbered_labels marks labels) 0 (length links) table'
     next_best table' takes =
         let mine = numbered_labels marks labels in

@@ -1,4 +1,4 @@
--- Numbers of marked labels: they ascend as the labels do.
+-- Numbers of marked labels, which ascend as the labels do.
 use Rattle.std.proofs.Common.{◌≡◌, ◌≢◌, ℕ, zero, suc, ◌+◌, ◌-◌, ◌*◌, ◌/◌, ◌%◌, ◌^◌, ◌<◌, ◌≤◌, ◌⊎◌, List, length, get_or, set, bit_or, count_ones, refl, sym, ap, ◌∙◌, subst, inl, inr, arith, w64}
 use Rattle.std.specs.Prelude.{◌↔◌}
 use Rattle.std.specs.Int.{bit_at}
@@ -27,7 +27,7 @@ ones_next : (w k : ℕ) → count_ones (w % 2 ^ (1 + k)) ≡ bit_at w k + count_
 ones_next w k = search (arith, count_ones, ones_cat, mod_below, pow_pos, cases_eq, no_ones, one_one, mod-pow-add)
 
 module _ (marks : List ℕ) where
-  -- more labels have more marks
+  -- more labels have at least as many marks
   marked_more : (a k : ℕ) → marked_to marks a ≤ marked_to marks (k + a)
   marked_more a zero = let same : zero + a ≡ a = omega arith in subst (λ n. marked_to marks a ≤ marked_to marks n) (sym same) (omega arith)
   marked_more a (suc k) =
@@ -43,7 +43,7 @@ module _ (marks : List ℕ) where
   counts_itself : (c : ℕ) → IsMarked marks c → number_of marks c ≡ marked_to marks c
   counts_itself c is = search arith
 
-  -- the first so many labels of a word
+  -- the first `k` labels of a word
   pub marked_within : (at k : ℕ) → k ≤ 64 → marked_to marks (k + at * 64) ≡ count_ones (get_or marks at 0 % 2 ^ k) + marked_to marks (at * 64)
   marked_within at zero le =
       let same : zero + at * 64 ≡ at * 64 = omega arith in
@@ -66,11 +66,10 @@ module _ (marks : List ℕ) where
       turn : (a b c : ℕ) → a + b + c ≡ c + a + b
       turn a b c = omega arith
 
-  -- the number of a marked label is one of as many as there are marks
+  -- the number of a marked label is at most the number of marks
   pub number_within : (c : ℕ) → IsMarked marks c → number_of marks c ≤ marked_in marks (length marks)
   number_within c is = omega (arith, counts_itself c is, marked_rise c (length marks * 64) (omega (arith, is.in_words)))
 
-  -- numbers ascend
   pub numbers_ascend : (c d : ℕ) → IsMarked marks c → c < d → number_of marks c < number_of marks d
   numbers_ascend c d is lt = omega (arith, counts_itself c is, marked_rise c (d - 1) (omega (arith, lt)))
 
@@ -80,7 +79,7 @@ module _ (marks : List ℕ) where
   pub ascends_back : (c d : ℕ) → IsMarked marks c → IsMarked marks d → number_of marks c < number_of marks d → c < d
   ascends_back c d c_is d_is lt = search (arith, cases_lt, cases_eq, numbers_ascend)
 
--- a bit is set
+-- a word after a bit is set
 abbrev pub with_bit : ℕ → ℕ → ℕ
 with_bit word at = bit_or word (1 * 2 ^ at % 18446744073709551616)
 
@@ -131,7 +130,7 @@ marks_set : (words : List MarkWord) (i bit : ℕ) (w new : MarkWord) → i < len
     → marks_of (set words i new) ≡ set (marks_of words) i (with_bit (get_or (marks_of words) i 0) bit)
 marks_set words i bit w new within read new_is = search (arith, map-set, set, get_or-map)
 
--- what marks the words have once the bit of a label is set in its word
+-- the marks of the words after the bit of a label is set in its word
 module _ (words : List MarkWord) (label : ℕ) (from_one : 1 ≤ label) (within : (label - 1) / 64 < length words) (w new : MarkWord) (read : w ≡ get_or words ((label - 1) / 64) w)
     (new_is : new.marks ≡ with_bit w.marks ((label - 1) % 64)) where
   in_marks : (label - 1) / 64 < length (marks_of words)
@@ -142,7 +141,7 @@ module _ (words : List MarkWord) (label : ℕ) (from_one : 1 ≤ label) (within 
       subst (λ m. IsMarked m d ↔ ((d ≡ label) ⊎ IsMarked (marks_of words) d)) (sym (marks_set words ((label - 1) / 64) ((label - 1) % 64) w new within read new_is))
       (mark_more (marks_of words) label from_one in_marks d)
 
--- the number that a word gives
+-- the number of a label from its word
 pub number_is : (inside words : List MarkWord) (c : ℕ) (w : MarkWord) → inside ≡ words → AreCounted words → (c - 1) / 64 < length words → w ≡ get_or inside ((c - 1) / 64) w
     → (w.before + count_ones (w.marks % (1 * 2 ^ ((c - 1) % 64) % 18446744073709551616)) + 1 ≡ number_of (marks_of words) c) × (number_of (marks_of words) c ≤ 2 ^ 28 + 65)
 number_is inside words c w same counted within inside_read =
@@ -159,7 +158,7 @@ number_is inside words c w same counted within inside_read =
     ap (marked_to (marks_of words)) (sym there) ∙ marked_within (marks_of words) at bit (omega arith) in
     (omega (arith, before, ones, all), omega (arith, marked_rise (marks_of words) (c - 1) (length words * 64) (omega (arith, within)), counted.few))
 
--- the number of a marked label has a place among the names
+-- the number of a marked label is an index of the names
 pub number_within_names : (words : List MarkWord) (names : List ℕ) → length names ≡ marked_in (marks_of words) (length words)
     → (c : ℕ) → IsMarked (marks_of words) c → number_of (marks_of words) c ≤ length names
 number_within_names words names size c is = search (arith, length-map, number_within)
@@ -168,7 +167,7 @@ pub number_has_place : (words : List MarkWord) (names : List ℕ) (c : ℕ) → 
     → IsMarked (marks_of words) c → number_of (marks_of words) c - 1 < length names
 number_has_place words names c size is = omega (arith, number_within_names words names size c is)
 
--- a name is written, and others stand
+-- a name is written, and the others stay
 module _ (marks names : List ℕ) (d : ℕ) (d_is : IsMarked marks d) where
   pub named_here : number_of marks d - 1 < length names → HasItsName marks (set names (number_of marks d - 1) d) d
   named_here within = get_or-set_same names (number_of marks d - 1) d 0 within
@@ -176,7 +175,7 @@ module _ (marks names : List ℕ) (d : ℕ) (d_is : IsMarked marks d) where
   pub named_stays : (c : ℕ) → IsMarked marks c → HasItsName marks names c → HasItsName marks (set names (number_of marks d - 1) d) c
   named_stays c c_is is = search (arith, cases_eq, numbers_apart, cases_lt, set, named_here, get_or_past, get_or-set_other)
 
--- one more word says how many are marked before it
+-- another word says how many labels are marked before it
 module _ (words : List MarkWord) (i total : ℕ) (w : MarkWord) (within : i < length words) (read : w ≡ get_or words i w) (total_is : total ≡ marked_in (marks_of words) i) where
   abbrev noted : MarkWord
   noted = record { marks = w.marks; before = total }
@@ -202,6 +201,6 @@ module _ (words : List MarkWord) (i total : ℕ) (w : MarkWord) (within : i < le
       → (k : ℕ) (d : MarkWord) → k < i + 1 → (get_or (set words i noted) k d).before ≡ marked_in (marks_of (set words i noted)) k
   told_before before k d lt = search (arith, cases_lt, get_or-set_other, noted_marks, set, get_or-set_same)
 
--- a new name has a word
+-- a new name is in one of the words
 pub new_name_has_word : (labels : List ℕ) (name words : ℕ) → AreLabels labels → words ≡ length labels / 64 + 1 → (1 ≤ new_name labels name) × ((new_name labels name - 1) / 64 < words)
 new_name_has_word labels name words are size = search (arith, cases_lt, label_vertex, get_or_default, get_or_past)

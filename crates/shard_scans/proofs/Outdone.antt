@@ -1,4 +1,4 @@
--- Links that an earlier one between the same two labels outdoes: the best places so far stay best.
+-- Links that an earlier one between the same two labels outdoes: the best indices so far stay the best.
 use Rattle.std.proofs.Common.{◌≡◌, ℕ, ◌<◌, ◌≤◌, List, get_or, Option, Some, None, sym, ◌∙◌, inl, inr, arith}
 use Rattle.std.proofs.lemmas.Bool.{cases_lt}
 use Rattle.links.specs.declared.links.Link.{Link}
@@ -9,12 +9,12 @@ use Rattle.shard_scans.specs.Scanning.{ComesFirst, IsBest, AreBestUpTo}
 use Rattle.shard_scans.specs.Live.{AreParallel, AreAside}
 use Rattle.shard_scans.proofs.BestSoFar.{first_then_first, best_longer}
 
--- of parallel links one leaves a label where another does
+-- parallel links leave the same labels
 parallel_leaves : (labels : List ℕ) (l m : Link) (c : ℕ) → AreParallel labels l m → Leaves labels m c → Leaves labels l c
 parallel_leaves a1 a2 a3 a4 a5 a6 = search arith
 
 module _ (links : List Link) (labels : List ℕ) (from at to : ℕ) (seen : from < at) (le : at ≤ to) (aside : AreAside links labels at to) where
-  -- a link that is laid aside leaves a label only where an earlier one does that comes first
+  -- if a link that needn't be listed leaves a label, an earlier one that comes first leaves it too
   abbrev HasEarlier : ℕ → ℕ → Link → Type 0
   HasEarlier c q m = (p : ℕ) × (e : Link) × (from ≤ p) × (p < at) × (e ≡ get_or links p e) × Leaves labels e c × ComesFirst e p m q
 
@@ -35,6 +35,6 @@ module _ (links : List Link) (labels : List ℕ) (from at to : ℕ) (seen : from
       let (i, e, low, high, e_read, e_leaves, first) = has_earlier c q m later before_end read leaves in
       first_then_first is.link e m p i q (is.first i e low high (omega (arith, high, later, in_list)) e_read e_leaves) first)
 
-  -- so a table that has seen the earlier one stays as it is
+  -- so a table that has the earlier one stays as it is
   pub bests_over : (count : ℕ) (table : List Best) → AreBestUpTo count links labels from at table → AreBestUpTo count links labels from to table
   bests_over count table are = search (arith, best_over)

@@ -1,4 +1,4 @@
--- Live links under new labels, without those whose ends fall together.
+-- Live links under new labels, without those whose endpoints now have one label.
 use Rattle.std.proofs.Common.{◌≡◌, ◌≢◌, ℕ, ◌+◌, List, [], ◌∷◌, ◌++◌, length, get_or, All, cond, refl, sym, ap, ◌∙◌, subst, inl, inr, arith}
 use Rattle.std.proofs.lemmas.Bool.Decides.{eqb_tells}
 use Rattle.std.proofs.lemmas.List.Elements.{All-cons, All-head, All-nil, All-tail}
@@ -20,7 +20,7 @@ module _ (labels : List ℕ) where
   packed_append [] ys = refl
   packed_append (x ∷ xs) ys = search (arith, eqb_tells, packed_same, packed_apart, packed_append xs ys)
 
-  -- what holds of each under its labels holds of all that stay
+  -- what holds for each under its labels holds for all that stay
   pub packed_all : (P : LiveLink → Type 0) (live : List LiveLink) → All (λ l. P (relabelled labels l)) live → All P (packed labels live)
   packed_all P [] all = All-nil P
   packed_all P (x ∷ live) all = elim (eqb_tells (label_of labels x.low) (label_of labels x.high)) [
@@ -33,7 +33,7 @@ module _ (links : List Link) (labels : List ℕ) where
   abbrev Written : LiveLink → Type 0
   Written e = (l : Link) → l ≡ get_or links e.place l → IsEntryOf labels l e
 
-  -- the link at the place of one that is left out is quiet
+  -- the link at the index of one that is removed is inside a component
   left_out : (e : LiveLink) → Written e → label_of labels e.low ≡ label_of labels e.high → (l : Link) → l ≡ get_or links e.place l → IsInside labels l
   left_out e written same l read = let is = written l read in record { labelled = is.high.1.1; one_label = sym is.low.2 ∙ same ∙ is.high.2 }
 
@@ -54,7 +54,7 @@ module _ (links : List Link) (labels : List ℕ) where
     written = packed_all labels Written live (λ k d lt l read. relabelled_written labels labelled l (get_or live k d) (are.written k d lt l read));
   }
 
-  -- and their labels stand for themselves
+  -- and their labels label themselves
   pub packed_own : (live : List LiveLink) → AreLabels labels → AreLiveLinks links labels live → All (λ e. relabelled labels e ≡ e) (packed labels live)
   packed_own live labelled are = packed_all labels (λ e. relabelled labels e ≡ e) live (λ k d lt.
       let at = live_ends links labels live are k d lt in

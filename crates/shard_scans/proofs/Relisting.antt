@@ -41,7 +41,7 @@ module _ (marks names : List ℕ) (within : (c : ℕ) → IsMarked marks c → n
 module _ (labels marks names names' changed : List ℕ) (marked : HaveMarks labels marks names)
     (number_is : (i : ℕ) → i < length names → get_or changed i 0 ≡ number_of marks (new_name labels (get_or names i 0)))
     (name_is : (i : ℕ) → i < length names → HasItsName marks names' (new_name labels (get_or names i 0))) where
-  -- of the label of a number's name
+  -- about the label of a number's name
   at_end : (x : ℕ) → IsVertex (length names) x → IsVertex (length labels) (get_or names (x - 1) x)
       → (label_of changed x ≡ number_of marks (label_of labels (get_or names (x - 1) x))) × IsMarked marks
       (label_of labels (get_or names (x - 1) x)) × HasItsName marks names' (label_of labels (get_or names (x - 1) x))

@@ -1,4 +1,4 @@
--- A pass over a shard's links, with a table of the best place for each label.
+-- A pass over a shard's links, with a table of the best index for each label.
 use Rattle.std.proofs.Common.{◌≡◌, ◌≢◌, ℕ, ◌+◌, ◌-◌, ◌<◌, ◌≤◌, ◌^◌, ℤ, w32, w64, FitsSigned, to_z, of_z, List, length, get_or}
 use Rattle.std.proofs.Common.{set, replicate, true, Option, Some, None, Ordering, Less, nat_cmp, refl, sym, ap, ◌∙◌, subst, inl, inr, arith}
 use Rattle.std.specs.Int.Signed.{◌<ℤ◌, lt_z}
@@ -22,11 +22,11 @@ use Rattle.shard_scans.specs.Scanning.{short_key, no_best, IsBestPlace, NoneLeav
 less_by_test : (a b : ℤ) → lt_z a b ≡ true → a <ℤ b
 less_by_test a b test = omega (arith, ints, test)
 
--- a key that is kept is one of 32 bits
+-- a stored key has 32 bits
 key_is : (w k : ℤ) → FitsSigned w64 w → k ≡ short_key w → to_z w32 (of_z w32 k) ≡ short_key w
 key_is w k fits is = ap (λ j. to_z w32 (of_z w32 j)) is ∙ to_z-of_z w32 (short_key w) (key_fits w fits)
 
--- of two links the one of the lesser key weighs less, and so is below the other
+-- a link with a lesser key weighs less than another, and so is below it
 pub lesser_key_is_below : (l m : Link) (k j : ℤ) → k ≡ short_key l.weight → j ≡ short_key m.weight → lt_z (to_z w32 (of_z w32 k)) (to_z w32 (of_z w32 j)) ≡ true → IsBelow l m
 lesser_key_is_below l m k j k_is j_is test =
     let keys = less_by_test (short_key l.weight) (short_key m.weight) (subst (λ a. lt_z a (short_key m.weight) ≡ true) (key_is l.weight k l.weight_fits k_is)
@@ -34,16 +34,16 @@ lesser_key_is_below l m k j k_is j_is test =
     let lighter = by_lt_z l.weight m.weight (λ less. less) (λ ge. absurd (keys_keep_order m.weight l.weight ge keys)) in
     subst (λ (o : Ordering). ordering_then o (ordering_then (nat_cmp l.low m.low) (nat_cmp l.high m.high)) ≡ Less) (int_cmp_is l.weight m.weight Less lighter) refl
 
--- the key of no link is less than none
+-- the key of no link isn't less than any key
 pub no_key_is_lesser : (l : Link) (k : ℤ) → k ≡ short_key l.weight → ¬ (lt_z (to_z w32 (of_z w32 no_best.key)) (to_z w32 (of_z w32 k)) ≡ true)
 no_key_is_lesser l k k_is test = search (arith, not_above_all, less_by_test, key_is)
 
--- a table of nothing keeps the best places of no links
+-- a table of empty entries has the best indices of no links
 pub best_of_none : (count : ℕ) (links : List Link) (labels : List ℕ) (from : ℕ) → AreBestUpTo count links labels from from (replicate count no_best)
 best_of_none count links labels from = search (arith, length-replicate, get_or-replicate)
 
 module _ (links : List Link) (labels : List ℕ) (from to c : ℕ) (kept : Best) where
-  -- a place that is kept is the best one
+  -- an index that is stored is the best one
   pub kept_place : Keeps links labels from to c kept → kept.place ≢ no_best.place → IsBestPlace links labels from to c kept.place
   kept_place keeps some = go keeps.best keeps.says keeps.is
     where
@@ -57,11 +57,11 @@ module _ (links : List Link) (labels : List ℕ) (from to c : ℕ) (kept : Best)
 module _ (links : List Link) (labels : List ℕ) (c from at to : ℕ) (le : from ≤ at) (next : Best)
     (next_says : SaysBest links next (Some next.place)) (next_is : IsBestPlace links labels at to c next.place) (kept : Best)
     (keeps : Keeps links labels from at c kept) where
-  -- what is known of the link that is kept
+  -- what is known of the link that is stored
   abbrev OfKept : (Link → Type 0) → Type 0
   OfKept P = (l : Link) → kept.place < length links → l ≡ get_or links kept.place l → kept.key ≡ short_key l.weight → P l
 
-  -- a link is kept, and the next one isn't below it
+  -- a link is stored, and the next one isn't below it
   pub keeps_old : kept ≢ no_best → OfKept (λ l. ¬ (IsBelow next_is.link l)) → Keeps links labels from to c kept
   keeps_old some not_below = go keeps.best keeps.says keeps.is
     where
@@ -72,7 +72,7 @@ module _ (links : List Link) (labels : List ℕ) (c from at to : ℕ) (le : from
           let within : kept.place < length links = omega (arith, says.0, says.1) in
           record { best = Some p; says = says; is = best_stays links labels c from at to next.place le next_is p is (not_below is.link within read (says.2 is.link is.here)) }
 
-  -- no link is kept, or the next one is below it
+  -- no link is stored, or the next one is below it
   pub keeps_new : OfKept (λ l. IsBelow next_is.link l) → Keeps links labels from to c next
   keeps_new below = record { best = Some next.place; says = next_says; is = go keeps.best keeps.says keeps.is }
     where
@@ -88,14 +88,14 @@ pub keeps_out : (links : List Link) (labels : List ℕ) (from at to c : ℕ) (ke
     → NoneLeavesIn links labels at to c → Keeps links labels from at c kept → Keeps links labels from to c kept
 keeps_out links labels from at to c kept le none keeps = record { best = keeps.best; says = keeps.says; is = best_goes_on links labels c from at to keeps.best le none keeps.is }
 
--- links whose ends have one label leave none
+-- links whose endpoints have one label leave none
 pub bests_stay : (count : ℕ) (links : List Link) (labels : List ℕ) (from at to : ℕ) (table : List Best) → at ≤ to
     → ((q : ℕ) (l : Link) → at ≤ q → q < to → q < length links → l ≡ get_or links q l → label_of labels l.low ≡ label_of labels l.high)
     → AreBestUpTo count links labels from at table → AreBestUpTo count links labels from to table
 bests_stay count links labels from at to table le same are = search (arith, keeps_out, leaves_apart)
 
 module _ (count : ℕ) (links : List Link) (labels : List ℕ) (from i : ℕ) (within : i < length links) where
-  -- another one leaves the labels of its two ends, and no others
+  -- another one leaves the labels of its two endpoints, and no others
   pub bests_change : (table : List Best) (l : Link) (low high : ℕ) (at_low at_high : Best) → l ≡ get_or links i l
       → low ≡ label_of labels l.low → high ≡ label_of labels l.high → low ≢ high → IsVertex count low → IsVertex count high
       → Keeps links labels from (i + 1) low at_low → Keeps links labels from (i + 1) high at_high
@@ -132,11 +132,11 @@ module _ (count : ℕ) (links : List Link) (labels : List ℕ) (from i : ℕ) (w
         ]
       ]
 
--- the end of the link at a place of the list
+-- an endpoint of the link at an index of the list
 pub end_at : (n : ℕ) (links : List Link) (i : ℕ) (l : Link) → EndsUpTo n links → i < length links → l ≡ get_or links i l → l.high ≤ n
 end_at n links i l ends within read = subst (λ (k : Link). k.high ≤ n) (sym read) (ends i l within)
 
--- what a table keeps for a label, read by any default
+-- the entry of a label, read with any default
 pub kept_at : (count : ℕ) (links : List Link) (labels : List ℕ) (from to : ℕ) (table : List Best) (c k : ℕ) (d : Best)
     → AreBestUpTo count links labels from to table → IsVertex count c → k ≡ c - 1 → Keeps links labels from to c (get_or table k d)
 kept_at count links labels from to table c k d are vertex at = search (arith, get_or_default)

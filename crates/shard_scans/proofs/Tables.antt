@@ -1,4 +1,4 @@
--- A table of what is kept for each label, and the offers that it gives.
+-- A table with an entry for each label, and the offers that it makes.
 use Rattle.std.proofs.Common.{◌≡◌, ◌≢◌, ℕ, ◌+◌, ◌<◌, ◌≤◌, ◌^◌, List, [], ◌∷◌, ◌++◌, length, get_or, Contains, sym, ap, ◌∙◌, subst, inl, inr, arith}
 use Rattle.std.proofs.lemmas.Bool.{cases_lt}
 use Rattle.std.proofs.lemmas.List.Elements.{Contains-get_or, Contains-append_left, Contains-push, Contains-push_cases}
@@ -21,7 +21,7 @@ use Rattle.shard_scans.proofs.Scans.{kept_place, kept_none}
 pub places_none : (bests : List Best) → ArePlacesBelow bests 1 []
 places_none bests = search (arith, contains_none)
 
--- no place is kept for the next label
+-- the next label has an empty entry
 pub places_skip : (bests : List Best) (before : ℕ) (pairs : List Offer) → (get_or bests before no_best).place ≡ no_best.place
     → ArePlacesBelow bests (before + 1) pairs → ArePlacesBelow bests (before + 1 + 1) pairs
 places_skip bests before pairs none are = record {
@@ -38,7 +38,7 @@ places_skip bests before pairs none are = record {
   );
 }
 
--- or a place is kept for the next label
+-- or an index is stored for the next label
 pub places_push : (bests : List Best) (before place : ℕ) (pairs : List Offer) → (get_or bests before no_best).place ≡ place → place ≢ no_best.place
     → ArePlacesBelow bests (before + 1) pairs → ArePlacesBelow bests (before + 1 + 1) (pairs ++ (before + 1, place) ∷ [])
 places_push bests before place pairs here some are = record {
@@ -64,11 +64,11 @@ places_push bests before place pairs here some are = record {
           subst (λ (p : ℕ × ℕ). Contains (pairs ++ (before + 1, place) ∷ []) p) (λ k. (sym same k, sym one k)) (Contains-push pairs (before + 1, place))
     ]
 
--- the link that is offered is the one at the best place, and stands first there
+-- the link that is offered is the one at the best index, the first at which it is
 pub same_place : (links : List Link) (labels : List ℕ) (label p place : ℕ) → IsBestPlace links labels 0 (length links) label p → IsLightOffer links labels label place → p ≡ place
 same_place links labels label p place best (l, least, at) = search (arith, cases_lt)
 
--- the best places are the light offers
+-- the best indices are the light offers
 module _ (links : List Link) (labels : List ℕ) (bests : List Best) (few : length links ≤ 2 ^ 24)
     (ends : EndsUpTo (length labels) links) (all : AreLabels labels) (are : AreBest links labels 0 (length links) bests) where
   kept_is_light : (label place : ℕ) → label < length bests + 1 → IsKept bests label place → IsLightOffer links labels label place

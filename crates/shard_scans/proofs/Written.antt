@@ -1,4 +1,4 @@
--- Live links, each written with labels of its ends.
+-- Live links, each written with labels of its endpoints.
 use Rattle.std.proofs.Common.{◌≡◌, ℕ, ◌+◌, ◌<◌, ◌≤◌, List, [], ◌∷◌, ◌++◌, length, get_or, All, Option, Some, None, refl, sym, ap, ◌∙◌, subst, arith}
 use Rattle.std.specs.Prelude.{IfSome}
 use Rattle.std.proofs.lemmas.List.{get_or_default, get_or-map, map-append, length-map}
@@ -23,7 +23,7 @@ written_coarser labels finer l e coarsens is = search (arith, one_label_coarser)
 pub live_links_coarser : (links : List Link) (labels finer : List ℕ) (live : List LiveLink) → Coarsens labels finer → AreLiveLinks links finer live → AreLiveLinks links labels live
 live_links_coarser links labels finer live coarsens are = search (arith, live_coarser, written_coarser)
 
--- what is live of a shard stays so under labels that coarsen
+-- links that are live stay so under labels that coarsen
 pub kept_coarser : (kept : KeptShardState) (labels finer : List ℕ) → Coarsens labels finer → IsLive finer kept → IsLive labels kept
 kept_coarser kept labels finer coarsens live = search (arith, live_links_coarser)
 
@@ -35,34 +35,33 @@ module _ (labels : List ℕ) (are : AreLabels labels) where
   label_stands : (u v : ℕ) → HaveOneLabel labels u v → HaveOneLabel labels (label_of labels u) v
   label_stands u v (at_u, at_v, same) = (label_vertex u at_u, at_v, (are.labelled u at_u.0 at_u.1).own ∙ same)
 
-  -- the labels of what is written of a link may stand in its place
+  -- the labels of what is written of a link may replace it
   pub relabelled_written : (l : Link) (e : LiveLink) → IsEntryOf labels l e → IsEntryOf labels l (relabelled labels e)
   relabelled_written l e is = record { low = label_stands e.low l.low is.low; high = label_stands e.high l.high is.high }
 
   pub own_written : (l : Link) (place : ℕ) → l.high ≤ length labels → IsEntryOf labels l (written_at labels l place)
   own_written l place ends = search (arith, label_stands)
 
-  -- and stand for themselves
+  -- and label themselves
   pub relabelled_stands : (e : LiveLink) → IsVertex (length labels) e.low → IsVertex (length labels) e.high → relabelled labels (relabelled labels e) ≡ relabelled labels e
   relabelled_stands e low high = λ k. record { low = (are.labelled e.low low.0 low.1).own k; high = (are.labelled e.high high.0 high.1).own k; place = e.place }
 
--- as many places as live links
 places_count : (live : List LiveLink) → length (places_of live) ≡ length live
 places_count live = length-map live (λ (l : LiveLink). l.place)
 
--- the link at a place of the list
+-- the link at an index of the list
 pub link_at : (links : List Link) (p : ℕ) → p < length links → (l : Link) × (l ≡ get_or links p l)
 link_at [] p within = absurd (omega (arith, within))
 link_at (x ∷ links) p within = (get_or (x ∷ links) p x, get_or_default (x ∷ links) p x (get_or (x ∷ links) p x) within)
 
--- it can be taken in by its labels
+-- it can be taken by its labels
 pub link_can_be_taken_in : (links : List Link) (labels : List ℕ) (n place : ℕ) (l : Link) → n ≡ length labels → AreLabels labels → EndsUpTo (length labels) links → place < length links
     → l ≡ get_or links place l → CanBeTakenIn links n (written_at labels l place)
 link_can_be_taken_in links labels n place l size labelled ends within read = search (arith, end_at, label_vertex)
 
 module _ (links : List Link) (labels : List ℕ) where
   module _ (old : List LiveLink) (are : AreLiveLinks links labels old) where
-    -- a table of no links stands before the first live one, and in the end all are seen
+    -- a table of no links is before the first live one, and in the end all links were scanned
     pub bests_none : (count : ℕ) (table : List Best) → AreBestUpTo count links labels 0 0 table → AreBestUpTo count links labels 0 (get_or (places_of old) 0 (length links)) table
     bests_none count table none = search (arith, live_first, bests_stay, front_is_quiet)
 
@@ -77,7 +76,7 @@ module _ (links : List Link) (labels : List ℕ) where
       in_places : i < length (places_of old)
       in_places = omega (arith, within, places_count old)
 
-      -- its place is one of the list, and it is written of the link there
+      -- its index is one of the list, and it is written of the link there
       place_is : get_or (places_of old) i 0 ≡ here.place
       place_is = get_or-map (λ (l : LiveLink). l.place) old i d 0 within
 
@@ -94,7 +93,7 @@ module _ (links : List Link) (labels : List ℕ) where
       high_is_vertex = let (l, read, is) = written_here in is.high.0
 
       module _ (next : LiveLink) (next_is : next ≡ relabelled labels here) where
-        -- once it is taken in, all before the next one is seen
+        -- after it is taken, all links before the next one were scanned
         pub bests_next : (count from p : ℕ) (table table' : List Best) → p ≡ next.place → from ≤ get_or (places_of old) i (length links) → TakesIn links next.low next.high p table table'
             → AreBestUpTo count links labels from (get_or (places_of old) i (length links)) table → AreBestUpTo count links labels from (get_or (places_of old) (i + 1) (length links)) table'
         bests_next count from p table table' p_is le takes best =
@@ -109,17 +108,17 @@ module _ (links : List Link) (labels : List ℕ) where
             bests_over links labels from (get_or (places_of old) i 0 + 1) (get_or (places_of old) (i + 1) (length links)) seen le' aside count table'
             (subst (λ k. AreBestUpTo count links labels from (k + 1) table') (at ∙ sym place_is) taken)
 
-  -- what is written of their ends are vertices
+  -- what is written of their endpoints are vertices
   pub live_ends : (live : List LiveLink) → AreLiveLinks links labels live → All (λ l. IsVertex (length labels) l.low × IsVertex (length labels) l.high) live
   live_ends live are = λ i d within. (low_is_vertex live are i within d, high_is_vertex live are i within d)
 
-  -- live links before a place of the list
+  -- live links before an index of the list
   pub record AreWrittenBefore (to : ℕ) (live : List LiveLink) : Type 0 where
     pub places : AreLive links labels 0 to (places_of live)
     pub written : All (λ e. (l : Link) → l ≡ get_or links e.place l → IsEntryOf labels l e) live
     pub own : All (λ e. relabelled labels e ≡ e) live
 
-  -- one more is written behind them
+  -- another one is appended
   module _ (place : ℕ) (l : Link) (within : place < length links) (read : l ≡ get_or links place l) (ends : l.high ≤ length labels) (live : List LiveLink) (before : AreWrittenBefore place live) where
     pub written_more : AreLabels labels → AreWrittenBefore (place + 1) (live ++ written_at labels l place ∷ [])
     written_more are = record {

@@ -1,4 +1,4 @@
--- Parts of a shard's links, which are scanned side by side.
+-- Parts of a shard's links, which are scanned by different threads.
 use Rattle.std.specs.Prelude.{◌≤◌, List, length}
 use Rattle.limits.specs.declared.TheConstants.{MAX_SHARD_LINKS}
 use Rattle.links.specs.Link.{EndsUpTo}
@@ -8,7 +8,7 @@ use Rattle.shard_scans.specs.Scanning.{AreBest}
 use Rattle.shard_scans.specs.declared.parts.Scanned.{Scanned}
 use Rattle.shard_scans.specs.declared.parts.Part.{Part}
 
--- links that a scan may pass over, and the live ones where these are listed
+-- links that a scan may pass over
 pub record CanScan (scanned : Scanned) : Type 0 where
   pub few_links : length scanned.links.now ≤ MAX_SHARD_LINKS
   pub ends : EndsUpTo (length scanned.labels.now) scanned.links.now
@@ -18,6 +18,6 @@ pub record CanScan (scanned : Scanned) : Type 0 where
 abbrev pub CanScanPart : Scanned → Part → Type 0
 CanScanPart scanned part = CanScan scanned × (part.to ≤ length scanned.links.now)
 
--- a table keeps the best place for each label, of the links of a part
+-- each label's entry in the table has the best index among the links of a part
 abbrev pub AreBestOf : Scanned → Part → List Best → Type 0
 AreBestOf scanned part table = AreBest scanned.links.now scanned.labels.now part.from part.to table

@@ -1,4 +1,4 @@
-//! Passes over links by the numbers of their labels.
+//! Passes over live links that are listed by the numbers of their labels.
 ghost use Rattle.std.specs.Prelude.{◌≡◌, ℕ, ◌<◌, ◌≤◌, length, map, slice_index_or, IfOk};
 ghost use Rattle.limits.specs.declared.TheConstants.{MAX_SHARD_LINKS};
 ghost use Rattle.links.specs.Link.{EndsUpTo};
@@ -14,7 +14,7 @@ use crate::table::Table;
 use links::{Link, Offers};
 use std::alloc::{AllocError, Allocator};
 
-// The offers of live links that are listed by numbers, over a table that is cleared first.
+// Returns the offers of listed links. The table is cleared first.
 pub(crate) fn offers_of_listed<A: Allocator + Copy>(
     links: &[Link],
     labels: &[u32],
@@ -37,7 +37,7 @@ pub(crate) fn offers_of_listed<A: Allocator + Copy>(
     Ok(Offers::of_known(pairs))
 }
 
-// Writes the names of numbers in place of them.
+// Replaces each number by its name.
 fn name_each(pairs: &mut [(u32, u32)], names: &[u32])
     requires { (k : ℕ) (d : Offer) → k < length pairs.old → IsVertex (length names.now) (slice_index_or pairs.old k d).0 }
     ensures { pairs.new ≡ map (offered names.now) pairs.old }

@@ -1,4 +1,4 @@
-//! A shard that is kept, and which of its links are live.
+//! A shard that is scanned again and again, with a list of those of its links that are live.
 ghost use Rattle.std.specs.Prelude.{◌≡◌, ◌≤◌, ◌↔◌, length, IfOk, IsTrue};
 ghost use Rattle.links.specs.Link.{EndsUpTo};
 ghost use Rattle.shard_scans.specs.Live.{IsLive, IsAllLive, IsGreatestEnd, AreOffersOf};
@@ -12,21 +12,24 @@ use std::alloc::{AllocError, Allocator, Global};
 use std::marker::Model;
 use std::thread::Threads;
 
-/// A shard that is scanned again and again under labels that coarsen. The first scan lists the live links, and later scans
-/// pass over the list alone: links that leave no label are laid aside, and so is a link if the one listed before it lies
-/// between the same two labels and is no greater. A first scan by threads lists nothing, and the next one does. Contracts see
-/// the links and the live ones, if these are listed; if they aren't, all are live.
+/// A shard that is scanned again and again under labels that coarsen.
 ///
-/// It keeps the links' memory. The list takes 12 bytes for each link while it is made, then for each that is live, and 4 bytes
-/// for each label that live links have.
+/// The first scan lists the live links, and later scans pass over that list alone. A link that leaves no label is
+/// removed from the list. So is a link if the one before it in the list connects the same two labels and is no greater.
+/// A first scan by threads lists nothing, and the next scan does.
+///
+/// Contracts see the links and, if they are listed, the live ones; if they aren't, all links are live.
+///
+/// It stores the links. The list takes 12 bytes per link while it is made, and later 12 per live link and 4 per label
+/// that live links have.
 #[derive(Drop)]
 pub struct KeptShard<A: Allocator = Global> {
     links: Vec<Link, A>,
-    // at an end of a link; 0 where there is none
+    // the greatest endpoint of a link, or 0 if there are no links
     greatest: u32,
-    // none where all are live
+    // `None` if all links are live
     live: Option<Listed<A>>,
-    // whether they were scanned since all were made live
+    // whether the links were scanned since all were made live
     scanned: bool,
 }
 
@@ -46,8 +49,8 @@ impl<A: Allocator> Model for KeptShard<A> {
 }
 
 impl<A: Allocator + Copy> KeptShard<A> {
-    /// A shard with these links, in their order, all of them live. It keeps the list's memory and takes none, and looks at
-    /// each link once.
+    /// A shard with these links, in their order, all of them live. It uses the list's memory and allocates none. It
+    /// reads each link once.
     pub fn new(links: Vec<Link, A>) -> Self
         requires few_links { length links.items ≤ MAX_SHARD_LINKS }
         ensures links { result.links ≡ links.items }
@@ -62,14 +65,14 @@ impl<A: Allocator + Copy> KeptShard<A> {
         }
     }
 
-    /// The light offers of the links under the labels, as [`scan`](crate::scan) gives them; none where an end of a link is
-    /// greater than the number of labels. Under these labels the links that aren't live have to offer nothing: so it is
-    /// where all are live, and where the labels coarsen those of the offers before ([`laws`](crate::laws)).
+    /// Returns the offers that [`scan`](crate::scan) returns for the links under these labels, or `None` if an endpoint
+    /// of a link is greater than the number of labels. Links that aren't live have to offer nothing under the labels.
+    /// This holds if all links are live, or if the labels coarsen those of the previous scan ([`laws`](crate::laws)).
     ///
-    /// For m live links of n vertices O(m + n) time. The links are scanned by numbers of the shard's own for the labels that
-    /// live links have: the scanner's table takes 8 bytes for each of these, its marks a quarter of a byte a vertex. Beside
-    /// them it takes the list and 8 bytes for each offer, and until it returns 8 bytes for each number that the links had
-    /// before. The only error is want of memory, and the shard can be asked again after it.
+    /// With m live links and n vertices, it takes O(m + n) time. The labels that live links have are numbered, and the
+    /// scanner's table takes 8 bytes for each of them. The scanner's marks take a quarter of a byte per vertex. In
+    /// addition, there are the list, 8 bytes per offer, and until the call returns 8 bytes for each number of the
+    /// previous scan. It fails only if it is out of memory, and can then be called again.
     pub fn offers(
         &mut self,
         scanner: &mut Scanner<A>,
@@ -97,11 +100,11 @@ impl<A: Allocator + Copy> KeptShard<A> {
 }
 
 impl<A: Allocator + Copy + Send + Sync> KeptShard<A> {
-    /// The same offers as [`offers`](KeptShard::offers) gives; the first ones, since all links were made live, by threads, if
-    /// the links are worth them, as [`scan_par`](crate::scan_par) has it. Those lay no link aside.
+    /// Returns the same offers as [`offers`](KeptShard::offers). The first scan after all links were made live is done
+    /// by threads, if there are enough links for [`scan_par`](crate::scan_par). That scan lists no live links.
     ///
-    /// A scan by threads takes 8 bytes a vertex for each part. The only error is want of memory, and the shard can be asked
-    /// again after it.
+    /// A scan by threads takes 8 bytes per vertex for each part. The call fails only if it is out of memory, and can
+    /// then be made again.
     pub fn offers_par<R: Threads + Sync>(
         &mut self,
         rt: &R,
@@ -127,7 +130,7 @@ impl<A: Allocator + Copy + Send + Sync> KeptShard<A> {
 }
 
 impl<A: Allocator> KeptShard<A> {
-    // Whether each end of a link is one of the vertices 1 to n. It looks at no link.
+    // Whether each endpoint of a link is one of the vertices 1 to n. It reads no link.
     fn has_ends_up_to(&self, n: u32) -> bool
         ensures ends { IsTrue result ↔ EndsUpTo n self.now.links }
         ensures few_links { length self.now.links ≤ MAX_SHARD_LINKS }
@@ -135,7 +138,7 @@ impl<A: Allocator> KeptShard<A> {
         self.greatest <= n
     }
 
-    /// Makes all links live, so that any labels may come next, and gives back the list of live ones. It takes no memory.
+    /// Makes all links live, so that any labels may come next, and frees the list of live ones. It allocates nothing.
     pub fn make_all_live(&mut self)
         ensures links { self.new.links ≡ self.old.links }
         ensures live { IsAllLive self.new }
@@ -145,7 +148,7 @@ impl<A: Allocator> KeptShard<A> {
     }
 }
 
-// The greatest vertex at an end of a link; 0 where there is none.
+// The greatest endpoint of a link, or 0 if there are no links.
 fn greatest_end(links: &[Link]) -> u32
     ensures { IsGreatestEnd links.now result }
 {

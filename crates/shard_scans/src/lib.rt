@@ -1,5 +1,6 @@
-//! Scans of a shard: for each label that a link of it leaves, the first place of the least such link. A shard that is kept is
-//! scanned again and again under labels that coarsen, over fewer and fewer links.
+//! Scans of a shard. For each label that a link of the shard leaves, a scan offers the least such link, by the first
+//! index at which it is. A [`KeptShard`] is scanned again and again under labels that coarsen, over fewer and fewer
+//! links.
 //!
 //! ```text
 //!   links, Labels ── Scanner::scan ─────────────────────► Offers
@@ -11,15 +12,19 @@
 //! ```
 //!
 //! What it promises:
-//! - [`scan`], [`scan_par`] by threads and [`Scanner`] in the room of the scan before give exactly the light offers.
-//! - So does [`KeptShard`], under any labels that coarsen those before, or once all its links are made live; where an end has
-//!   no label it gives none.
-//! - What is live under labels is so under those that coarsen them ([`laws`]).
+//! - [`scan`], [`scan_par`] by threads and a [`Scanner`], which reuses the memory of the last scan, return exactly the
+//!   light offers.
+//! - So does [`KeptShard`], under any labels that coarsen the last ones, or after all its links are made live. If an
+//!   endpoint has no label, it returns no offers.
+//! - What is live under labels is live under labels that coarsen them ([`laws`]).
 //!
-//! Where to start a change: `live` writes the live links of a shard (`specs/Live`), `numbers` numbers their labels
-//! (`specs/Numbers`), `listed` keeps them by these, and `by_numbers` gives their offers. `table` has what is kept for each
-//! number (`specs/Tables`), `scanning` the scans and how one link is kept (`specs/Scanning`). `parallel` scans `parts` of the
-//! links by threads, by the labels themselves (`specs/Parts`). `kept_shard` is the shard with its list.
+//! Where to make a change:
+//! - `live` writes the live links of a shard (`specs/Live`), `numbers` numbers their labels (`specs/Numbers`), `listed`
+//!   stores them by these numbers, and `by_numbers` returns their offers.
+//! - `table` stores the best link for each number (`specs/Tables`), and `scanning` has the scans and the comparison of
+//!   one link (`specs/Scanning`).
+//! - `parallel` scans `parts` of the links by threads, by the labels themselves (`specs/Parts`).
+//! - `kept_shard` is the shard with its list.
 #![tactic(auto)]
 
 mod by_numbers;

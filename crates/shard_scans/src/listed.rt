@@ -1,4 +1,4 @@
-//! The live links of a shard, listed by numbers of its own for the labels of their ends.
+//! The live links of a shard. Their labels are replaced by numbers of the shard's own.
 ghost use Rattle.std.specs.Prelude.{◌≡◌, length, All, IfOk, OnOk, OnErr};
 ghost use Rattle.shard_scans.specs.Numbers.{marks_of, marked_in, AreCounted, AreBothMarked, AreByNumbers, HaveLabels, HaveNames, HaveMarks, Relists, shown};
 
@@ -6,7 +6,7 @@ use crate::live::{LiveLink, pack};
 use crate::numbers::{Numbers, number_each, number_names};
 use std::alloc::{AllocError, Allocator};
 
-// Live links, each written with the numbers of its labels, and the label of each number.
+// Live links with the numbers of their labels, and the label of each number, its name.
 #[derive(Drop)]
 pub(crate) struct Listed<A: Allocator> {
     pub(crate) names: Vec<u32, A>,
@@ -14,7 +14,7 @@ pub(crate) struct Listed<A: Allocator> {
 }
 
 impl<A: Allocator + Copy> Listed<A> {
-    // Links that are written with labels, by the numbers of these, of which there are so many.
+    // Replaces the labels of links by their numbers. `count` labels have numbers.
     pub(crate) fn new(
         mut links: Vec<LiveLink, A>,
         numbers: &Numbers<A>,
@@ -32,7 +32,7 @@ impl<A: Allocator + Copy> Listed<A> {
         Ok(Listed { names, links })
     }
 
-    // Writes the links with the numbers of their new labels, without those whose ends fall together.
+    // Replaces the numbers of links by those of their new labels, and removes links whose endpoints now have one label.
     pub(crate) fn renumber(
         &mut self,
         labels: &[u32],
@@ -69,5 +69,5 @@ impl<A: Allocator + Copy> Listed<A> {
     }
 }
 
-// Of a number before its name is written.
+// Stored instead of a name that isn't written yet.
 const NO_NAME: u32 = 0;

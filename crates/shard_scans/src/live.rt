@@ -1,10 +1,12 @@
-//! Links of a shard that are live, each written with labels of its ends, or with a shard's own numbers of them.
+//! The live links of a shard, each written with the labels of its endpoints, or with the shard's own numbers of them.
 //!
-//! A link whose ends have one label leaves no component, and never will under labels that coarsen these: it is quiet, and
-//! laid aside. So is a link if the one listed before it lies between the same two labels and is no greater, as in files that
-//! have both directions of a link beside each other: under all these labels that one is light before it. Of the others a label
-//! of each end is written, and the place, in 12 bytes; the list has numbers of these labels. The weight is read where the link
-//! itself stands: places ascend, so that is a walk in order.
+//! A link whose endpoints have one label leaves no component, and never will under labels that coarsen these. It is
+//! removed. A link is also removed if the one before it in the list connects the same two labels and is no greater,
+//! since that one is always preferred. This is frequent in files that have both directions of an edge, one after the
+//! other.
+//!
+//! For every other link, 12 bytes are stored: a label of each endpoint, and the index. Its weight is read from the link
+//! itself. The indices ascend, so the links are read in order.
 ghost use Rattle.std.specs.Prelude.{◌≡◌, ◌<◌, ◌≤◌, length, take, All, Some, IfOk, IsTrue, IsFalse};
 ghost use Rattle.limits.specs.declared.TheConstants.{MAX_SHARD_LINKS};
 ghost use Rattle.links.specs.Link.{EndsUpTo};
@@ -18,7 +20,6 @@ use crate::table::Table;
 use links::Link;
 use std::alloc::{AllocError, Allocator};
 
-// The label of a vertex.
 #[inline]
 pub(crate) fn label_at(labels: &[u32], vertex: u32) -> u32
     requires { IsVertex (length labels.now) vertex }
@@ -27,7 +28,7 @@ pub(crate) fn label_at(labels: &[u32], vertex: u32) -> u32
     labels[vertex as usize - 1]
 }
 
-// What is written of a link: a label of its lower end, or that label's number, the same of its higher end, and its place.
+// The label of a link's lower endpoint, or that label's number, the same of its higher endpoint, and its index.
 #[derive(Clone, Copy)]
 pub(crate) struct LiveLink {
     pub(crate) low: u32,
@@ -36,7 +37,7 @@ pub(crate) struct LiveLink {
 }
 
 impl LiveLink {
-    // The same under labels that coarsen those it was written under.
+    // The same link under labels that coarsen those it was written with.
     #[inline]
     pub(crate) fn under(self, labels: &[u32]) -> Self
         requires low { IsVertex (length labels.now) self.low }
@@ -50,7 +51,7 @@ impl LiveLink {
         }
     }
 
-    // What a table keeps of it: a short key of the weight of the link at its place, and the place.
+    // What a table stores of it: the short key of the weight of the link at its index, and the index.
     #[inline]
     pub(crate) fn best(self, links: &[Link]) -> Best
         requires in_list { self.place < length links.now }
@@ -64,7 +65,7 @@ impl LiveLink {
     }
 }
 
-// Takes live links into a table, one after another, by what is written of them.
+// Takes live links into a table, by what is written of them.
 pub(crate) fn keep_all<A: Allocator + Copy>(links: &[Link], live: &[LiveLink], table: &mut Table<A>)
     requires few_links { length links.now ≤ MAX_SHARD_LINKS }
     requires next { All (CanBeTakenIn links.now (length table.old)) live.now }
@@ -75,8 +76,8 @@ pub(crate) fn keep_all<A: Allocator + Copy>(links: &[Link], live: &[LiveLink], t
     }
 }
 
-// Writes the new labels of all live links, and moves those that aren't quiet to the front, in order. It says how many
-// these are.
+// Writes the new labels of all live links, and moves those whose endpoints have different labels to the front, in
+// order. It returns how many these are.
 pub(crate) fn pack(live: &mut [LiveLink], labels: &[u32]) -> usize
     requires ends { All (λ l. IsVertex (length labels.now) l.low × IsVertex (length labels.now) l.high) live.old }
     ensures front { result ≤ length live.old }
@@ -93,7 +94,6 @@ pub(crate) fn pack(live: &mut [LiveLink], labels: &[u32]) -> usize
     kept
 }
 
-// Whether two links are parallel.
 #[inline]
 fn are_parallel(labels: &[u32], earlier: Link, link: Link) -> bool
     requires earlier { earlier.high ≤ length labels.now }
@@ -110,7 +110,8 @@ fn are_parallel(labels: &[u32], earlier: Link, link: Link) -> bool
     low == other_high && high == other_low
 }
 
-// Whether the next link is to be listed behind those that are: it isn't quiet, and the last of them doesn't outdo it.
+// Whether to list the link at `place`: its endpoints have different labels, and the last listed link isn't parallel to
+// it and no greater.
 #[inline]
 pub(crate) fn is_live(links: &[Link], labels: &[u32], live: &[LiveLink], place: usize) -> bool
     requires ends { EndsUpTo (length labels.now) links.now }
@@ -131,7 +132,7 @@ pub(crate) fn is_live(links: &[Link], labels: &[u32], live: &[LiveLink], place: 
     }
 }
 
-// The live links of a shard, by labels, in room for all of its links.
+// Lists the live links of a shard by labels. It allocates memory for all of its links.
 pub(crate) fn write_live<A: Allocator + Copy>(
     alloc: A,
     links: &[Link],

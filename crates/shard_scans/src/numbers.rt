@@ -1,9 +1,9 @@
-//! Numbers of a shard's own for the labels that its live links have.
+//! A shard's own numbers for the labels that its live links have.
 //!
-//! A shard among many has links to few of the vertices. A table of what is kept for each of their labels stays in a
-//! processor's cache where one of what is kept for each label of the graph doesn't. So the labels that live
-//! links have are marked, a bit each, and numbered in their order: the number of a label is one more than there are marked
-//! labels below it, which are counted a word of bits at a time.
+//! A shard among many has links to few of the vertices. A table with an entry for each of their labels fits a
+//! processor's cache, and one with an entry for each label of the graph doesn't. So the labels that live links have are
+//! marked with a bit each, and numbered in their order. The number of a label is one more than the number of marked
+//! labels below it. Those are counted one word of bits at a time.
 ghost use Rattle.std.specs.Prelude.{◌≡◌, ℕ, ◌+◌, ◌-◌, ◌*◌, ◌/◌, ◌^◌, ◌<◌, ◌≤◌, ◌↔◌, ◌⊎◌, [], length, map, All, slice_index, replicate, set, count_ones, OnOk};
 ghost use Rattle.links.specs.Labels.{AreLabels};
 ghost use Rattle.round_theory.specs.Labelling.{IsVertex};
@@ -14,7 +14,7 @@ use crate::live::LiveLink;
 use std::alloc::{AllocError, Allocator};
 use std::marker::Model;
 
-// A bit for each of 64 labels, set where it is marked, and how many labels are marked in the words before.
+// A bit for each of 64 labels, which is set if the label is marked, and how many labels are marked in the words before.
 #[derive(Clone, Copy)]
 pub(crate) struct MarkWord {
     pub(crate) marks: u64,
@@ -22,7 +22,7 @@ pub(crate) struct MarkWord {
 }
 
 impl MarkWord {
-    // How many labels of it are marked.
+    // How many of its labels are marked.
     #[inline]
     fn count(self) -> u32
         ensures ones { result ≡ count_ones self.marks }
@@ -49,7 +49,7 @@ impl<A: Allocator> Model for Numbers<A> {
 }
 
 impl<A: Allocator + Copy> Numbers<A> {
-    // No words. It takes no memory.
+    // No words. It allocates nothing.
     pub(crate) fn new(alloc: A) -> Self
         ensures { result ≡ [] }
     {
@@ -58,7 +58,7 @@ impl<A: Allocator + Copy> Numbers<A> {
         }
     }
 
-    // Marks none of so many labels.
+    // Makes space for this many labels, with none of them marked.
     pub(crate) fn clear(&mut self, labels: usize) -> Result<(), AllocError>
         requires few { labels ≤ 2 ^ 26 }
         ensures { OnOk result (self.new ≡ replicate (labels / 64 + 1) no_marks) }
@@ -71,7 +71,7 @@ impl<A: Allocator + Copy> Numbers<A> {
         self.words.resize(labels / 64 + 1, none)
     }
 
-    // Marks a label, where it may be marked already.
+    // Marks a label, which may be marked already.
     #[inline]
     pub(crate) fn mark(&mut self, label: u32)
         requires from_one { 1 ≤ label }
@@ -83,7 +83,7 @@ impl<A: Allocator + Copy> Numbers<A> {
         self.words[at / 64].marks |= 1 << (at % 64);
     }
 
-    // Counts the marks, so that labels have numbers.
+    // Counts the marks, so that labels have numbers, and returns how many are marked.
     pub(crate) fn count(&mut self) -> usize
         requires few { length self.old ≤ 2 ^ 21 }
         ensures words { length self.new ≡ length self.old }
@@ -99,7 +99,6 @@ impl<A: Allocator + Copy> Numbers<A> {
         total as usize
     }
 
-    // The number of a label.
     #[inline]
     pub(crate) fn number(&self, label: u32) -> u32
         requires from_one { 1 ≤ label }
@@ -112,8 +111,8 @@ impl<A: Allocator + Copy> Numbers<A> {
         word.before + (word.marks % (1 << (at % 64))).count_ones() + 1
     }
 
-    // The number of a marked label, which is written as its name. Mostly it stands there already, and is read alone: a write
-    // anywhere in the names holds up those behind it.
+    // Returns the number of a marked label, and stores the label as the name of that number. Usually the name is
+    // already stored and is only read, since a write anywhere in the names delays the reads after it.
     #[inline]
     fn name(&self, label: u32, names: &mut [u32]) -> u32
         requires counted { AreCounted self.now }
@@ -131,7 +130,7 @@ impl<A: Allocator + Copy> Numbers<A> {
     }
 }
 
-// Marks the labels that are written of all live links.
+// Marks the labels of all live links.
 pub(crate) fn mark_each<A: Allocator + Copy>(live: &[LiveLink], numbers: &mut Numbers<A>)
     requires ends { All (λ e. IsVertex (64 * length numbers.old) e.low × IsVertex (64 * length numbers.old) e.high) live.now }
     ensures words { length numbers.new ≡ length numbers.old }
@@ -143,7 +142,7 @@ pub(crate) fn mark_each<A: Allocator + Copy>(live: &[LiveLink], numbers: &mut Nu
     }
 }
 
-// Writes the numbers of the labels of links in place of the labels, and the names of these numbers.
+// Replaces the labels of links by their numbers, and stores the names of these numbers.
 pub(crate) fn number_each<A: Allocator + Copy>(
     numbers: &Numbers<A>,
     names: &mut [u32],
@@ -167,7 +166,7 @@ pub(crate) fn number_each<A: Allocator + Copy>(
     }
 }
 
-// The label of a name, as of a vertex; label 1 where there is no such vertex.
+// The label of a name as a vertex, or 1 if there is no such vertex.
 #[inline]
 fn new_name(labels: &[u32], name: u32) -> u32
     ensures { result ≡ new_name labels.now name }
@@ -178,7 +177,6 @@ fn new_name(labels: &[u32], name: u32) -> u32
     }
 }
 
-// Marks the labels of all names.
 pub(crate) fn mark_names<A: Allocator + Copy>(
     names: &[u32],
     labels: &[u32],
@@ -194,7 +192,7 @@ pub(crate) fn mark_names<A: Allocator + Copy>(
     }
 }
 
-// Writes, for each name, the number of its label, and the names of these numbers.
+// Writes the number of each name's new label, and stores the names of these numbers.
 pub(crate) fn number_names<A: Allocator + Copy>(
     old: &[u32],
     labels: &[u32],

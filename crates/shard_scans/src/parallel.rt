@@ -1,4 +1,4 @@
-//! A pass over a shard's links in threads, each over a part with a table of its own.
+//! Scans a shard's links by threads, each over a part with a table of its own.
 ghost use Rattle.std.specs.Prelude.{◌≡◌, ◌<◌, ◌≤◌, length, IfOk};
 ghost use denote.Param.Send.{IsSync, IsSend, Frees};
 ghost use Rattle.shard_scans.specs.Scanning.{AreBest};
@@ -13,11 +13,11 @@ use rayon::{current_num_threads, join};
 use std::alloc::{AllocError, Allocator};
 use std::thread::Threads;
 
-// So few links are worth no thread of their own.
+// Fewer links than this aren't worth another thread.
 pub(crate) const FEW_LINKS: usize = 1 << 17;
 
-// How often the links to be scanned are halved: as often as there are processors for, while a part has as many links as a
-// table of its own has labels.
+// How often to halve the links of a scan: so that there is a part per processor, as long as a part has at least as many
+// links as its table has labels.
 pub(crate) fn halvings_of<R: Threads>(rt: &R, count: usize, labels: usize) -> usize {
     let most = count / labels.max(1);
     if count < FEW_LINKS || most < 2 {
@@ -27,8 +27,8 @@ pub(crate) fn halvings_of<R: Threads>(rt: &R, count: usize, labels: usize) -> us
     parts.ilog2() as usize
 }
 
-// What a table keeps for a part of the links to be scanned. It is halved so many times, or until a half has few links, and
-// one half goes to a thread of its own where one can be made.
+// Returns the table of a part. The part is halved `halvings` times, or until a half has few links. One half goes to
+// another thread if one can be started.
 #[cycle(halves)]
 pub(crate) fn best_between<R: Threads + Sync, A: Allocator + Copy + Send + Sync>(
     rt: &R,
@@ -68,7 +68,7 @@ pub(crate) fn best_between<R: Threads + Sync, A: Allocator + Copy + Send + Sync>
     Ok(table)
 }
 
-// The same in one thread.
+// Scans a part in this thread.
 fn best_alone<A: Allocator + Copy>(
     alloc: A,
     scanned: Scanned,
@@ -93,7 +93,7 @@ fn best_alone<A: Allocator + Copy>(
     Ok(table)
 }
 
-// Takes what was kept for the second of two parts into a table of the first. Of equal links the earlier one stays.
+// Merges the table of the second of two parts into that of the first. If two links are equal, the earlier one stays.
 fn merge<A: Allocator + Copy>(
     scanned: Scanned,
     first: Part,

@@ -3,14 +3,14 @@ ghost use Rattle.std.specs.Prelude.{◌≤◌};
 
 use links::Link;
 
-// A shard's links that are to be scanned under labels.
+// A shard's links, and the labels under which they are scanned.
 #[derive(Clone, Copy)]
 pub(crate) struct Scanned<'a> {
     pub(crate) links: &'a [Link],
     pub(crate) labels: &'a [u32],
 }
 
-// Of the links to be scanned those from one on before another.
+// The links from index `from` to before index `to`.
 #[derive(Clone, Copy)]
 pub(crate) struct Part {
     pub(crate) from: usize,

@@ -1,4 +1,4 @@
-//! The light offers of a shard, in one pass over its links.
+//! Finds the light offers of a shard in one pass over its links.
 ghost use Rattle.std.specs.Prelude.{◌≡◌, ◌≤◌, length, Some, IfOk};
 ghost use Rattle.links.specs.Link.{EndsUpTo};
 ghost use Rattle.round_theory.specs.Offers.{AreLightOffers};
@@ -18,26 +18,26 @@ use links::{Labels, Link, Offers};
 use std::alloc::{AllocError, Allocator, Global};
 use std::thread::Threads;
 
-// What a table keeps for a label: of the links so far that leave it, a short key of the least one's weight, and the first
-// place where that link stands. Most comparisons need the keys alone, and so no look at a link anywhere in the list.
+// A table's entry for a label: a short key of the weight of the least link so far that leaves the label, and the first
+// index of that link. Most comparisons need only the keys, and so read no link.
 #[derive(Clone, Copy)]
 pub(crate) struct Best {
     pub(crate) key: i32,
     pub(crate) place: u32,
 }
 
-// The key and the place of no link: no key is greater, and no shard has so many links.
+// The key and the index of no link: no key is greater, and no shard has so many links.
 pub(crate) const NO_KEY: i32 = i32::MAX;
 
 pub(crate) const NO_PLACE: u32 = u32::MAX;
 
-/// The light offers of a shard's links under the labels: for each label that has a link with exactly one end under
-/// it, the least such link, by the first place where it stands.
+/// Returns the light offers of a shard's links under the labels. For each label with a link of which exactly one
+/// endpoint has it, that is the least such link, by the first index at which it is.
 ///
-/// It lists the links that leave a label, and numbers the labels that they leave. For m such links of n vertices it takes
-/// O(m + n) time, 12 bytes for each link of the shard, 12 for each of these labels, and a quarter of a byte a vertex. An offer
-/// takes 8 bytes, in a list that doubles as it grows: at most 24 while it moves. For scan after scan a [`Scanner`] keeps what
-/// is as long as there are labels. The only error is want of memory.
+/// It lists the links that leave a label, and numbers the labels that they leave. With m such links and n vertices, it
+/// takes O(m + n) time. It takes 12 bytes per link of the shard, 12 per numbered label, and a quarter of a byte per
+/// vertex. An offer takes 8 bytes in a list that doubles as it grows, and up to 24 while the list moves. To reuse what
+/// grows with the number of labels, call a [`Scanner`]. It fails only if it is out of memory.
 pub fn scan<A: Allocator + Copy, B: Allocator>(
     alloc: A,
     links: &[Link],
@@ -50,12 +50,13 @@ pub fn scan<A: Allocator + Copy, B: Allocator>(
     Scanner::new(alloc).scan(links, labels)
 }
 
-/// The same offers as [`scan`] gives, by threads: the links are halved, at most as often as there are processors for, each
-/// part is scanned over a table of its own, and the tables are taken together.
+/// Returns the same offers as [`scan`], by threads. The links are halved, at most as often as there are processors for.
+/// Each part is scanned over a table of its own, and the tables are merged.
 ///
-/// For m links of n vertices in p parts O(m / p + n p) time, and 8 bytes a vertex for each part's table, beside the offers.
-/// A part has at least as many links as there are vertices. Fewer than 131,072 links, or a list for which no thread can be made, are scanned by
-/// the caller's. The only error is want of memory.
+/// With m links, n vertices and p parts, it takes O(m / p + n p) time. In addition to the offers, it takes 8 bytes per
+/// vertex for each part's table. A part has at least as many links as there are vertices. Fewer than 131,072 links are
+/// scanned by the caller's thread, and so is a list for which no thread can be started. It fails only if it is out of
+/// memory.
 pub fn scan_par<R: Threads + Sync, A: Allocator + Copy + Send + Sync, B: Allocator>(
     rt: &R,
     alloc: A,
@@ -69,8 +70,8 @@ pub fn scan_par<R: Threads + Sync, A: Allocator + Copy + Send + Sync, B: Allocat
     Scanner::new(alloc).scan_par(rt, links, labels)
 }
 
-/// Scans one shard after another, each in the room of the one before, so that only the first one, or one of more labels,
-/// asks for memory for it; a scan by threads makes a table for each part.
+/// Scans one shard after another and reuses the memory for the tables. Only the first scan, or one with more labels
+/// than before, allocates memory for them; a scan by threads allocates a table for each part.
 #[derive(Drop)]
 pub struct Scanner<A: Allocator = Global> {
     table: Table<A>,
@@ -78,7 +79,7 @@ pub struct Scanner<A: Allocator = Global> {
 }
 
 impl<A: Allocator + Copy> Scanner<A> {
-    /// A scanner that has scanned nothing. It takes no memory.
+    /// A scanner that has scanned nothing. It allocates nothing.
     pub fn new(alloc: A) -> Self {
         Scanner {
             table: Table::new(alloc),
@@ -86,8 +87,8 @@ impl<A: Allocator + Copy> Scanner<A> {
         }
     }
 
-    /// The light offers of a shard's links under the labels, as [`scan`] gives them, whatever was scanned before. The only
-    /// error is want of memory, and a scanner goes on after it as before.
+    /// Returns the offers that the function [`scan`] returns, whatever was scanned before. It fails only if it is out
+    /// of memory, and the scanner can still be used then.
     pub fn scan<B: Allocator>(
         &mut self,
         links: &[Link],
@@ -101,7 +102,8 @@ impl<A: Allocator + Copy> Scanner<A> {
         Ok(offers)
     }
 
-    // The same offers, and the live links, which are listed first, so that the labels of ends are looked up once.
+    // Returns the same offers and the live links. The live links are listed first, so the labels of endpoints are
+    // looked up once.
     pub(crate) fn scan_and_list<B: Allocator>(
         &mut self,
         links: &[Link],
@@ -122,7 +124,8 @@ impl<A: Allocator + Copy> Scanner<A> {
         Ok((offers, listed))
     }
 
-    // The same offers, by the live links alone, of which those that are quiet under the labels are laid aside.
+    // Returns the same offers, found among the listed links alone. Those that are inside a component under the labels
+    // are removed from the list.
     pub(crate) fn scan_listed<B: Allocator>(
         &mut self,
         links: &[Link],
@@ -145,8 +148,8 @@ impl<A: Allocator + Copy> Scanner<A> {
 }
 
 impl<A: Allocator + Copy + Send + Sync> Scanner<A> {
-    /// The same offers as [`scan`](Scanner::scan) gives, by threads, as [`scan_par`] has it. The only error is want of
-    /// memory, and a scanner goes on after it as before.
+    /// Returns the same offers as [`scan`](Scanner::scan), by threads, as the function [`scan_par`] does. It fails only
+    /// if it is out of memory, and the scanner can still be used then.
     pub fn scan_par<'a, R: Threads + Sync, B: Allocator>(
         &mut self,
         rt: &R,
@@ -174,8 +177,8 @@ impl<A: Allocator + Copy + Send + Sync> Scanner<A> {
     }
 }
 
-// Takes the next link into the table by the labels that are written of its ends: where they differ it leaves both, and else
-// none.
+// Takes the next link into the table by the labels of its endpoints. It leaves both labels if they differ, and
+// otherwise none.
 #[inline]
 pub(crate) fn keep_next<A: Allocator + Copy>(links: &[Link], next: LiveLink, table: &mut Table<A>)
     requires few_links { length links.now ≤ MAX_SHARD_LINKS }
@@ -191,9 +194,12 @@ pub(crate) fn keep_next<A: Allocator + Copy>(links: &[Link], next: LiveLink, tab
     table.keep(next.high as usize - 1, links, best);
 }
 
-// A key of 32 bits: the weight cut off at 2^30 either way, plus its 2^33rd part rounded down. A greater weight has no lesser
-// key, and where two keys are equal the links decide: so it is no order of its own. Weights within 2^30 of zero, and farther
-// out those 2^33 apart, are parted by their keys, with no look at the links. A label takes 8 bytes so, and 32 with a wide key.
+// Returns a key of 32 bits: the weight limited to between -2^30 and 2^30, plus the weight divided by 2^33, rounded
+// down.
+//
+// A greater weight has no lesser key. If two keys are equal, the links themselves are compared, so a key is only a
+// shortcut. The keys distinguish weights within 2^30 of zero, and beyond that weights that are 2^33 apart. With them an
+// entry takes 8 bytes per label, and it would take 32 with a wide key.
 #[inline]
 pub(crate) fn short_key(weight: i64) -> i32
     ensures { result ≡ short_key weight }
@@ -202,8 +208,8 @@ pub(crate) fn short_key(weight: i64) -> i32
     (near + (weight >> 33)) as i32
 }
 
-// Keeps the next link where it is less than the best one so far, or the first one. Mostly it is neither, and then
-// nothing is stored.
+// Stores the next link if it is less than the best one so far, or the first one. Usually it is neither, and nothing is
+// stored.
 #[inline]
 pub(crate) fn keep_lesser(best: &mut Best, links: &[Link], next: Best)
     requires few_links { length links.now ≤ MAX_SHARD_LINKS }

@@ -1,4 +1,4 @@
-//! What a scan keeps for each label.
+//! The best link so far for each label.
 ghost use Rattle.std.specs.Prelude.{◌≡◌, ◌+◌, ◌^◌, ◌<◌, ◌≤◌, [], length, replicate, Some, IfOk, OnOk};
 ghost use Rattle.limits.specs.declared.TheConstants.{MAX_SHARD_LINKS};
 ghost use Rattle.shard_scans.specs.Scanning.{no_best, SaysBest};
@@ -9,7 +9,7 @@ use links::Link;
 use std::alloc::{AllocError, Allocator};
 use std::marker::Model;
 
-// What is kept for each label, or for the number of each. Contracts see what is kept.
+// An entry for each label, or for the number of each. Contracts see the entries.
 #[derive(Drop)]
 pub(crate) struct Table<A: Allocator> {
     bests: Vec<Best, A>,
@@ -25,7 +25,7 @@ impl<A: Allocator> Model for Table<A> {
 }
 
 impl<A: Allocator + Copy> Table<A> {
-    // A table of no labels. It takes no memory.
+    // A table of no labels. It allocates nothing.
     pub(crate) fn new(alloc: A) -> Self
         ensures { result ≡ [] }
     {
@@ -34,7 +34,7 @@ impl<A: Allocator + Copy> Table<A> {
         }
     }
 
-    // Keeps nothing for each of so many labels.
+    // Makes empty entries for this many labels.
     pub(crate) fn clear(&mut self, labels: usize) -> Result<(), AllocError>
         ensures none_yet { OnOk result (self.new ≡ replicate labels no_best) }
     {
@@ -50,14 +50,13 @@ impl<A: Allocator + Copy> Table<A> {
         *self.bests.allocator()
     }
 
-    // What is kept for each label.
     pub(crate) fn bests(&self) -> &[Best]
         ensures { result.now ≡ self.now }
     {
         self.bests.as_slice()
     }
 
-    // Keeps the next link for a label, where it is less than what is kept for it. So many labels stand before this one.
+    // Stores the next link for a label if it is less than the one stored there. `before` is one less than the label.
     #[inline]
     pub(crate) fn keep(&mut self, before: usize, links: &[Link], next: Best)
         requires few_links { length links.now ≤ MAX_SHARD_LINKS }
@@ -68,7 +67,7 @@ impl<A: Allocator + Copy> Table<A> {
         keep_lesser(&mut self.bests[before], links, next);
     }
 
-    // The labels that have a best place, each with it, in ascending order.
+    // Returns the labels that have a best link, each with that link's index, in ascending order.
     pub(crate) fn gather(&self) -> Result<Vec<(u32, u32), A>, AllocError>
         requires few { length self.now < 2 ^ 32 }
         ensures places { IfOk result (λ pairs. ArePlacesBelow self.now (length self.now + 1) pairs.items) }

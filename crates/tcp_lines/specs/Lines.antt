@@ -8,7 +8,6 @@ pub record TcpLineState : Type 0 where
   pub failures : ℕ
   pub ends : ℕ
 
--- a line before its first call
 abbrev pub unused : TcpLineState
 unused = record { failures = 0; ends = 0 }
 
@@ -16,6 +15,6 @@ unused = record { failures = 0; ends = 0 }
 abbrev pub line_of : TcpLineState → LineState
 line_of line = record { sent = None; got = None; failures = line.failures; ends = line.ends }
 
--- as a line, which no contract knows to be faithful
+-- the same as a line, which no contract knows to be faithful
 abbrev pub tcp_line : Line.Ghosts TcpLineState
 tcp_line = record { state = line_of; faithful = λ line worker. ⊥ }

@@ -9,9 +9,9 @@ use std::marker::Model;
 use std::net::{Shutdown, TcpStream};
 use wires::{Line, LineFault};
 
-/// A line over a TCP connection, which it owns, and shuts down and closes where it is dropped.
+/// A line over a TCP connection, which it owns. It shuts the connection down and closes it when it is dropped.
 ///
-/// It takes no memory. A call that finds the connection broken fails, and so does an interrupted one.
+/// It allocates nothing. A call fails if the connection is broken, and also if it is interrupted.
 pub struct TcpLine {
     stream: TcpStream,
     failures: u64,
@@ -19,8 +19,8 @@ pub struct TcpLine {
 }
 
 impl Drop for TcpLine {
-    // It is shut down first, so that a reader at the far end meets the end of the stream, even where the `close` that
-    // follows fails and leaves the socket open.
+    // Shuts the connection down first, so that a reader at the far end reaches the end of the stream. This holds even
+    // if the `close` that follows fails and leaves the socket open.
     fn drop(self) {
         let TcpLine {
             stream,
@@ -31,7 +31,7 @@ impl Drop for TcpLine {
     }
 }
 
-// Both directions of a connection end here. One that is broken already can't be shut down, and needn't.
+// Ends both directions of a connection. If it is already broken, this fails, and needn't be done.
 pub(crate) fn shut_down(stream: &TcpStream) {
     let _ended = stream.shutdown(Shutdown::Both);
 }
@@ -47,8 +47,8 @@ impl Model for TcpLine {
 impl TcpLine {
     /// A line over this connection.
     ///
-    /// The stream should send small segments at once (`set_nodelay`): a frame goes out while the other end may
-    /// still owe the receipt of the one before it.
+    /// The stream should send small segments at once (`set_nodelay`), since a frame is sent while the other end may not
+    /// have acknowledged the one before it.
     pub fn new(stream: TcpStream) -> Self
         ensures { result ≡ unused }
     {
@@ -65,7 +65,7 @@ impl Line for TcpLine {
 
     ghost faithful = { λ _ _. ⊥ };
 
-    // The first write has the whole of `bytes`; others follow while bytes are left.
+    // The first write gets all of `bytes`; others follow while bytes are left.
     fn put(&mut self, bytes: &[u8]) -> Result<(), LineFault> {
         match put(&mut Uncounted(&self.stream), bytes) {
             Ok(()) => Ok(()),

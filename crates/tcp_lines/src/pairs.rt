@@ -1,4 +1,4 @@
-//! Two ends of a connection.
+//! Makes the two ends of a connection.
 ghost use Rattle.std.specs.Prelude.{◌≡◌, IfOk, IfSome};
 ghost use Rattle.tcp_lines.specs.Lines.{unused};
 
@@ -7,30 +7,31 @@ use std::net::{Ipv4Addr, Net, TcpListener, TcpStream};
 use std::time::Duration;
 use thiserror::Error;
 
-// A listener of this machine answers at once, unless strangers have filled its queue: then waiting longer seldom helps.
+// A listener on this machine accepts at once, unless strangers have filled its queue, and then it seldom helps to wait
+// longer.
 const PATIENCE_SECONDS: u64 = 1;
 
 // How often a pair is tried again after a stranger.
 const MORE_TRIES: u32 = 4;
 
-/// Why there is no pair.
+/// Why a pair couldn't be made.
 #[derive(Clone, Copy, Debug, PartialEq, Eq, Error)]
 pub enum PairFault {
-    /// The listener couldn't be connected to within a second, or the connection not be set up.
+    /// No connection to the listener was made within a second, or it couldn't be set up.
     #[error("cannot connect")]
     NoConnect,
-    /// No connection could be accepted, or it not be set up.
+    /// No connection could be accepted, or it couldn't be set up.
     #[error("cannot accept")]
     NoAccept,
-    /// The connection that was accepted isn't the one just made: somebody else connected before. The one just made is
-    /// still due to be accepted, though closed, so each later pair of this listener is likely to find a stranger too.
+    /// The accepted connection isn't the one just made: somebody else connected before. The one just made is closed but
+    /// still in the listener's queue, so each later pair of this listener is likely to find a stranger too.
     #[error("a stranger connected")]
     Stranger,
 }
 
-/// Connects to the listener and accepts: a line over the near end, and the stream at the far end.
+/// Connects to the listener and accepts. It returns a line over the near end, and the stream at the far end.
 ///
-/// Both ends send small segments at once. It takes no memory.
+/// Both ends send small segments at once. It allocates nothing.
 pub fn pair<R: Net<Listener = TcpListener, Stream = TcpStream>>(
     rt: &R,
     listener: &TcpListener,
@@ -52,12 +53,11 @@ pub fn pair<R: Net<Listener = TcpListener, Stream = TcpStream>>(
     Ok((TcpLine::new(near), far))
 }
 
-/// A pair over a listener of its own on the loopback address, at a port that the system picks; none where it can't be
-/// made.
+/// Makes a pair over a listener of its own, on the loopback address at a port that the system picks, or returns `None`.
 ///
-/// The listener is open from just before the connect until the pair is made, so that others have little time to find
-/// it or to fill its queue. Where a stranger connected before, it tries again over a new listener, up to four times.
-/// Any other fault would most likely come again, and ends it. Each try takes about a second at most.
+/// The listener is open from just before it is connected to until the pair is made, so others have little time to find
+/// it or to fill its queue. After a stranger, it tries again with a new listener, up to four times. It doesn't try
+/// again after another error, which would probably recur. Each try takes about a second at most.
 pub fn own_pair<R: Net<Listener = TcpListener, Stream = TcpStream>>(
     rt: &R,
 ) -> Option<(TcpLine, TcpStream)>

@@ -13,7 +13,7 @@ use std::net::{Net, TcpListener, TcpStream};
 use std::thread::{self, JoinHandle, Threads};
 use worker_engine::serve;
 
-/// The threads of workers. Join them once their lines are dropped.
+/// The threads of workers. Join them after their lines are dropped.
 #[derive(Drop)]
 pub struct Workers {
     threads: Vec<JoinHandle<()>>,
@@ -28,12 +28,12 @@ impl Model for Workers {
 }
 
 impl Workers {
-    /// Starts workers in threads of their own, at most `count`, and gives the lines to them: the line at each
-    /// place is to the worker of that number.
+    /// Starts at most `count` workers in threads of their own, and returns the lines to them. The line at each index is
+    /// to the worker of that number.
     ///
-    /// The connection of each is made by [`own_pair`]. A worker whose connection can't be made, or whose thread can't be
-    /// started, is left out. An error is want of memory for the two lists, and comes before anything is started. A
-    /// worker's shards take memory of `Global`.
+    /// [`own_pair`] makes each connection. A worker is left out if its connection can't be made or its thread can't be
+    /// started. The call fails only if there is no memory for the two lists, before it starts anything. A worker's
+    /// shards take memory of `Global`.
     pub fn start<R>(
         rt: &R,
         alloc: Global,
@@ -43,7 +43,7 @@ impl Workers {
         R: Threads + Net<Listener = TcpListener, Stream = TcpStream> + Sync + Copy + Send + 'static,
         requires { count ≤ MAX_WORKERS }
 
-        // As many lines as threads, and no more than were asked for. Nothing went over any of them.
+        // There are as many lines as threads, and no more than requested. No line was used.
         ensures few { IfOk result (λ started. length started.0.items ≤ count) }
         ensures unused { IfOk result (λ started. All (λ line. line ≡ unused) started.0.items) }
         ensures threads { IfOk result (λ started. started.1 ≡ length started.0.items) }
@@ -61,7 +61,7 @@ impl Workers {
         Ok((lines, Workers { threads }))
     }
 
-    /// Waits until each of the threads has ended, which it does once its line is dropped.
+    /// Waits until all threads have ended. Each does after its line is dropped.
     pub fn join<R: Threads>(self, rt: &R) {
         let Workers { threads } = self;
         for thread in threads {
@@ -70,7 +70,7 @@ impl Workers {
     }
 }
 
-// A thread that serves the stream as the worker of this number, and shuts it down and closes it at the end.
+// Starts a thread that serves the stream as the worker of this number, and then shuts it down and closes it.
 fn start_one<R: Threads + Sync + Copy + Send + 'static>(
     rt: &R,
     alloc: Global,

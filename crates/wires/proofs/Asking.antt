@@ -1,4 +1,4 @@
--- What was said and heard so far, ask by ask, and what a faithful line answers.
+-- What was sent and got so far, ask by ask, and what a faithful line gets.
 use Rattle.std.proofs.Common.{◌≡◌, ◌≢◌, ℕ, ◌<◌, List, [], ◌∷◌, ◌++◌, length, drop, Some, refl, sym, ap, subst, ◌∙◌, append_assoc, append-nil, ⊎_elim, inl, inr, arith, eq-eqb, ne_eqb, le-leb}
 use Rattle.std.specs.Prelude.{◌+◌, ◌≤◌, nat_le, cond, Option, None, IfSome, MatchOption, Bool, true, ◌||◌, if◌then◌else◌, map}
 use Rattle.std.proofs.lemmas.Bool.{cases_eq}
@@ -92,14 +92,14 @@ follows-append shelf (HelloFrame v w ∷ fs) gs before behind = follows-append s
 follows-append shelf (AnswerFrame a ∷ fs) gs before behind = follows-append shelf fs gs before behind
 follows-append shelf (FaultFrame r k c ∷ fs) gs before behind = follows-append shelf fs gs before behind
 
--- what an ask puts has its shard before it, unless that was on the shelf
+-- an ask puts its shard before it, unless that was on the shelf
 follows_put : (sent : Bool) (shelf : Shelf) (shard : ℕ) (links : List Link) (round : ℕ) (labels : List ℕ) → shelf shard ≡ (if sent then Some links else None)
     → FollowTheirShards shelf (shard_due sent shard links ++ AskFrame round shard labels ∷ [])
 follows_put a1 a2 a3 a4 a5 a6 a7 = search (arith, eq-eqb)
 
 -- ---- what was got
 
--- behind what was got before, the hello comes before any other bytes
+-- after what was got before, the hello comes before any other bytes
 got_more : (heard : Option ℕ) (version worker : ℕ) (answers : List AnswerValue) (bytes : List ℕ) → ((v : ℕ) → heard ≡ Some v → v ≡ version) → (heard ≡ None → answers ≡ [])
     → texts_of (frames_got heard worker answers) ++ (hello_due heard version worker ++ bytes) ≡ texts_of (HelloFrame version worker ∷ map AnswerFrame answers) ++ bytes
 got_more a1 a2 a3 a4 a5 a6 a7 = search (arith, append-nil)
@@ -116,11 +116,11 @@ got_answer version worker answers a =
 
 -- ---- what the worker's version has
 
--- what was put before is of this version too: before the hello nothing was
+-- what was put before is of this version too, since nothing was put before the hello
 had_before : (heard : Option ℕ) (version : ℕ) (said : List FrameValue) → ((v : ℕ) → heard ≡ Some v → v ≡ version) → MatchOption heard (said ≡ []) (λ v. HasFrames v said) → HasFrames version said
 had_before a1 a2 a3 a4 a5 = search arith
 
--- a version that has all frames hears all
+-- a worker whose version has all frames reads all of them
 all_heard : (version : ℕ) (frames : List FrameValue) → HasFrames version frames → heard_by version frames ≡ frames
 all_heard version [] has = refl
 all_heard version (v ∷ frames) has =
@@ -146,7 +146,7 @@ module _ {L : Type 0} (state : L → LineState) (round shard : ℕ) (labels : Li
   brought : Transfers 0 0 (texts_of (frames_put (seen_client state old) round shard labels)) (hello_due old.version version old.worker ++ text_of (AnswerFrame a)) (state old.line) (state new.line)
   brought = all_brought state round shard labels (text_of (AnswerFrame a)) old new asked.brought
 
-  -- the answer is added at the end of those given
+  -- the answer is appended to those before
   pub gave_more : (answers : List AnswerValue) → HasGiven (seen_client state old) answers → HasGiven (seen_client state new) (answers ++ a ∷ [])
   gave_more answers given =
       let got : (state new.line).got ≡ Some (texts_of (frames_got (Some version) old.worker (answers ++ a ∷ []))) =
@@ -163,7 +163,7 @@ module _ {L : Type 0} (state : L → LineState) (round shard : ℕ) (labels : Li
   answers_then : (exchanges : List Exchange) → answers_of (exchanges ++ exchange_of round shard labels a ∷ []) ≡ answers_of exchanges ++ a ∷ []
   answers_then exchanges = map-append (λ (e : Exchange). e.answer) exchanges (exchange_of round shard labels a ∷ [])
 
-  -- and so with its ask behind the exchanges before
+  -- and the exchange is appended to those before
   pub exchanged_more : (exchanges : List Exchange) → HasGiven (seen_client state old) (answers_of exchanges)
       → HasGiven (seen_client state new) (answers_of (exchanges ++ exchange_of round shard labels a ∷ []))
   exchanged_more exchanges given = subst (HasGiven (seen_client state new)) (sym (answers_then exchanges)) (gave_more (answers_of exchanges) given)
@@ -177,7 +177,7 @@ module _ {L : Type 0} (state : L → LineState) (round shard : ℕ) (labels : Li
       once_step : (s : ℕ) → times_sent s (said ++ frames_put (seen_client state old) round shard labels) ≡ (if has_shard new.sent s then 1 else 0)
       once_step s = search (arith, times-append, eq-eqb, ne_eqb, cases_eq)
 
-      -- a shard that was sent by now is the one that is asked, or was sent before
+      -- a shard that has been sent is the one that is asked about, or was sent before
       needed_step : (s : ℕ) → has_shard new.sent s ≡ true → IsAskedIn (exchanges ++ exchange_of round shard labels a ∷ []) s
       needed_step s there =
           let exchange : Exchange = exchange_of round shard labels a in
@@ -214,7 +214,7 @@ module _ {L : Type 0} (state : L → LineState) (round shard : ℕ) (labels : Li
                 (sym asked.cut) shelves_step;
           }
 
--- ---- what a faithful line answers
+-- ---- what a faithful line gets
 
 same_version : (v w worker : ℕ) (fs gs : List FrameValue) → HelloFrame v worker ∷ fs ≡ HelloFrame w worker ∷ gs → v ≡ w
 same_version v w worker fs gs same = cc
@@ -231,7 +231,7 @@ module _ {L : Type 0} (state : L → LineState) (round shard : ℕ) (labels : Li
   hello_is : (version : ℕ) → IsVersion version → IsLawful (HelloFrame version before.worker)
   hello_is version known = record { version = known; worker = below }
 
-  -- what came behind the hello and the answers before begins the texts of the replies that are left
+  -- what came after the hello and the answers so far begins the texts of the replies that are left
   record Left (bytes : List ℕ) : Type 0 where
     pub left : List FrameValue
     pub rest : List ℕ
@@ -270,7 +270,7 @@ module _ {L : Type 0} (state : L → LineState) (round shard : ℕ) (labels : Li
             (subst (AreReplies empty_shelf (heard_by served serves.frames)) replies serves.answered);
       }
 
-  -- what came first begins with the hello
+  -- the first bytes that came begin with the hello
   first_of : (bytes : List ℕ) → before.version ≡ None → Receives bytes before.line after.line
       → (version : ℕ) × (rest : List ℕ) × (replies : List FrameValue) × (bytes ++ rest ≡ texts_of (HelloFrame version before.worker ∷ replies)) × AreLawful (HelloFrame version before.worker ∷ replies)
   first_of bytes quiet came =
@@ -281,7 +281,7 @@ module _ {L : Type 0} (state : L → LineState) (round shard : ℕ) (labels : Li
       (served, rest, serves.replies, serves.written, (hello_is served serves.known, served_lawful served before.worker (texts_of said ++ []) (bytes ++ rest) serves))
 
   module _ (in_cut : shard < length before.cut) (is : IsShard shard (links_at before.cut shard)) (ask : IsAsk round shard labels) where
-    -- a frame that came in place of a reply is the worker's reply to this ask
+    -- a frame that came instead of a reply is the worker's reply to this ask
     reply_of : (v : FrameValue) → IsLawful v → Brings state round shard labels (text_of v) old new → MayReply (Some (links_at before.cut shard)) round shard labels v
     reply_of v lawful brought =
         let links : List Link = links_at before.cut shard in
@@ -309,14 +309,14 @@ module _ {L : Type 0} (state : L → LineState) (round shard : ℕ) (labels : Li
       | inr want ↦ cc
     ]
 
-    -- what may be replied to an ask of a shard that is kept is an answer or a fault
+    -- what may be replied to an ask about a stored shard is an answer or a fault
     no_reply : (v : FrameValue) → IsNoReply v → MayReply (Some (links_at before.cut shard)) round shard labels v → ⊥
     no_reply a1 a2 a3 = search arith
 
     code_of : (r s r' s' c c' : ℕ) → FaultFrame r s c ≡ FaultFrame r' s' c' → c ≡ c'
     code_of r s r' s' c c' same = cc
 
-    -- a fault is nobody's blame
+    -- nobody is to blame for the error
     pub blameless : (fault : PortFault) → EndsUpTo (length labels) (links_at before.cut shard) → Cause state fault round shard labels old new → IsBlameless fault
     blameless Down ends cause = tt
     blameless Memory ends cause = tt

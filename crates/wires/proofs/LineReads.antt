@@ -1,4 +1,4 @@
--- What reads of a line say, as facts on the line.
+-- What reads of a line say, as facts about the line.
 use Rattle.std.proofs.Common.{◌≡◌, [], arith}
 use Rattle.std.specs.Prelude.{Result, IfOk, IfErr}
 use Rattle.std.specs.Io.KnownBytes.{Appends}

@@ -18,17 +18,16 @@ use Rattle.wires.specs.Causes.{Receives, SendingFault, AnswerFault, Cause, InRep
 use Rattle.std.proofs.lemmas.List.Elements.{All-nil, All-cons, All-append}
 use Rattle.wires.proofs.Going.{went_then, then_failed}
 
--- the hello came by now
 pub hello_came : (version : ℕ) (before after : Option ℕ) → IsVersion version → after ≡ Some version → ((v : ℕ) → before ≡ Some v → v ≡ version) → HelloCame version before after
 hello_came version before after known heard stays = record { known = known; heard = heard; stays = stays }
 
--- what an ask puts is what its version has, if that is so of the shard
+-- the version has what an ask puts, if it has the shard's frame
 has_put : (version : ℕ) (due : List FrameValue) (round shard : ℕ) (labels : List ℕ) → IsVersion version → HasFrames version due → HasFrames version (due ++ AskFrame round shard labels ∷ [])
 has_put version due round shard labels known has =
     let fits : FrameValue → Type 0 = λ v. version_of v ≤ version in
     All-append fits due (AskFrame round shard labels ∷ []) has (All-cons fits (AskFrame round shard labels) [] known.from_first (All-nil fits))
 
--- what is due of a shard, and that under another name for it and for its links
+-- what is due of a shard, also under another name for it and for its links
 abbrev due_of : {L : Type 0} → ClientState L → ℕ → List FrameValue
 due_of before shard = shard_due (has_shard before.sent shard) shard (links_at before.cut shard)
 
@@ -36,7 +35,7 @@ due_is : {L : Type 0} (before : ClientState L) (shard number : ℕ) (links : Lis
     → shard_due (has_shard before.sent number) number links ≡ due_of before shard
 due_is before shard number links same same' = search arith
 
--- the hello came, the shard and the ask were sent
+-- the hello came, and the shard and the ask were sent
 module _ {L : Type 0} (state : L → LineState) (round shard : ℕ) (labels : List ℕ) (version : ℕ) (before : ClientState L) where
   pub asked_so_far : (number : ℕ) (links : List Link) (r1 r2 : LineState) (r3 : L) → number ≡ shard → links ≡ links_at before.cut shard
       → Receives (hello_due before.version version before.worker) (state before.line) r1 → IsVersion version → HasFrames version (shard_due (has_shard before.sent number) number links)
@@ -57,7 +56,7 @@ module _ {L : Type 0} (state : L → LineState) (round shard : ℕ) (labels : Li
         has = has_put version due round shard labels known (subst (HasFrames version) is has);
       }
 
--- the ask itself wasn't sent, behind the hello and the shard
+-- the ask itself wasn't sent, after the hello and the shard
 module _ {L : Type 0} (state : L → LineState) (round shard : ℕ) (labels : List ℕ) (version : ℕ) (before after : ClientState L) where
   unsent_of : (r : LineState) (e : PortFault) → HelloCame version before.version after.version
       → Transfers 0 0 (texts_of (shard_due (has_shard before.sent shard) shard (links_at before.cut shard))) (hello_due before.version version before.worker) (state before.line) r
@@ -70,7 +69,7 @@ module _ {L : Type 0} (state : L → LineState) (round shard : ℕ) (labels : Li
       → SendingFault e r2 (state after.line) → Cause state e round shard labels before after
   unsent_ask number links r1 r2 e same same' first greeted has second fault = search (arith, due_is, append-nil, went_then, unsent_of)
 
--- the line `r` was asked, and the reply, or what is at fault, came behind that
+-- the ask was put on the line `r`, and the reply, or what caused the error, came after that
 module _ {L : Type 0} (state : L → LineState) (round shard : ℕ) (labels : List ℕ) (version : ℕ) (before : ClientState L) (r : L) (so_far : SendsAsk state round shard labels version before r)
     (after : ClientState L) (greeted : HelloCame version before.version after.version) where
   brings : (ends : ℕ) (bytes : List ℕ) → Transfers 0 ends [] bytes (state r) (state after.line) → BringsUpTo ends state round shard labels bytes before after

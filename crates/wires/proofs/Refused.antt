@@ -10,7 +10,7 @@ use Rattle.frames.proofs.FrameStreams.{refused_begins_none}
 use Rattle.frames.proofs.Refusing.{refused_more}
 use Rattle.wires.specs.Causes.{IsGarble, IsBad}
 
--- a head or a body that is bad was whole: no read was at fault
+-- a bad head or body was whole, so no read failed
 garble_of_stream : (fault : FrameFault) → IsGarble fault → IsOfStream fault × (ends_of fault ≡ 0)
 garble_of_stream a1 a2 = search arith
 

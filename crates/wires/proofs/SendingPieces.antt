@@ -1,4 +1,4 @@
--- A shard that goes out by pieces.
+-- A shard that is sent in pieces.
 use Rattle.std.proofs.Common.{◌≡◌, ℕ, ◌≤◌, List, [], ◌++◌, length, take, drop, sym, ap, subst, ◌∙◌, append_assoc, arith}
 use Rattle.std.specs.List.{flat_map}
 use Rattle.std.specs.Prelude.{Vec, vec_len, vec_capacity}
@@ -24,7 +24,7 @@ pub awaits_rest : {A : Type 0} (s : Spelling) (links rest : List Link) (before a
     → vec_len after ≡ 0 → vec_capacity before ≤ vec_capacity after → AwaitsLinks s rest after
 awaits_rest s links rest before after awaits fit fewer emptied kept = search (arith)
 
--- a piece behind those before it
+-- a piece after those before it
 pub puts_then : (s : Spelling) (text none : List ℕ) (links rest rest' : List Link) (a b c : LineState) → none ≡ []
     → PutsSome s text links rest a b → PutsSome s none rest rest' b c → PutsSome s text links rest' a c
 puts_then s text none links rest rest' a b c empty one two =

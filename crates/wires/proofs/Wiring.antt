@@ -21,7 +21,7 @@ use Rattle.wires.specs.Clients.{ClientState, seen_client, shard_due, frames_put,
 use Rattle.wires.specs.Wires.{WireState, last_ask, IsQuiet, IsCountedWire, IsFaultless, IsTrueSoFar, WireCause}
 use Rattle.wires.proofs.Asking.{all_brought, step_more, honest_answer, blameless}
 
--- the last ask of frames that end in one
+-- the last ask of frames that end with one
 last_put : (last : ℕ × ℕ) (said : List FrameValue) (round shard : ℕ) (labels : List ℕ) → last_ask last (said ++ AskFrame round shard labels ∷ []) ≡ (round, shard)
 last_put last [] round shard labels = refl
 last_put last (AskFrame r s ls ∷ said) round shard labels = last_put (r, s) said round shard labels
@@ -30,7 +30,7 @@ last_put last (ShardFrame n ls ∷ said) round shard labels = last_put last said
 last_put last (AnswerFrame a ∷ said) round shard labels = last_put last said round shard labels
 last_put last (FaultFrame r s c ∷ said) round shard labels = last_put last said round shard labels
 
--- an ask that was open never ends with Closed
+-- an ask over an open wire never fails with `Closed`
 pub not_closed : {L : Type 0} (state : L → LineState) (round shard : ℕ) (labels : List ℕ) (before after : ClientState L) (fault : PortFault)
     → Cause state fault round shard labels before after → fault ≢ Closed
 not_closed state round shard labels before after fault cause same = subst (λ (f : PortFault). Cause state f round shard labels before after) same cause
@@ -54,16 +54,16 @@ module _ {L : Type 0} (state : L → LineState) (round shard : ℕ) (labels : Li
   wanting_counted : IsWanting state round shard labels before after → Counted 0 0 (state before.line) (state after.line)
   wanting_counted a1 = search (arith, brought_counted)
 
-  -- each cause of a fault has its counts
+  -- each cause of an error has its counts
   pub cause_counted : (fault : PortFault) → Cause state fault round shard labels before after → CountedFault fault (state before.line) (state after.line)
   cause_counted a1 a2 = search (arith, ended_counted, brought_counted, wanting_counted)
 
 module _ {L : Type 0} (state : L → LineState) (old new : WireState L) (start : LineState) (live : old.is_open ≡ true) where
-  -- one that is open is quiet
+  -- an open wire has counted nothing
   quiet_open : IsCountedWire state old start → IsQuiet state old start
   quiet_open counted = search arith
 
-  -- an ask of it that was answered, and one that wasn't
+  -- an ask over it that was answered, and one that wasn't
   pub quiet_more : Counted 0 0 (state old.client.line) (state new.client.line) → new.failures ≡ old.failures → new.wants ≡ old.wants → IsCountedWire state old start → IsCountedWire state new start
   quiet_more more failures wants counted = search (arith, quiet_open, quiet_first)
 
@@ -77,23 +77,23 @@ module _ {L : Type 0} (state : L → LineState) where
   pub new_quiet : (wire : WireState L) → wire.failures ≡ 0 → wire.wants ≡ 0 → IsCountedWire state wire (state wire.client.line)
   new_quiet wire failures wants = inl (record { counted = (omega arith, omega arith); failures = failures; wants = wants })
 
-  -- one that is shut keeps what it counted
+  -- a wire that is shut keeps its counts
   pub counted_shut : (wire : WireState L) (start : LineState) → IsCountedWire state wire start → IsCountedWire state (record wire { is_open = false }) start
   counted_shut wire start counted = search arith
 
 module _ {L : Type 0} (state : L → LineState) where
-  -- a wire that asked nothing yet, over a fresh line whose bytes are known
+  -- a wire before its first ask, over a fresh line whose bytes are known
   pub fresh_faultless : (wire : WireState L) (ends : ℕ) → IsFresh (state wire.client.line) → HasKnownBytes (state wire.client.line)
       → (state wire.client.line).ends ≡ ends → wire.client.version ≡ None → ((s : ℕ) → has_shard wire.client.sent s ≡ false)
       → wire.asks ≡ 0 → wire.failures ≡ 0 → wire.wants ≡ 0 → wire.last ≡ (0, 0) → IsFaultless state ends wire [] []
   fresh_faultless wire ends fresh known ends_are quiet none asks failures wants last = search (arith)
 
-  -- one that is open is faultless
+  -- an open wire is faultless
   pub faultless_open : (kind : PortFault → Type 0) (wire : WireState L) (ends : ℕ) (exchanges : List Exchange) → wire.is_open ≡ true → IsTrueSoFar state kind wire ends exchanges
       → (said : List FrameValue) × IsFaultless state ends wire said exchanges
   faultless_open kind wire ends exchanges live went = search arith
 
-  -- one that is shut stays what it was
+  -- a wire that is shut stays what it was
   pub went_shut : (kind : PortFault → Type 0) (wire : WireState L) (ends : ℕ) (exchanges : List Exchange) → IsTrueSoFar state kind wire ends exchanges
       → IsTrueSoFar state kind (record wire { is_open = false }) ends exchanges
   went_shut kind wire ends exchanges went = search arith
@@ -150,12 +150,12 @@ module _ {L : Type 0} (state : L → LineState) where
             },
           )
 
-  -- ---- what a faithful line leads to, whatever the wire counts
+  -- ---- what follows over a faithful line, whatever the wire counts
 
   module _ (round shard : ℕ) (labels : List ℕ) (old : WireState L) (new : ClientState L) (in_cut : shard < length old.client.cut) (live : old.is_open ≡ true)
       (is : IsShard shard (links_at old.client.cut shard)) (ask : IsAsk round shard labels)
       (below : old.client.worker < MAX_WORKERS) (kind : PortFault → Type 0) where
-    -- what is known of the line by the end of the ask is enough
+    -- what is known of the line at the end of the ask is enough
     pub served_answer : (a : AnswerValue) → AnswersOverLine state round shard labels a old.client new → (ends : ℕ) (exchanges : List Exchange)
         → IsTrueSoFar state kind old ends exchanges → ServesSoFar old.client.worker (state new.line)
         → IsHonestAnswer old.client.cut round shard labels a

@@ -1,4 +1,4 @@
--- Why a wire gives no answer.
+-- Why a wire returns no answer.
 use Rattle.std.specs.Prelude.{◌≡◌, ◌≢◌, ℕ, ◌⊎◌, ⊤, Bool, false, Option, None, List, []}
 use Rattle.frames.specs.FrameValue.{FrameValue, HelloFrame, AnswerFrame, FaultFrame}
 use Rattle.frames.specs.FrameText.{are_narrow, text_of}
@@ -17,7 +17,7 @@ use Rattle.round_theory.specs.declared.fault.PortFault.TheVariants.{Down, Garble
 use Rattle.wires.specs.Lines.{LineState, Transfers, Counted}
 use Rattle.wires.specs.Clients.{Client, ClientState, HelloCame, HasFrames, seen_client, hello_due, shard_put, Brings, EndsAfterAsk}
 
--- a fault of bytes which no lawful frame begins with
+-- an error of bytes with which no lawful frame begins
 abbrev pub IsGarble : FrameFault → Type 0
 IsGarble BadKind = ⊤
 IsGarble BadLength = ⊤
@@ -29,33 +29,31 @@ IsGarble _ = ⊥
 abbrev pub IsBad : List ℕ → Type 0
 IsBad bytes = (fault : FrameFault) × IsGarble fault × StreamRefused fault bytes
 
--- no hello of this worker
 abbrev pub IsNoHelloOf : ℕ → FrameValue → Type 0
 IsNoHelloOf worker v = (version : ℕ) → v ≢ HelloFrame version worker
 
--- neither an answer nor a fault
 abbrev pub IsNoReply : FrameValue → Type 0
 IsNoReply (AnswerFrame answer) = ⊥
 IsNoReply (FaultFrame round shard code) = ⊥
 IsNoReply v = ⊤
 
--- bytes in place of a reply: bad ones, or a lawful frame that is none
+-- bytes instead of a reply: bad ones, or a lawful frame that isn't a reply
 abbrev pub IsGarbled : List ℕ → Type 0
 IsGarbled bytes = IsBad bytes ⊎ ((v : FrameValue) × IsLawful v × IsNoReply v × (bytes ≡ text_of v))
 
--- the text of a worker's fault of this code
+-- the text of a worker's fault with this code
 abbrev pub IsFaultText : ℕ → List ℕ → Type 0
 IsFaultText code bytes = (round shard : ℕ) × IsLawful (FaultFrame round shard code) × (bytes ≡ text_of (FaultFrame round shard code))
 
--- bytes in place of a frame, where the line ends: none, or some of a frame's
+-- bytes instead of a frame when the line ends: none, or some of a frame's
 abbrev pub IsCutOff : List ℕ → Type 0
 IsCutOff bytes = StreamRefused Ended bytes ⊎ StreamRefused Torn bytes
 
--- one call failed, and none found the end; nothing is said of the bytes
+-- one call failed, and none found the end; nothing is said about the bytes
 abbrev pub LineFailed : LineState → LineState → Type 0
 LineFailed before after = Transfers 1 0 [] [] before after
 
--- the line failed; or these bytes came, no whole frame, and then the end, and nothing was sent
+-- the line failed; or these bytes came, no whole frame, then the end, and nothing was sent
 abbrev pub GoesDown : LineState → LineState → Type 0
 GoesDown before after = LineFailed before after ⊎ ((bytes : List ℕ) × IsCutOff bytes × Transfers 0 1 [] bytes before after)
 
@@ -67,7 +65,7 @@ Transmits bytes before after = Transfers 0 0 bytes [] before after
 abbrev pub Receives : List ℕ → LineState → LineState → Type 0
 Receives bytes before after = Transfers 0 0 [] bytes before after
 
--- these bytes came and nothing was sent; of the frame that they begin the body, or its list, found no memory
+-- these bytes came and nothing was sent; there was no memory for the body of their frame, or for its list
 abbrev pub ReceivesUnkept : LineState → LineState → Type 0
 ReceivesUnkept before after = (bytes : List ℕ) × StreamRefused NoMemory bytes × Receives bytes before after
 
@@ -81,17 +79,18 @@ GreetingFault WrongHello worker before after = (v : FrameValue) × IsLawful v ×
 GreetingFault Memory worker before after = ReceivesUnkept before after
 GreetingFault _ worker before after = ⊥
 
--- the same, and none of any version was heard before
+-- the same, and no hello of any version came before
 abbrev pub FailsToGreet : Option ℕ → ℕ → PortFault → LineState → LineState → Type 0
 FailsToGreet heard worker fault before after = (heard ≡ None) × GreetingFault fault worker before after
 
--- why a frame wasn't sent: for want of memory it isn't made, and the line isn't called
+-- why a frame wasn't sent; without memory it isn't encoded, and the line isn't called
 abbrev pub SendingFault : PortFault → LineState → LineState → Type 0
 SendingFault Down before after = LineFailed before after
 SendingFault Memory before after = after ≡ before
 SendingFault _ before after = ⊥
 
--- why a worker isn't sent a shard that it wasn't sent before: its version has no frame for it, which is so of the first one and a weight past 32 bits
+-- Why a shard that wasn't sent before can't be sent: the worker's version has no frame for it. This happens if the
+-- version is 1 and a weight doesn't fit 32 bits.
 abbrev pub LacksFrame : PortFault → (version : ℕ) → (sent : Bool) → List Link → Type 0
 LacksFrame TooOld version sent links = (version ≡ 1) × (sent ≡ false) × (are_narrow links ≡ false)
 LacksFrame _ version sent links = ⊥
@@ -106,22 +105,22 @@ AnswerFault _ before after = ⊥
 
 -- ---- of the whole ask
 
--- before the hello, the first bytes are at fault
+-- no hello came before this ask, and the first bytes caused the error
 abbrev pub MissesHello : PortFault → Client → Client → Type 0
 MissesHello fault before after = (before.version ≡ None) × GreetingFault fault before.worker before.line after.line
 
--- the hello of this version came by now, these frames were put, and nothing else went out or came
+-- the hello of this version has come, these frames were put, and nothing else was sent or came
 pub record SendsTo (version : ℕ) (frames : List FrameValue) (before after : Client) : Type 0 where
   pub greeted : HelloCame version before.version after.version
   pub went : Transfers 0 0 (texts_of frames) (hello_due before.version version before.worker) before.line after.line
   pub has : HasFrames version frames
 
--- the hello came by now, these frames were put, all of which its version has, and nothing else went out or came
+-- the hello has come, its version has all these frames, they were put, and nothing else was sent or came
 abbrev pub Sends : List FrameValue → Client → Client → Type 0
 Sends frames before after = (version : ℕ) × SendsTo version frames before after
 
--- where memory was wanting in an ask: for the hello that came, for the frame of a shard that wasn't sent before, for the
--- frame of the ask, or for the reply that came. In each case nothing failed and no end was found
+-- For what there was no memory in an ask: the hello that came, the frame of a shard that wasn't sent before, the frame
+-- of the ask, or the reply that came. In each case no call failed and none found the end.
 pub data IsWanting {L : Type 0} (state : L → LineState) (round shard : ℕ) (labels : List ℕ) (before after : ClientState L) : Type 0 where
   InHello : MissesHello Memory (seen_client state before) (seen_client state after) → IsWanting state round shard labels before after
   InShard : has_shard before.sent shard ≡ false → Sends [] (seen_client state before) (seen_client state after)
@@ -131,14 +130,15 @@ pub data IsWanting {L : Type 0} (state : L → LineState) (round shard : ℕ) (l
   InReply : (bytes : List ℕ) → StreamRefused NoMemory bytes → Brings state round shard labels bytes before after
       → IsWanting state round shard labels before after
 
--- the worker's hello was of the first version, the shard wasn't sent before, and no frame of that version has its links; nothing was put
+-- The worker's hello was of the first version, the shard wasn't sent before, and no frame of that version has its
+-- links. Nothing was put.
 pub record IsTooOld (shard : ℕ) (before after : Client) : Type 0 where
   pub unsent : has_shard before.sent shard ≡ false
   pub wide : are_narrow (links_at before.cut shard) ≡ false
   pub sends : SendsTo 1 [] before after
 
--- why an ask that was open got no answer: by the bytes that came in it, and by what the line counted. It is down where
--- it failed, or ended in place of the hello, or of the reply once it was asked
+-- Why an ask over an open wire got no answer, by the bytes that came in it and by what the line counted. It is `Down`
+-- if the line failed, or if it ended instead of the hello, or instead of the reply after the ask was put.
 abbrev pub Cause : {L : Type 0} → (L → LineState) → PortFault → ℕ → ℕ → List ℕ → ClientState L → ClientState L → Type 0
 Cause state Down round shard labels before after =
     LineFailed (state before.line) (state after.line)
@@ -154,21 +154,21 @@ Cause state Memory round shard labels before after = IsWanting state round shard
 Cause state TooOld round shard labels before after = IsTooOld shard (seen_client state before) (seen_client state after)
 Cause state Closed round shard labels before after = ⊥
 
--- what a line counted in an ask that got no answer, whether or not its bytes are known: it is down where one call failed,
--- or one found the end; with any other fault neither
+-- What a line counted in an ask that got no answer, even if its bytes aren't known. If the wire is `Down`, one call
+-- failed or one found the end; with any other error, neither.
 abbrev pub CountedFault : PortFault → LineState → LineState → Type 0
 CountedFault Down before after = Counted 1 0 before after ⊎ Counted 0 1 before after
 CountedFault Closed before after = ⊥
 CountedFault fault before after = Counted 0 0 before after
 
--- a fault that a wire over a faithful line may answer
+-- an error that a wire over a faithful line may return
 abbrev pub IsBlameless : PortFault → Type 0
 IsBlameless Garbled = ⊥
 IsBlameless WrongHello = ⊥
 IsBlameless (Gave code) = code ≡ 1
 IsBlameless _ = ⊤
 
--- what a wire answers where no frame could be read
+-- the error of a wire if no frame could be read
 abbrev pub port_fault : FrameFault → PortFault
 port_fault Ended = Down
 port_fault Torn = Down
@@ -176,6 +176,6 @@ port_fault Device = Down
 port_fault NoMemory = Memory
 port_fault _ = Garbled
 
--- no frame could be read: some bytes came, which are refused for this fault
+-- no frame could be read: bytes came that are rejected with this error
 abbrev pub FailsToRead : FrameFault → LineState → LineState → Type 0
 FailsToRead fault before after = (bytes : List ℕ) × StreamRefused fault bytes × Transfers (failures_of fault) (ends_of fault) [] bytes before after

@@ -8,13 +8,12 @@ use Rattle.wires.specs.Lines.{LineState}
 abbrev pub source_of : LineState → SourceState
 source_of line = record { left = None; given = line.got; failures = Some line.failures; ends = Some line.ends }
 
--- what stays true of a line while frames are read of it: that just these bytes were sent, unless a call failed since the
--- failures were counted to this number; that it is faithful for this worker
+-- What stays true of a line while frames are read from it. Exactly these bytes were sent, unless a call failed after
+-- there were this many failures; or the line is faithful for this worker.
 pub data LineFact : Type 0 where
   WasSent : (failures : ℕ) (bytes : Option (List ℕ)) → LineFact
   ServesFor : (worker : ℕ) → LineFact
 
--- the fact holds of the line
 abbrev pub HoldsOf : LineState → (ℕ → Type 0) → LineFact → Type 0
 HoldsOf line faithful (WasSent failures bytes) = (failures ≤ line.failures) × (line.failures ≡ failures → Appends bytes line.sent [])
 HoldsOf line faithful (ServesFor worker) = faithful worker

@@ -5,7 +5,8 @@ use Rattle.wires.specs.declared.line.Line as Line
 use Rattle.wires.specs.Lines.{LineState}
 use Rattle.wires.specs.Causes.{Transmits, SendingFault}
 
--- from `before` to `after` the line went so, or failed so; and it is faithful for whomever it was
+-- from `before` to `after`, the line went as `goes` says, or failed as `fails` says, and is faithful for the same
+-- workers
 pub record Steps {L T E : Type 0} (over : Line.Ghosts L) (goes : T → LineState → LineState → Type 0)
     (fails : E → LineState → LineState → Type 0) (result : Result T E) (before after : L) : Type 0 where
   pub went : IfOk result (λ value. goes value (over.state before) (over.state after))

@@ -1,4 +1,3 @@
--- A wire: a port over a line.
 use Rattle.std.specs.Prelude.{◌≡◌, ◌≢◌, ℕ, ◌+◌, ◌<◌, ◌≤◌, ◌⊎◌, Bool, true, false, List, [], ◌∷◌, length, None}
 use Rattle.limits.specs.declared.TheConstants.{MAX_WORKERS}
 use Rattle.links.specs.declared.links.Link.{Link}
@@ -23,13 +22,14 @@ pub record WireState (L : Type 0) : Type 0 where
   pub wants : ℕ
   pub last : ℕ × ℕ
 
--- what every wire keeps: its worker is one of a run, its line has room to count while it is open, and each fault was an ask
+-- what every wire obeys: its worker's number is in range, an open wire's line can count further, and each error was an
+-- ask
 pub record IsWire (line : LineState) (worker : ℕ) (is_open : Bool) (asks failures wants : ℕ) : Type 0 where
   pub below : worker < MAX_WORKERS
   pub room : is_open ≡ true → HasRoom line
   pub counted : failures + wants ≤ asks
 
--- a wire that asked nothing yet
+-- a wire before its first ask
 pub record IsNewWire {L : Type 0} (line : L) (cut : List (List Link)) (worker : ℕ) (wire : WireState L) : Type 0 where
   pub line_is : wire.client.line ≡ line
   pub cut_is : wire.client.cut ≡ cut
@@ -56,13 +56,13 @@ port_of wire = record {
 
 -- ---- by what its line counts, whether or not its bytes are known
 
--- no ask that found it open got a fault, and from this state of its line on no call failed and none found the end
+-- no ask to the open wire got an error, and since this state of its line no call failed and none found the end
 pub record IsQuiet {L : Type 0} (state : L → LineState) (wire : WireState L) (start : LineState) : Type 0 where
   pub counted : Counted 0 0 start (state wire.client.line)
   pub failures : wire.failures ≡ 0
   pub wants : wire.wants ≡ 0
 
--- one ask got a fault, which closed it, and from this state of its line on it counted just what fits that fault
+-- one ask got an error, which closed the wire; since this state of its line exactly what fits that error was counted
 pub record HasFaulted {L : Type 0} (state : L → LineState) (wire : WireState L) (start : LineState) : Type 0 where
   pub closed : wire.is_open ≡ false
   pub fault : PortFault
@@ -70,29 +70,30 @@ pub record HasFaulted {L : Type 0} (state : L → LineState) (wire : WireState L
   pub failures : wire.failures ≡ failure_of fault
   pub wants : wire.wants ≡ want_of fault
 
--- what its line counts from this state on, its own when the wire was new: nothing, and it is open or was shut; or what closed it
+-- what its line counted since this state, in which the wire was new: nothing, and it is open or was shut; or what
+-- closed it
 abbrev pub IsCountedWire : {L : Type 0} → (L → LineState) → WireState L → LineState → Type 0
 IsCountedWire state wire start = IsQuiet state wire start ⊎ HasFaulted state wire start
 
 -- ---- by what is known of its line
 
--- its line got just the answers of these exchanges
+-- its line got exactly the answers of these exchanges
 abbrev pub WireExchanged : {L : Type 0} → (L → LineState) → WireState L → List Exchange → Type 0
 WireExchanged state wire exchanges = HasGiven (seen_client state wire.client) (answers_of exchanges)
 
--- why one of its asks gave no answer
+-- why one of its asks got no answer
 abbrev pub WireCause : {L : Type 0} → (L → LineState) → PortFault → (round shard : ℕ) → List ℕ → WireState L → WireState L → Type 0
 WireCause state fault round shard labels before after = Cause state fault round shard labels before.client after.client
 
--- the round and the shard of the last ask among these frames, or of `last` where there is none
+-- the round and the shard of the last ask among these frames, or `last` if there is none
 abbrev pub last_ask : ℕ × ℕ → List FrameValue → ℕ × ℕ
 last_ask last [] = last
 last_ask last (AskFrame round shard labels ∷ frames) = last_ask (round, shard) frames
 last_ask last (v ∷ frames) = last_ask last frames
 
--- over a line that was fresh and had found so many ends: nothing failed, and no more ends were found; just these frames
--- were sent, shards of its cut, none twice, and the asks of the exchanges; and the hello and just the answers of the
--- exchanges were got, one for each ask that it counts
+-- Over a line that was fresh and had found `ends` ends: nothing failed, and no more ends were found. Exactly these
+-- frames were sent: shards of its cut, none twice, and the asks of the exchanges. The hello and exactly the answers of
+-- the exchanges were got, one for each ask that the wire counts.
 pub record IsFaultless {L : Type 0} (state : L → LineState) (ends : ℕ) (wire : WireState L)
     (said : List FrameValue) (exchanges : List Exchange) : Type 0 where
   pub in_step : MatchesLine (seen_client state wire.client) said exchanges
@@ -102,8 +103,8 @@ pub record IsFaultless {L : Type 0} (state : L → LineState) (ends : ℕ) (wire
   pub wants : wire.wants ≡ 0
   pub last : wire.last ≡ last_ask (0, 0) said
 
--- its last ask, the first that got no answer and behind these exchanges, ended with a fault of this kind: why, by the
--- wire before that ask, faultless and open, and the wire behind it
+-- Its last ask, after these exchanges, was the first without an answer, and ended with an error of this kind. The cause
+-- is known from the wire before that ask, faultless and open, and the wire after it.
 pub record HasFailed {L : Type 0} (state : L → LineState) (ends : ℕ) (exchanges : List Exchange)
     (kind : PortFault → Type 0) (wire : WireState L) : Type 0 where
   pub before : WireState L
@@ -121,25 +122,27 @@ pub record HasFailed {L : Type 0} (state : L → LineState) (ends : ℕ) (exchan
   pub failures : wire.failures ≡ failure_of fault
   pub wants : wire.wants ≡ want_of fault
 
--- over a line that had found so many ends it answered just these exchanges, and is faultless, open or shut; or a fault of this kind closed it
+-- over a line that had found `ends` ends, it returned exactly these answers and is faultless, open or shut; or an error
+-- of this kind closed it
 abbrev pub IsTrueSoFar : {L : Type 0} → (L → LineState) → (PortFault → Type 0) → WireState L → ℕ → List Exchange → Type 0
 IsTrueSoFar state kind wire ends exchanges =
     ((said : List FrameValue) × IsFaultless state ends wire said exchanges)
     ⊎ ((wire.is_open ≡ false) × HasFailed state ends exchanges kind wire)
 
--- what it answered is true, over a line that had found so many ends when the wire was new: it answered just these exchanges,
--- and is faultless, or a fault closed it that has its cause
+-- What it returned is true, over a line that had found `ends` ends when the wire was new. It returned exactly these
+-- answers and is faultless, or an error that has its cause closed it.
 abbrev pub IsSoundWire : {L : Type 0} → (L → LineState) → WireState L → ℕ → List Exchange → Type 0
 IsSoundWire state wire ends exchanges = IsTrueSoFar state (λ fault. fault ≢ Closed) wire ends exchanges
 
--- the worker served it in an ask: it was sound before, and what its line got by now begins what the worker may write
+-- the worker served it in an ask: it was sound before, and what its line has got is a prefix of what the worker may
+-- write
 abbrev pub ServesWire : {L : Type 0} → (L → LineState) → (before after : WireState L) → Type 0
 ServesWire state before after =
     ((ends : ℕ) × (exchanges : List Exchange) × IsSoundWire state before ends exchanges)
     × ServesSoFar before.client.worker (state after.client.line)
 
--- it is faultless, or a fault closed it that is nobody's blame. How many ends the line had found, and what was exchanged,
--- isn't said here: who asks that has the sound wire beside it
+-- It is faultless, or an error closed it for which nobody is to blame. How many ends the line had found and what was
+-- exchanged is left open here; `IsSoundWire` says it.
 abbrev pub IsBlamelessWire : {L : Type 0} → (L → LineState) → WireState L → Type 0
 IsBlamelessWire state wire = (ends : ℕ) × (exchanges : List Exchange) × IsTrueSoFar state IsBlameless wire ends exchanges
 

@@ -1,4 +1,4 @@
-//! The client of a worker: what was said with it so far, and one ask more.
+//! The client of a worker: what was exchanged with it so far, and how to make one ask.
 ghost use Rattle.std.specs.Prelude.{◌≡◌, ℕ, ◌<◌, length, IfOk, IfErr};
 ghost use Rattle.frames.specs.Lawful.{IsShard, IsAsk};
 ghost use Rattle.links.specs.Cut.{links_at};
@@ -15,8 +15,10 @@ use round_theory::PortFault;
 use std::alloc::Allocator;
 use std::marker::Model;
 
-/// The client of a worker, over a line that it owns: the cut whose shards are asked, the version of its hello, once it
-/// came, which shards were sent, a bit each, and the room for a put of a shard.
+/// The client of a worker, over a line that it owns.
+///
+/// It has the cut whose shards are asked about, and the version in the hello, if that came. It also has a bit for each
+/// shard that was sent, and a buffer for the puts of a shard.
 #[derive(Drop)]
 pub struct Client<'a, L, A: Allocator> {
     pub alloc: A,
@@ -41,7 +43,7 @@ impl<'a, L, A: Allocator> Model for Client<'a, L, A> {
 }
 
 impl<'a, L: Line, A: Allocator + Copy> Client<'a, L, A> {
-    // One ask, from the first hello on.
+    // Makes one ask, and reads the hello before the first one.
     pub fn ask(
         &mut self,
         round: u32,
@@ -58,11 +60,10 @@ impl<'a, L: Line, A: Allocator + Copy> Client<'a, L, A> {
         ensures worker { self.new.worker ≡ self.old.worker }
         ensures faithful { (w : ℕ) → L.faithful self.old.line w → L.faithful self.new.line w }
 
-        // What it sends is lawful.
         ensures shard_lawful { IsShard shard (links_at self.old.cut shard) }
         ensures ask_lawful { IsAsk round shard labels.now }
     {
-        // A proof knows that a cut has few shards, and that labels are labels, only where the code reads them.
+        // A proof knows that a cut has few shards, and that labels obey their rules, only where the code reads them.
         let _are_few = self.cut.len();
         let _are_labels = labels.as_slice();
         let part = self.cut.shard(shard);

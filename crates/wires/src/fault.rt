@@ -1,10 +1,9 @@
-//! Why a line failed.
 use thiserror::Error;
 
-/// Why a call of a line gave nothing.
+/// Why a call of a line failed.
 #[derive(Clone, Copy, Debug, PartialEq, Eq, Error)]
 pub enum LineFault {
-    /// The device failed in this very call.
+    /// The device failed in this call.
     #[error("line failed")]
     Failed,
 }

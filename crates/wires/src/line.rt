@@ -1,40 +1,38 @@
-//! Lines of bytes to a worker and back.
 ghost use Rattle.std.specs.Prelude.{ℕ, ◌<◌, length};
 ghost use Rattle.std.specs.Io.{ReadsAtMost};
 ghost use Rattle.wires.specs.Lines.{LineState, HasRoom, Puts, Gets, ServesSoFar};
 
 use crate::fault::LineFault;
 
-/// A line to a worker: bytes go out by `put`, and come back by `get`.
+/// A line to a worker: `put` sends bytes, and `get` receives them.
 ///
-/// Contracts may know the bytes that were sent and got, each a `None` where they aren't known.
-/// They always know how many calls failed and how many gets found the end, as numbers of 64 bits.
+/// Contracts may know the bytes that were sent and those that were got, each a `None` if unknown. They always know how
+/// many calls failed and how many gets found the end, as numbers of 64 bits.
 ///
-/// A line is faithful for a worker where, until its first failure and where its bytes are known, what was
-/// got begins what the worker's session may write for what was sent. What a socket gives is for its other
-/// end to say, so a line over a device is faithful by a premise alone; a line to an engine in memory is so
-/// by its contract. From a line whose bytes aren't known nothing follows of what comes over it.
+/// A line is faithful for a worker if what was got is a prefix of what the worker's session may write for what was
+/// sent. This has to hold until the line's first failure, if both are known. What a socket receives depends on its
+/// other end, so a line over a device is faithful by assumption only; a line to an engine in memory is faithful by its
+/// contract. Nothing follows about what a line gets if its bytes aren't known.
 pub trait Line {
     // What is known of the line.
     ghost state: { Self → LineState };
 
-    // It carries the session of this worker. Whatever type fits the line: its law is what others know.
+    // The line carries the session of this worker. An implementation picks the type; `serves` says what others know of
+    // it.
     ghost faithful: { Self → ℕ → Type 0 };
 
-    /// Sends the bytes, all of them. It may wait for the other end.
+    /// Sends all of the bytes. It may wait for the other end.
     ///
-    /// After a failure nothing is known of what was sent. An empty `bytes` may pass without a call of the
-    /// device.
+    /// After a failure, nothing is known of what was sent. An empty `bytes` may succeed without a call of the device.
     fn put(&mut self, bytes: &[u8]) -> Result<(), LineFault>
         requires { HasRoom (state self.old) }
         ensures went { Puts result bytes.now (state self.old) (state self.new) }
         ensures faithful { (worker : ℕ) → faithful self.old worker → faithful self.new worker };
 
-    /// Gets some bytes to the beginning of `into`, waits for the first of them, and answers how many. 0 is
-    /// the end.
+    /// Waits for bytes, writes them to the beginning of `into`, and returns how many there are. 0 is the end.
     ///
-    /// What stands in `into` behind those bytes, and all of it after a failure, may have changed. One call
-    /// of the device, with no second try.
+    /// The bytes of `into` after those may change, and after a failure all of them may. It calls the device once, and
+    /// doesn't try again.
     fn get(&mut self, into: &mut [u8]) -> Result<usize, LineFault>
         requires can { HasRoom (state self.old) }
         requires room { 0 < length into.old }
@@ -42,6 +40,6 @@ pub trait Line {
         ensures went { Gets result into.new (state self.old) (state self.new) }
         ensures faithful { (worker : ℕ) → faithful self.old worker → faithful self.new worker };
 
-    // What a faithful line got, as far as it is known, begins what the worker may write.
+    // What a faithful line got, if it is known, is a prefix of what the worker may write.
     ghost serves: { (line : Self) (worker : ℕ) → faithful line worker → ServesSoFar worker (state line) };
 }

@@ -1,4 +1,3 @@
-//! A line as a source of bytes.
 ghost use Rattle.std.specs.Prelude.{ℕ, ◌<◌, length};
 ghost use Rattle.wires.specs.Lines.{HasRoom};
 ghost use Rattle.wires.specs.LineSources.{LineFact, HoldsOf, source_of};
@@ -6,10 +5,10 @@ ghost use Rattle.wires.specs.LineSources.{LineFact, HoldsOf, source_of};
 use crate::line::Line;
 use byte_streams::{Failed, Source};
 
-/// A line as a source: what is read is got from the line.
+/// A line as a source: it reads what the line gets.
 ///
-/// It owns the line, so that what is read is said of the line afterwards. It is known what it gave, and not
-/// what will come; reads keep true what was sent on the line, and for whom it is faithful.
+/// It owns the line, so that contracts about reads apply to the line afterwards. What it gave is known, and what will
+/// come isn't. A read preserves what is known to have been sent, and for which workers the line is faithful.
 #[derive(Drop)]
 pub struct LineSource<L> {
     pub line: L,

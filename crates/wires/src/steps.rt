@@ -1,4 +1,4 @@
-//! The steps of an ask over a line: hear the hello, send the shard by pieces, send the ask, hear the answer.
+//! The steps of an ask over a line: read the hello, send the shard in pieces, send the ask, and read the answer.
 ghost use Rattle.std.specs.Prelude.{◌≡◌, ℕ, ◌<◌, ◌≤◌, ◌==◌, ◌||◌, [], ◌++◌, length, Some, None, IfSome, IfOk, OnOk, IfErr};
 ghost use Rattle.std.specs.List.{flat_map};
 ghost use Rattle.frames.specs.FrameValue.{ShardFrame, AskFrame, AnswerFrame, value_of};
@@ -25,7 +25,7 @@ use links::{Labels, Link, Shard};
 use round_theory::PortFault;
 use std::alloc::{AllocError, Allocator};
 
-// The version of the worker's hello; hears the hello, unless it came before, of the version `heard`.
+// Returns the version of the worker's hello. It reads the hello, unless one of the version `heard` came before.
 pub fn greet<L: Line, A: Allocator + Copy>(
     alloc: A,
     source: &mut LineSource<L>,
@@ -60,7 +60,7 @@ pub fn greet<L: Line, A: Allocator + Copy>(
     }
 }
 
-// Whether a worker of this version has a frame for the shard, unless it was sent before.
+// Whether a worker of this version has a frame for the shard, or got the shard before.
 pub fn check_version(version: u16, sent: &ShardSet, part: &Shard) -> Result<(), PortFault>
     requires { IsVersion version }
     ensures has { OnOk result (HasFrames version (shard_put sent.now part.now.number part.now.links.now)) }
@@ -72,12 +72,14 @@ pub fn check_version(version: u16, sent: &ShardSet, part: &Shard) -> Result<(), 
     Err(PortFault::TooOld)
 }
 
-// How many bytes of a shard go out by one put, at most.
+// The most bytes of a shard that are sent by one put.
 const MOST: usize = 1 << 16;
 
-// Sends the shard, unless it was sent before. It goes out by puts of at most 64 KiB, so that the worker makes links of
-// one while the next is made, and its text never stands in memory as a whole. A shard of few links is one put, for a
-// socket sends each at once, and two would wake the worker twice. Room for a put is taken in the text before the first.
+// Sends the shard, unless it was sent before.
+//
+// It sends at most 64 KiB by one put, so that the worker can decode one piece while the next is encoded, and the whole
+// text is never in memory. A shard with few links is one put, since a socket sends each put at once, and two would wake
+// the worker twice. Memory for a put is reserved before the first one.
 pub fn send_shard<L: Line, A: Allocator + Copy>(
     line: &mut L,
     text: &mut Vec<u8, A>,
@@ -101,7 +103,7 @@ pub fn send_shard<L: Line, A: Allocator + Copy>(
     Ok(())
 }
 
-// What stands before the links of a shard, in place of another text, and room for the links of a put.
+// Replaces the text by the bytes before a shard's links, and reserves memory for the links of a put.
 fn begin_shard<A: Allocator>(
     text: &mut Vec<u8, A>,
     part: &Shard,
@@ -118,7 +120,7 @@ fn begin_shard<A: Allocator>(
     text.extend_from_slice(&shard_head(part, spelling))
 }
 
-// Sends what stands in the text, and the links behind it.
+// Sends the text, and the links after it.
 fn send_links<L: Line, A: Allocator>(
     line: &mut L,
     text: &mut Vec<u8, A>,
@@ -136,7 +138,7 @@ fn send_links<L: Line, A: Allocator>(
     Ok(())
 }
 
-// Sends what stands in the text, and as many links behind it as a put has room for. It answers the others.
+// Sends the text and as many links after it as a put may have, and returns the other links.
 fn send_piece<'a, L: Line, A: Allocator>(
     line: &mut L,
     text: &mut Vec<u8, A>,
@@ -159,11 +161,11 @@ fn send_piece<'a, L: Line, A: Allocator>(
     Ok(rest)
 }
 
-// From so many bytes of labels on an ask goes out by two puts.
+// An ask with at least this many bytes of labels is sent by two puts.
 const LONG: usize = 1 << 16;
 
-// Sends the ask. Many labels that keep their bytes lend them to it, behind a put of what stands before them. Others are
-// turned into bytes for this ask, which goes out by one put.
+// Sends the ask. If there are many labels and they store their bytes, one put sends what precedes these bytes, and
+// another sends them without a copy. Other labels are encoded for this ask, which is sent by one put.
 pub fn send_ask<L: Line, A: Allocator>(
     alloc: A,
     line: &mut L,
@@ -184,7 +186,7 @@ pub fn send_ask<L: Line, A: Allocator>(
     send(line, text.as_slice())
 }
 
-// Hears the answer, whatever it says.
+// Reads the answer, whatever its contents are.
 pub fn hear_answer<L: Line, A: Allocator + Copy>(
     alloc: A,
     source: &mut LineSource<L>,
@@ -207,7 +209,7 @@ pub fn hear_answer<L: Line, A: Allocator + Copy>(
     }
 }
 
-// Hears the next frame. The one place that looks at what reads of a line keep true.
+// Reads the next frame. Only here is it used what reads of a line preserve.
 fn hear<L: Line, A: Allocator + Copy>(
     alloc: A,
     source: &mut LineSource<L>,
@@ -219,7 +221,6 @@ fn hear<L: Line, A: Allocator + Copy>(
     read_frame(alloc, source)
 }
 
-// Sends a whole text by one put.
 fn send<L: Line>(line: &mut L, bytes: &[u8]) -> Result<(), PortFault>
     requires { HasRoom (L.state line.old) }
     ensures step { SendsText L.Line bytes.now result line.old line.new }
@@ -240,7 +241,7 @@ fn send_both<L: Line>(line: &mut L, front: &[u8], rest: &[u8]) -> Result<(), Por
     send(line, rest)
 }
 
-// What a wire answers where no frame could be read.
+// The error of a wire if no frame could be read.
 fn fault_of(fault: FrameFault) -> PortFault
     ensures { result ≡ port_fault fault }
 {

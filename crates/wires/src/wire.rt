@@ -21,11 +21,12 @@ use std::marker::Model;
 
 /// A port that asks a worker over a line, which it owns.
 ///
-/// At its first ask it hears the worker's hello. It sends a shard before its first ask, and never again, by a `put` for at
-/// most 64 KiB of its frame each, so that a frame of no more is one. An ask it sends whole, by one `put`, or, where its
-/// labels keep their bytes ([`Labels::spell`]) and these are 64 KiB or more, by two, of which the second has just those
-/// bytes. Other labels it turns into bytes at each ask. Every fault closes it for good, want of memory too. It keeps 512
-/// bytes for the shards that were sent, whatever the cut, and less than 128 KiB for the puts of a shard.
+/// Its first ask reads the worker's hello. A shard is sent before the first ask about it, and never again, in puts of
+/// at most 64 KiB each; a frame of at most that size is one put. An ask is one put. Labels of 64 KiB or more that store
+/// their bytes ([`Labels::spell`]) are a second put, without a copy. Other labels are encoded at each ask.
+///
+/// Every error closes the wire for good, even a lack of memory. The wire takes 512 bytes for which shards were sent,
+/// whatever the cut, and less than 128 KiB for the puts of a shard.
 #[derive(Drop)]
 pub struct Wire<'a, L: Line, A: Allocator> {
     client: Client<'a, L, A>,
@@ -55,17 +56,18 @@ impl<'a, L: Line, A: Allocator> Model for Wire<'a, L, A> {
 }
 
 impl<'a, L: Line, A: Allocator + Copy> Wire<'a, L, A> {
-    /// A wire over a line to the worker of this number, for the shards of a cut. It takes no memory, and
-    /// sends nothing yet.
+    /// A wire over a line to the worker of this number, for the shards of a cut. It allocates nothing and sends nothing
+    /// yet.
     pub fn new(alloc: A, line: L, cut: &'a Cut<'a, A>, worker: u32) -> Self
         requires worker { worker < MAX_WORKERS }
         requires room { HasRoom (L.state line) }
         ensures new { IsNewWire line cut.now worker result }
 
-        // Over any line its counts will fit a fault that closed it.
+        // Over any line, its counts fit the error that will close it.
         ensures counted { IsCountedWire L.state result (L.state line) }
 
-        // Over a fresh line whose bytes are known it is sound, and over one that is faithful for the worker honest.
+        // It is sound over a fresh line whose bytes are known, and honest over one that is also faithful for the
+        // worker.
         ensures sound { IsFresh (L.state line) → HasKnownBytes (L.state line)
             → IsSoundWire L.state result (L.state line).ends [] }
         ensures honest { IsFresh (L.state line) → HasKnownBytes (L.state line) → L.faithful line worker
@@ -90,7 +92,7 @@ impl<'a, L: Line, A: Allocator + Copy> Wire<'a, L, A> {
         }
     }
 
-    /// The line, as the asks left it. It takes no memory.
+    /// Returns the line as the asks left it. It allocates nothing.
     pub fn into_line(self) -> L
         ensures { result ≡ self.entry.client.line }
     {
@@ -128,26 +130,27 @@ impl<'a, L: Line, A: Allocator + Copy> Port<A> for Wire<'a, L, A> {
         ensures sound_fault { OnErr result
             (StaysSound (IsSoundWire L.state self.old) (IsSoundWire L.state self.new)) }
 
-        // An answer: which frames were sent for it, which bytes came behind them, and which shards are sent by now.
+        // On success: which frames were sent for the answer, which bytes came after them, and which shards have been
+        // sent.
         ensures asked { IfOk result (λ a. AnswersOverLine L.state round shard labels.now a self.old.client self.new.client) }
 
-        // Over a line whose bytes are known, be it faithful or not: where what came by now begins what the
-        // worker may write, the answer is honest.
+        // Over a line whose bytes are known, faithful or not: if what has come is a prefix of what the worker may
+        // write, the answer is honest.
         ensures served { IfOk result (λ a. ServesWire L.state self.old self.new
             → IsHonestAnswer self.old.client.cut round shard labels.now a) }
 
-        // Why there is no answer: by the bytes that came in the ask, and by what the line counted.
+        // Why there is no answer, by the bytes that came in the ask, and by what the line counted.
         ensures cause { IfErr result (λ e. self.old.is_open ≡ true
             → WireCause L.state e round shard labels.now self.old self.new) }
 
-        // What the line counted since the wire was new fits a fault that closed it, whether or not its bytes are known.
+        // What the line counted since the wire was new fits the error that closed it, even if its bytes aren't known.
         ensures counted { (start : LineState) → IsCountedWire L.state self.old start → IsCountedWire L.state self.new start }
 
         // A closed wire does nothing.
         ensures closed { self.old.is_open ≡ false → self.new ≡ self.old }
 
-        // Over a faithful line: never garbled, no wrong hello, and of the worker no fault but want of memory, unless it is
-        // too old.
+        // Over a faithful line no reply is garbled and no hello is wrong. A fault of the worker says that it is out of
+        // memory, and the worker may be too old.
         ensures blameless { IfErr result (λ e. IsHonestWire L.Line self.old → IsBlameless e) }
     {
         if !self.is_open {
@@ -176,7 +179,7 @@ impl<'a, L: Line, A: Allocator + Copy> Port<A> for Wire<'a, L, A> {
 
         ensures counted { (start : LineState) → IsCountedWire L.state self.old start → IsCountedWire L.state self.new start }
 
-        // Nothing else changes: the line is as it was.
+        // Nothing else changes, and the line isn't used.
         ensures client { self.new.client ≡ self.old.client }
     {
         self.is_open = false;
@@ -209,7 +212,7 @@ fn failure_of(fault: PortFault) -> u64
     }
 }
 
-// By how much the count of want of memory rises.
+// By how much the count of asks without memory rises.
 fn want_of(fault: PortFault) -> u64
     ensures { result ≡ want_of fault }
 {

@@ -1,4 +1,4 @@
--- What is kept, without what is live of it.
+-- The links that are stored, whichever are live.
 use Rattle.std.proofs.Common.{◌≡◌, ℕ, List, [], ◌∷◌, Bool, true, false, cond, Option, Some, None, nat_cmp, refl, sym, ap, ◌∙◌, subst, arith}
 use Rattle.std.specs.Prelude.{IfSome, IsSome, Result, IfOk, OnErr, ◌==◌}
 use Rattle.std.specs.Option.{option_map}
@@ -19,7 +19,7 @@ use Rattle.worker_engine.specs.Shelves.{shelf_list, AreAllLive, AreAllUnder, Rep
 abbrev links_of : KeptShardState → List Link
 links_of kept = kept.links
 
--- what is kept under a number
+-- what is stored under a number
 shelf_at : (shards : List (ℕ × KeptShardState)) (s : ℕ) → shelf_of (shelf_list shards) s ≡ option_map links_of (lookup (is_at (nat_cmp s)) shards)
 shelf_at shards s = lookup-map_values links_of (is_at (nat_cmp s)) shards
 
@@ -33,7 +33,7 @@ pub kept_at : {T E : Type 0} (result : Result T E) (shards : List (ℕ × KeptSh
     → OnErr result (IsSome (shelf_of (shelf_list shards) s))
 kept_at a1 a2 a3 a4 a5 = search (arith, shelf_some)
 
--- a value with the same links is written
+-- an entry is replaced by one with the same links
 pub kept_same : (test : ℕ → Bool) (shards : List (ℕ × KeptShardState)) (kept new : KeptShardState) → Some kept ≡ lookup test shards
     → new.links ≡ kept.links → shelf_list (set_value test shards new) ≡ shelf_list shards
 kept_same test [] kept new found same = refl
@@ -46,24 +46,24 @@ kept_same test (e ∷ es) kept new found same = go (test e.0) found (λ there. k
         ap (λ (l : List Link). (e.0, l) ∷ shelf_list es) (same ∙ ap links_of is)
     go false found later = ap (λ (t : List (ℕ × List Link)). (e.0, e.1.links) ∷ t) (later found)
 
--- all values are written, each with the same links, all of them live
+-- all entries are replaced, each by one with the same links, all of them live
 pub kept_by_retain : {F : Type 0} (T : F → ℕ → KeptShardState → Bool → KeptShardState → F → Type 0)
     → ((f : F) (k : ℕ) (v : KeptShardState) (b : Bool) (w : KeptShardState) (f' : F) → T f k v b w f' → (b ≡ true) × (w.links ≡ v.links) × IsAllLive w)
     → (f : F) (es kept : List (ℕ × KeptShardState)) → RetainsPairs T f es kept → (shelf_list kept ≡ shelf_list es) × AreAllLive kept
 kept_by_retain T each f [] kept is = (ap (λ (t : List (ℕ × KeptShardState)). shelf_list t) is, λ s. subst (λ t. IfSome (lookup (is_at (nat_cmp s)) t) IsAllLive) (sym is) tt)
 kept_by_retain T each f (e ∷ es) kept (b, w, f', rest, called, more, is) = search (arith, cond, nat_cmp, kept_by_retain T each f' es rest more)
 
--- what is quiet stays so under labels that coarsen
+-- links that are live stay so under labels that coarsen
 pub under_coarser : (labels finer : List ℕ) (shards : List (ℕ × KeptShardState)) → Coarsens labels finer → AreAllUnder finer shards → AreAllUnder labels shards
 under_coarser labels finer shards coarsens all s = search (arith, nat_cmp, kept_coarser)
 
--- a number is found by itself alone
+-- a number is found only by itself
 at_key : (n q : ℕ) → is_at (nat_cmp n) q ≡ (q == n)
 at_key n q = search (arith, cases_eq, eq-eqb, cases_lt, ne_eqb)
 
 module _ (old new : List (ℕ × KeptShardState)) (number : ℕ) (kept : KeptShardState)
     (inserted : (q : ℕ) → lookup (is_at (nat_cmp q)) new ≡ cond (is_at (nat_cmp number) q) (Some kept) (lookup (is_at (nat_cmp q)) old)) where
-  -- a shard is kept in place of an earlier one
+  -- a shard is stored and replaces an earlier one
   pub shelf_inserted : shelf_of (shelf_list new) ≡ shelf_with (shelf_of (shelf_list old)) (ShardFrame number kept.links)
   shelf_inserted = λ i s. at s i
     where
@@ -75,11 +75,11 @@ module _ (old new : List (ℕ × KeptShardState)) (number : ℕ) (kept : KeptSha
       at s = shelf_at new s ∙ ap (λ o. option_map links_of o) (inserted s) ∙ go s (is_at (nat_cmp number) s)
           ∙ ap (λ (b : Bool). cond b (Some kept.links) (shelf_of (shelf_list old) s)) (at_key number s)
 
-  -- one all of whose links are live
+  -- a shard all of whose links are live
   pub under_inserted : (labels : List ℕ) → IsAllLive kept → AreAllUnder labels old → AreAllUnder labels new
   under_inserted labels live all s = search (arith, nat_cmp, cond)
 
--- where memory was wanting for a reply, code 1 may stand in its place
+-- if there was no memory for a reply, code 1 may replace it
 pub may_reply : {A E : Type 0} (kept : Option (List Link)) (round shard : ℕ) (labels : List ℕ) (result : Result (Frame A) E) (v : Frame A) → Replies kept round shard labels result
     → IfOk result (λ reply. v ≡ reply) → OnErr result (value_of v ≡ FaultFrame round shard 1) → MayReply kept round shard labels (value_of v)
 may_reply a1 a2 a3 a4 a5 a6 a7 a8 a9 = search arith

@@ -24,7 +24,7 @@ use Rattle.worker_engine.specs.Served.{answers_in, faults_in, HeardFrames, Serve
 use Rattle.worker_replies.proofs.Versions.{this_version, all_heard}
 use Rattle.worker_replies.proofs.Replying.{replies_more, shelf_after-append}
 
--- whole lawful frames were heard, and what is owed for them was written
+-- whole lawful frames were read, and what is owed for them was written
 pub record SoFar (worker : ℕ) (shelf : Shelf) (served : Served) (source source' : SourceState) (sink sink' : SinkState) : Type 0 where
   pub frames : List FrameValue
   pub replies : List FrameValue
@@ -61,7 +61,7 @@ pub faults-append : (fs gs : List FrameValue) → faults_in (fs ++ gs) ≡ fault
 faults-append [] gs = omega arith
 faults-append (f ∷ fs) gs = omega (arith, faults-append fs gs)
 
--- a frame more, with the replies to it
+-- another frame, with the replies to it
 answered_more : (frames before now : List FrameValue) (shelf : Shelf) (v : FrameValue) → AreReplies empty_shelf frames before → shelf ≡ shelf_after empty_shelf frames
     → MayFollow shelf v now → AreReplies empty_shelf (frames ++ v ∷ []) (before ++ now)
 answered_more frames before now shelf v answered shelf_is may = replies_more frames before now v answered (subst (λ (s : Shelf). MayFollow s v now) shelf_is may)
@@ -79,7 +79,7 @@ module _ (worker : ℕ) (source source' source'' : SourceState) (sink sink' sink
     took = so_far.took;
   }
 
-  -- no frame was read
+  -- no frame could be read
   pub ends_at_read : (shelf : Shelf) (served : Served) (fault : FrameFault) → fault ≢ Ended → SoFar worker shelf served source source' sink sink' → IsReadRefused fault source' source''
       → EndsAtRead worker fault source source'' sink sink'
   ends_at_read shelf served fault inside so_far refused = record {
@@ -100,7 +100,7 @@ module _ (worker : ℕ) (source source' source'' : SourceState) (sink sink' sink
     took = so_far.took;
   }
 
-  -- one more frame came
+  -- another frame came
   gave_frame : (frames : List FrameValue) (v : FrameValue) → Gave 0 0 (texts_of frames) source source' → Gave 0 0 (text_of v) source' source'' → Gave 0 0 (texts_of (frames ++ v ∷ [])) source source''
   gave_frame frames v first second = search (arith, texts-one, texts-append, gave_more)
 
@@ -109,7 +109,7 @@ module _ (worker : ℕ) (source source' source'' : SourceState) (sink sink' sink
   more_owed replies now = append_assoc (text_of (HelloFrame VERSION worker)) (texts_of replies) (texts_of now)
       ∙ ap (λ (t : List ℕ). text_of (HelloFrame VERSION worker) ++ t) (sym (texts-append replies now))
 
-  -- and was heard
+  -- and was taken
   pub so_far_more : (shelf shelf' : Shelf) (served served' : Served) (replies : List FrameValue) (written : Written)
       → SoFar worker shelf served source source' sink sink' → HearsNext replies shelf shelf' source' source'' → WroteFor replies written sink' sink''
       → served'.frames ≡ served.frames + 1 → CountsReplies written served served' → SoFar worker shelf' served' source source'' sink sink''
@@ -143,7 +143,7 @@ module _ (worker : ℕ) (source source' source'' : SourceState) (sink sink' sink
             (took_more 1 first (take cut.count (texts_of replies)) sink sink' sink'' so_far.took cut.took);
       }
 
-  -- or it was a shard that there was no memory to keep
+  -- or it was a shard for which there was no memory
   pub ends_at_shard : (shelf : Shelf) (served : Served) (v : FrameValue) → IsShardFrame v → IsLawful v → SoFar worker shelf served source source' sink sink' → Gave 0 0 (text_of v) source' source''
       → EndsAtMemory worker source source'' sink sink'
   ends_at_shard shelf served (ShardFrame number links) is lawful so_far came =
@@ -161,7 +161,7 @@ module _ (worker : ℕ) (source source' source'' : SourceState) (sink sink' sink
   ends_at_shard shelf served (AnswerFrame a) is lawful so_far came = absurd is
   ends_at_shard shelf served (FaultFrame a b c) is lawful so_far came = absurd is
 
--- nothing was heard yet
+-- no frame was read yet
 pub so_far_starts : (worker : ℕ) (served : Served) (source : SourceState) (sink sink' : SinkState) → served.frames ≡ 0 → served.answers ≡ 0 → served.faults ≡ 0
     → Gave 0 0 [] source source → Took 0 (text_of (HelloFrame VERSION worker)) sink sink' → SoFar worker empty_shelf served source source sink sink'
 so_far_starts worker served source sink sink' frames answers faults gave took = search (arith, append-nil)
@@ -186,7 +186,7 @@ ends_at_hello worker limit Memory source sink sink' gave took = record {
   took = took;
 }
 
--- ---- by what a call answers
+-- ---- by what a call returns
 
 -- the one reply was written
 pub wrote_one : (v : FrameValue) (w : Written) (s s' : SinkState) → IsSortOf w (v ∷ []) → Took 0 (text_of v) s s' → WroteFor (v ∷ []) w s s'
@@ -206,7 +206,7 @@ pub cut_fault : (result : Result Written ServeFault) (r t k : ℕ) (s s' : SinkS
 cut_fault (Ok w) r t k s s' cut = tt
 cut_fault (Err e) r t k s s' cut = cut_one (FaultFrame r t k) s s' cut
 
--- no frame was heard
+-- no frame was taken
 module _ (worker limit : ℕ) (source source' source'' : SourceState) (sink sink' : SinkState) (shelf : Shelf) (served : Served) (so_far : SoFar worker shelf served source source' sink sink') where
   pub stops_well : (fault : ServeFault) (result : Result Served ServeFault) → HearsNone fault source' source'' → IfOk result (λ counts. (counts ≡ served) × (fault ≡ Read Ended))
       → IfOk result (λ counts. ServesToEnd worker counts source source'' sink sink')
@@ -225,7 +225,7 @@ module _ (worker limit : ℕ) (source source' source'' : SourceState) (sink sink
       → IfErr result (λ why. EndsBy worker limit why source source'' sink sink')
   stops_by a1 a2 a3 a4 = search (arith, ends_by)
 
-  -- a write failed behind one that was
+  -- a write failed after one that succeeded
   pub cuts_by : (shelf' : Shelf) (replies : List FrameValue) (sink'' : SinkState) (fault : ServeFault)
       → HearsNext replies shelf shelf' source' source'' → fault ≡ Write → CutOff (texts_of replies) sink' sink''
       → EndsBy worker limit fault source source'' sink sink''

@@ -1,4 +1,4 @@
--- How a session ends: what the source gave it, and what the sink took.
+-- How a session ends: what was read from the source, and what was written to the sink.
 use Rattle.std.specs.Prelude.{◌≡◌, ◌≢◌, ℕ, ◌+◌, ◌<◌, ◌⊎◌, List, [], ◌∷◌, ◌++◌, length, take}
 use Rattle.std.specs.List.{flat_map}
 use Rattle.byte_streams.specs.Streams.{SourceState, Gave, SinkState, Took}
@@ -37,27 +37,27 @@ abbrev pub faults_in : List FrameValue → ℕ
 faults_in [] = 0
 faults_in (v ∷ frames) = fault_bit v + faults_in frames
 
--- the whole lawful frames that a session of this version heard, and what it owes for them
+-- the whole lawful frames that a session of this version read, and what it owes for them
 pub record HeardFrames (worker : ℕ) : Type 0 where
   pub frames : List FrameValue
   pub lawful : AreLawful frames
   pub out : List ℕ
   pub serves : Serves VERSION worker (texts_of frames) out
 
--- the counts are those of the frames heard, and of the answers and faults owed
+-- the counts are those of the frames that were read, and of the answers and faults that are owed
 pub record AreCounts (worker : ℕ) (heard : HeardFrames worker) (served : Served) : Type 0 where
   pub frames : served.frames ≡ length heard.frames
   pub answers : served.answers ≡ answers_in heard.serves.replies
   pub faults : served.faults ≡ faults_in heard.serves.replies
 
--- the source ended behind whole lawful frames, and what is owed for them was written
+-- the source ended after whole lawful frames, and what is owed for them was written
 pub record ServesToEnd (worker : ℕ) (served : Served) (source source' : SourceState) (sink sink' : SinkState) : Type 0 where
   pub heard : HeardFrames worker
   pub counts : AreCounts worker heard served
   pub gave : Gave 0 1 (texts_of heard.frames) source source'
   pub took : Took 0 heard.out sink sink'
 
--- no frame was read behind those that were heard, and what is owed for these was written
+-- no frame could be read after those that were, and what is owed for these was written
 pub record EndsAtRead (worker : ℕ) (fault : FrameFault) (source source' : SourceState) (sink sink' : SinkState) : Type 0 where
   pub heard : HeardFrames worker
   pub bytes : List ℕ
@@ -78,7 +78,8 @@ pub record EndsAtWrite (worker : ℕ) (source source' : SourceState) (sink sink'
 abbrev pub EndWithShard : List FrameValue → Type 0
 EndWithShard frames = (before : List FrameValue) × (number : ℕ) × (links : List Link) × (frames ≡ before ++ ShardFrame number links ∷ [])
 
--- memory was wanting for the hello, of which nothing was written then, or for a shard: what is owed was written
+-- There was no memory for the hello, and nothing was written; or there was none for a shard, and what is owed was
+-- written.
 pub record EndsAtMemory (worker : ℕ) (source source' : SourceState) (sink sink' : SinkState) : Type 0 where
   pub heard : HeardFrames worker
   pub written : List ℕ
@@ -87,14 +88,14 @@ pub record EndsAtMemory (worker : ℕ) (source source' : SourceState) (sink sink
   pub gave : Gave 0 0 (texts_of heard.frames) source source'
   pub took : Took 0 written sink sink'
 
--- as many frames as the limit were heard, and what is owed for them was written
+-- as many frames as the limit were read, and what is owed for them was written
 pub record EndsAtLimit (worker limit : ℕ) (source source' : SourceState) (sink sink' : SinkState) : Type 0 where
   pub heard : HeardFrames worker
   pub all : length heard.frames ≡ limit
   pub gave : Gave 0 0 (texts_of heard.frames) source source'
   pub took : Took 0 heard.out sink sink'
 
--- how a session ends that doesn't end well
+-- how a session ends with an error
 abbrev pub EndsBy : ℕ → ℕ → ServeFault → SourceState → SourceState → SinkState → SinkState → Type 0
 EndsBy worker limit (Read fault) source source' sink sink' = EndsAtRead worker fault source source' sink sink'
 EndsBy worker limit Write source source' sink sink' = EndsAtWrite worker source source' sink sink'
@@ -103,13 +104,13 @@ EndsBy worker limit TooMany source source' sink sink' = EndsAtLimit worker limit
 
 -- ---- one frame
 
--- the frames are of the sort that was written: none, an answer, or a fault
+-- the frames are of the kind that was written: none, an answer, or a fault
 abbrev pub IsSortOf : Written → List FrameValue → Type 0
 IsSortOf Nothing now = now ≡ []
 IsSortOf AnAnswer now = (length now ≡ 1) × (answers_in now ≡ 1) × (faults_in now ≡ 0)
 IsSortOf AFault now = (length now ≡ 1) × (answers_in now ≡ 0) × (faults_in now ≡ 1)
 
--- the counts of answers and faults went up by those of what was written
+-- the counts of answers and faults rose by what was written
 abbrev pub CountsReplies : Written → Served → Served → Type 0
 CountsReplies written served served' = (now : List FrameValue) → IsSortOf written now
     → (served'.answers ≡ served.answers + answers_in now) × (served'.faults ≡ served.faults + faults_in now)
@@ -118,7 +119,7 @@ CountsReplies written served served' = (now : List FrameValue) → IsSortOf writ
 abbrev pub AreAnswersOrFaults : List FrameValue → Type 0
 AreAnswersOrFaults replies = answers_in replies + faults_in replies ≡ length replies
 
--- the next frame came and was heard, and these may be written for it
+-- the next frame came and was taken, and these replies may be written for it
 pub record HearsNext (replies : List FrameValue) (shelf shelf' : Shelf) (source source' : SourceState) : Type 0 where
   pub v : FrameValue
   pub lawful : IsLawful v
@@ -126,24 +127,24 @@ pub record HearsNext (replies : List FrameValue) (shelf shelf' : Shelf) (source 
   pub kept : shelf' ≡ shelf_with shelf v
   pub may : MayFollow shelf v replies
 
--- no frame was heard: none could be read, or a shard came that there was no memory to keep
+-- no frame was taken: none could be read, or there was no memory to store a shard
 abbrev pub HearsNone : ServeFault → SourceState → SourceState → Type 0
 HearsNone (Read fault) source source' = IsReadRefused fault source source'
 HearsNone Memory source source' = (v : FrameValue) × IsShardFrame v × IsLawful v × Gave 0 0 (text_of v) source source'
 HearsNone fault source source' = ⊥
 
--- the replies were written, and are of this sort
+-- the replies were written, and are of this kind
 pub record WroteFor (replies : List FrameValue) (written : Written) (sink sink' : SinkState) : Type 0 where
   pub sort : IsSortOf written replies
   pub took : Took 0 (texts_of replies) sink sink'
 
--- less than a text was written, and then a write failed
+-- a write failed after less than the text was written
 pub record CutOff (text : List ℕ) (sink sink' : SinkState) : Type 0 where
   pub count : ℕ
   pub short : count < length text
   pub took : Took 1 (take count text) sink sink'
 
--- a head was written, and offers behind it; the rest of them wasn't
+-- a head was written, and the first offers after it; the rest of them wasn't
 pub record WroteSome (head : List ℕ) (offers rest : List Offer) (sink sink' : SinkState) : Type 0 where
   pub first : List Offer
   pub split : offers ≡ first ++ rest

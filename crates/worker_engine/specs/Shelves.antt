@@ -1,4 +1,4 @@
--- What a worker keeps, and which of its links are live.
+-- What a worker stores, and which of its links are live.
 use Rattle.std.specs.Prelude.{◌≡◌, ℕ, ◌≤◌, List, length, map, Option, Some, IfSome, IsSome, Result, IfOk, OnOk, OnErr}
 use Rattle.std.specs.Ordering.{nat_cmp}
 use Rattle.std.specs.BTreeMap.{is_at}
@@ -13,35 +13,35 @@ use Rattle.frames.specs.FrameStream.{AreLawful}
 use Rattle.shard_scans.specs.Live.{KeptShardState, AreOffersOf, IsLive, IsAllLive}
 use Rattle.worker_replies.specs.Serving.{ShelfList, shelf_of, shelf_with, IsReply, MayWantMemory, AreReplyTo, replies_in}
 
--- what is kept, without what is live of it
+-- the links that are stored, whichever are live
 abbrev pub shelf_list : List (ℕ × KeptShardState) → ShelfList
 shelf_list shards = map (λ (entry : ℕ × KeptShardState). (entry.0, entry.1.links)) shards
 
--- of each shard the live links are so under these labels
+-- the live links of each shard are live under these labels
 abbrev pub AreAllUnder : List ℕ → List (ℕ × KeptShardState) → Type 0
 AreAllUnder labels shards = (s : ℕ) → IfSome (lookup (is_at (nat_cmp s)) shards) (IsLive labels)
 
--- all links of all shards are live
 abbrev pub AreAllLive : List (ℕ × KeptShardState) → Type 0
 AreAllLive shards = (s : ℕ) → IfSome (lookup (is_at (nat_cmp s)) shards) IsAllLive
 
--- the frame replies to an ask of any shard whose links have these offers under its labels, and is lawful
+-- The frame is a lawful reply to an ask about any shard whose links have these offers under its labels.
 abbrev pub IsReplyWith : ℕ → ℕ → Option (List Offer) → FrameValue → Type 0
 IsReplyWith round shard offers v = (links : List Link) (labels : List ℕ) → length links ≤ MAX_SHARD_LINKS → IsAsk round shard labels
     → AreOffersOf links labels offers → IsReply (Some links) round shard labels v × IsLawful v
 
--- the shards keep their links, and their live links are so under these labels
+-- the shards have the same links as before, and their live links are live under these labels
 pub record KeepsShards (labels : List ℕ) (before after : List (ℕ × KeptShardState)) : Type 0 where
   pub shelf : shelf_list after ≡ shelf_list before
   pub live : AreAllUnder labels after
 
--- an ask of a shard under which these links are kept got its reply, a lawful one; or memory was wanting, for links that are kept
+-- An ask about a shard for which these links are stored got its lawful reply; or there was no memory, and links are
+-- stored.
 pub record Replies {A E : Type 0} (kept : Option (List Link)) (round shard : ℕ) (labels : List ℕ) (result : Result (Frame A) E) : Type 0 where
   pub reply : IfOk result (λ reply. IsReply kept round shard labels (value_of reply))
   pub lawful : IfOk result (λ reply. IsLawful (value_of reply))
   pub is_kept : OnErr result (IsSome kept)
 
--- a frame was heard: a shard is kept and an ask got its reply, a lawful one; or memory was wanting, and nothing changed
+-- A frame was taken: a shard is stored, or an ask got its lawful reply. Or there was no memory, and nothing changed.
 pub record Hears {A E : Type 0} (v : FrameValue) (result : Result (Option (Frame A)) E) (before after : ShelfList) : Type 0 where
   pub shelf : OnOk result (shelf_of after ≡ shelf_with (shelf_of before) v)
   pub reply : IfOk result (λ reply. AreReplyTo (shelf_of before) v (replies_in reply))

@@ -1,4 +1,4 @@
-//! A worker's engine: it keeps shards and replies to asks.
+//! A worker's engine, which stores shards and replies to asks.
 ghost use Rattle.std.specs.Prelude.{◌≡◌, [], IfOk, OnOk, OnErr, true};
 ghost use Rattle.frames.specs.FrameValue.{value_of, ShardFrame, FaultFrame};
 ghost use Rattle.frames.specs.Lawful.{IsLawful, IsShard, IsAsk};
@@ -17,25 +17,25 @@ use std::alloc::{AllocError, Allocator, Global};
 use std::collections::BTreeMap;
 use std::marker::Model;
 
-/// The code of a fault for want of memory.
+/// The code of a fault if the worker is out of memory.
 pub const NO_MEMORY: u8 = 1;
 
-/// The code of a fault for a shard that isn't kept.
+/// The code of a fault for a shard that isn't stored.
 pub const NOT_KEPT: u8 = 2;
 
-/// The code of a fault for a link whose end has no label.
+/// The code of a fault for a link with an endpoint that has no label.
 pub const NO_LABEL: u8 = 3;
 
-/// What a worker keeps between frames: the last shard that it heard under each number, and the table of its last
-/// scan. Contracts see which links it keeps under which number.
+/// What a worker stores between frames: the last shard that it got under each number, and the tables of its last scan.
+/// Contracts see which links are stored under which number.
 ///
-/// Each shard is a [`KeptShard`], whose docs say what a scan of it takes, and what the list of its live links; one scanner's
-/// table serves for all. It keeps the labels of the last ask too, 4 bytes a vertex. Where the labels of an ask don't coarsen
-/// them, the lists are given back, and all links are live again.
+/// Each shard is a [`KeptShard`], whose documentation says how much memory it takes. All shards are scanned by one
+/// scanner. The engine also stores the labels of the last ask, 4 bytes per vertex. If the labels of an ask don't
+/// coarsen them, the lists of live links are freed, and all links are live again.
 #[derive(Drop)]
 pub struct Engine<A: Allocator = Global> {
     shards: BTreeMap<u32, KeptShard<A>, A>,
-    // those of the last ask; at first of no vertices
+    // the labels of the last ask, and at first those of no vertices
     labels: Labels<A>,
     scanner: Scanner<A>,
 }
@@ -52,7 +52,7 @@ impl<A: Allocator> Model for Engine<A> {
 }
 
 impl<A: Allocator + Copy> Engine<A> {
-    /// An engine that keeps nothing. It takes no memory.
+    /// An engine that stores nothing. It allocates nothing.
     pub fn new(alloc: A) -> Self
         ensures empty { result ≡ [] }
     {
@@ -63,16 +63,16 @@ impl<A: Allocator + Copy> Engine<A> {
         }
     }
 
-    /// Hears one frame, and gives the reply to it: one to an ask, none to any other frame.
+    /// Takes one frame, and returns the reply to it: one to an ask, and `None` for any other frame.
     ///
-    /// A shard is kept under its number, in place of an earlier one; its list is kept as it is, without a copy. An
-    /// ask is answered by the light offers of its shard, or by a fault: [`NOT_KEPT`] where no such shard is kept,
-    /// else [`NO_LABEL`] where an end of a link is greater than the number of labels.
+    /// A shard is stored under its number, without a copy, and replaces an earlier one. The reply to an ask is the
+    /// answer with the light offers of its shard, or a fault: [`NOT_KEPT`] if no such shard is stored, and otherwise
+    /// [`NO_LABEL`] if an endpoint of a link is greater than the number of labels.
     ///
-    /// An ask costs a scan, memory for the offers, and 4 bytes for each label that the shard's live links have, for their names;
-    /// the first of a shard its list of live links, and a later one 4 bytes for each label that they had before, until it is
-    /// answered. The table of the scan and the marks are used again. The only error is want of memory, for a shard or for an ask
-    /// of a shard that is kept; the engine is unchanged then.
+    /// An ask takes the time of a scan, memory for the offers, and 4 bytes per label that the shard's live links have.
+    /// The first ask about a shard also makes the list of its live links. A later one takes 4 bytes per label that they
+    /// had before, until it returns. The scanner's tables are reused. The call fails only if it is out of memory, for a
+    /// shard or for an ask about a stored shard; the engine is unchanged then.
     pub fn hear(&mut self, frame: Frame<A>) -> Result<Option<Frame<A>>, AllocError>
         requires lawful { IsLawful (value_of frame) }
         ensures hears { Hears (value_of frame) result self.old self.new }
@@ -94,7 +94,7 @@ impl<A: Allocator + Copy> Engine<A> {
         }
     }
 
-    // Keeps a shard's links under its number, in place of earlier ones.
+    // Stores a shard's links under its number, and replaces earlier ones.
     fn keep(&mut self, number: u32, links: Links<A>) -> Result<(), AllocError>
         requires { IsShard number links }
         ensures kept { OnOk result (shelf_of self.new ≡ shelf_with (shelf_of self.old) (ShardFrame number links)) }
@@ -105,7 +105,7 @@ impl<A: Allocator + Copy> Engine<A> {
         Ok(())
     }
 
-    // The reply to an ask, whose labels are kept.
+    // Replies to an ask, and stores its labels.
     fn reply(&mut self, ask: Ask, labels: Labels<A>) -> Result<Frame<A>, AllocError>
         requires { IsAsk ask.round ask.shard labels }
         ensures replies { Replies (shelf_of self.old ask.shard) ask.round ask.shard labels result }
@@ -117,7 +117,6 @@ impl<A: Allocator + Copy> Engine<A> {
     }
 }
 
-// An ask, without its labels.
 #[derive(Clone, Copy)]
 struct Ask {
     round: u32,
@@ -125,7 +124,7 @@ struct Ask {
 }
 
 impl Ask {
-    // The reply with these offers; a fault where an end of a link has no label.
+    // The reply with these offers, or a fault if an endpoint of a link has no label.
     fn reply_with<A: Allocator>(self, offers: Option<Offers<A>>) -> Frame<A>
         ensures { IsReplyWith self.round self.shard offers (value_of result) }
     {
@@ -140,7 +139,7 @@ impl Ask {
         }
     }
 
-    // This reply to it; where it found no memory, a fault that says so.
+    // This reply, or a fault if there was no memory for it.
     fn reply_or_fault<A: Allocator>(self, reply: Result<Frame<A>, AllocError>) -> Frame<A>
         ensures reply { IfOk reply (λ reply. result ≡ reply) }
         ensures fault { OnErr reply (value_of result ≡ FaultFrame self.round self.shard 1) }
@@ -151,7 +150,6 @@ impl Ask {
         }
     }
 
-    // A fault of it.
     fn fault<A: Allocator>(self, code: u8) -> Frame<A>
         ensures { value_of result ≡ FaultFrame self.round self.shard code }
     {
@@ -163,7 +161,7 @@ impl Ask {
     }
 }
 
-// The reply to an ask under the labels that the shards are live under.
+// The reply to an ask under the labels under which the stored links are live.
 fn reply_under<A: Allocator + Copy>(
     shards: &mut BTreeMap<u32, KeptShard<A>, A>,
     scanner: &mut Scanner<A>,
@@ -182,7 +180,7 @@ fn reply_under<A: Allocator + Copy>(
     Ok(ask.reply_with(offers))
 }
 
-// Makes all links of all shards live, but where labels coarsen those that the shards are live under.
+// Makes all links of all shards live, unless the labels coarsen those under which they are live.
 fn make_live<A: Allocator>(
     shards: &mut BTreeMap<u32, KeptShard<A>, A>,
     labels: &Labels<A>,
@@ -197,7 +195,6 @@ fn make_live<A: Allocator>(
     }
 }
 
-// Makes all links of all shards live.
 fn make_all_live<A: Allocator>(shards: &mut BTreeMap<u32, KeptShard<A>, A>)
     ensures shelf { shelf_list shards.new.entries ≡ shelf_list shards.old.entries }
     ensures live { AreAllLive shards.new.entries }

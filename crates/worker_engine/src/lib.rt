@@ -1,5 +1,5 @@
-//! A worker's engine: what it answers of the shards that it keeps, and a session over a stream of frames. How a shard is
-//! scanned stands in `shard_scans`, whose scans are lent on.
+//! A worker's engine, which replies to asks about the shards that it stores, and a session over a stream of frames. The
+//! crate `shard_scans` scans a shard; its functions are re-exported here.
 //!
 //! ```text
 //!   Source --read_next--> NextFrame --Engine::hear_next--> reply --answer_head, put_offers, fault_bytes, put--> Sink
@@ -8,14 +8,15 @@
 //! ```
 //!
 //! What it promises:
-//! - [`Engine::hear`], by threads [`Engine::hear_par`], keeps a shard in place of an earlier one of its number, replies to
-//!   an ask by what it keeps, and changes nothing at another frame or without memory.
-//! - [`serve`] writes what a session of [`frames::VERSION`] owes for the frames of a stream, or a prefix of that where
-//!   it ends early; a longer stream owes no other beginning, in whichever version ([`worker_replies::laws`]).
+//! - [`Engine::hear`], or [`Engine::hear_par`] by threads, stores a shard, which replaces an earlier one of its number,
+//!   and replies to an ask by what is stored. It changes nothing at another frame, or if it is out of memory.
+//! - [`serve`] writes what a session of [`frames::VERSION`] owes for the frames of a stream, or a prefix of that if it
+//!   ends early. A longer stream owes no other beginning, in any version ([`worker_replies::laws`]).
 //!
-//! Where to start a change: what may be written for a stream stands in `worker_replies`, over whole streams, what is kept, and
-//! what of it is live, in `specs/Shelves`, and how a session ends in `specs/Served`. `engine` keeps and replies, `session`
-//! reads and writes.
+//! Where to make a change:
+//! - What may be written for a whole stream is in `worker_replies`.
+//! - What is stored, and which links are live, is in `specs/Shelves`, and how a session ends is in `specs/Served`.
+//! - `engine` stores and replies, and `session` reads and writes.
 #![tactic(auto)]
 
 mod engine;

@@ -1,4 +1,4 @@
-//! A worker's session: frames from a source, replies to a sink.
+//! A worker's session, which reads frames from a source and writes replies to a sink.
 ghost use Rattle.std.specs.Prelude.{◌≡◌, ◌≢◌, ◌+◌, ◌-◌, ◌*◌, ◌<◌, ◌≤◌, ◌^◌, ◌++◌, IfOk, IfErr, OnOk, OnErr, length};
 ghost use Rattle.std.specs.List.{flat_map};
 ghost use Rattle.byte_streams.specs.Streams.{Took};
@@ -21,40 +21,37 @@ use std::alloc::Allocator;
 use std::thread::Threads;
 use thiserror::Error;
 
-/// What a session heard and wrote.
+/// What a session read and wrote.
 #[derive(Clone, Copy, Debug, PartialEq, Eq)]
 pub struct Served {
-    /// How many frames were heard.
+    /// How many frames were read.
     pub frames: u64,
 
-    /// How many answers were written.
     pub answers: u64,
 
-    /// How many faults were written.
     pub faults: u64,
 }
 
-/// Why a session ended before its stream did. It is over then.
+/// Why a session ended before its stream did.
 #[derive(Clone, Copy, Debug, PartialEq, Eq, Error)]
 pub enum ServeFault {
-    /// No whole lawful frame could be read; never that the stream ended before one.
+    /// No whole lawful frame could be read. It is never `Ended`, since a session succeeds then.
     #[error("{0}")]
     Read(FrameFault),
 
-    /// A write failed, or took nothing.
+    /// A write failed, or wrote nothing.
     #[error("write failed")]
     Write,
 
-    /// There was no memory for the hello, or to keep a shard.
+    /// There was no memory for the hello, or for a shard.
     #[error("no memory")]
     Memory,
 
-    /// As many frames as the limit were heard.
+    /// As many frames as the limit were read.
     #[error("too many frames")]
     TooMany,
 }
 
-// What was written for a frame.
 #[derive(Clone, Copy)]
 pub(crate) enum Written {
     Nothing,
@@ -62,18 +59,22 @@ pub(crate) enum Written {
     AFault,
 }
 
-/// A worker's session that hears at most `frames` frames.
+/// Runs a worker's session that reads at most `frames` frames.
 ///
-/// It writes the hello of `worker`, of [`VERSION`](frames::VERSION), and then hears frame after frame, of each kind that this
-/// version has, and writes one reply to each ask, until the source ends before a frame. It scans for a shard's first ask by
-/// threads, if [`scan_par`](crate::scan_par) would, and else as [`Engine`] says. An ask whose scan finds no memory
-/// is replied to by a fault with the code [`NO_MEMORY`](crate::NO_MEMORY), which takes none, and the session goes on.
+/// It writes the hello of `worker`, with [`VERSION`](frames::VERSION). Then it reads frame after frame, and writes one
+/// reply to each ask, until the source ends before a frame. The first scan of a shard is done by threads if there are
+/// enough links for [`scan_par`](crate::scan_par). If there is no memory for a scan, the reply is a fault with the code
+/// [`NO_MEMORY`](crate::NO_MEMORY), which needs none, and the session goes on.
 ///
-/// `Read` where no whole lawful frame could be read, `Write` at the first write that fails or takes nothing,
-/// `Memory` where the hello couldn't be made or a shard not be kept, `TooMany` once `frames` frames were heard,
-/// without a further read. Nothing is flushed. It holds one frame and one reply at a time beside what its
-/// [`Engine`] keeps. An answer goes out by writes of at most 65,536 bytes, made one after the other in one buffer on the
-/// stack: its text takes no memory, and over a line the coordinator makes offers of one part while the next is made.
+/// It returns these errors:
+/// - `Read` if no whole lawful frame could be read.
+/// - `Write` at the first write that fails or writes nothing.
+/// - `Memory` if there is no memory for the hello or for a shard.
+/// - `TooMany` after `frames` frames, without a further read.
+///
+/// It never flushes the sink. In addition to what its [`Engine`] stores, it has one frame and one reply in memory at a
+/// time. An answer is written by writes of at most 65,536 bytes, which are encoded one after the other in one buffer on
+/// the stack. So its text takes no memory, and the coordinator can decode one part while the next is encoded.
 pub fn serve_upto<R: Threads + Sync, A: Allocator + Copy + Send + Sync, S: Source, W: Sink>(
     rt: &R,
     alloc: A,
@@ -109,7 +110,7 @@ pub fn serve_upto<R: Threads + Sync, A: Allocator + Copy + Send + Sync, S: Sourc
     Err(ServeFault::TooMany)
 }
 
-/// A worker's session: [`serve_upto`] with at most 2^32 frames.
+/// Runs [`serve_upto`] with at most 2^32 frames.
 pub fn serve<R: Threads + Sync, A: Allocator + Copy + Send + Sync, S: Source, W: Sink>(
     rt: &R,
     alloc: A,
@@ -129,7 +130,7 @@ pub fn serve<R: Threads + Sync, A: Allocator + Copy + Send + Sync, S: Source, W:
     serve_upto(rt, alloc, worker, source, sink, 1 << 32)
 }
 
-// How a session ends where no frame was heard: well where the stream ended before one.
+// How a session ends if no frame was read. It succeeds if the stream ended before one.
 fn stopped(served: Served, fault: ServeFault) -> Result<Served, ServeFault>
     ensures over { IfOk result (λ counts. (counts ≡ served) × (fault ≡ Read Ended)) }
     ensures stops { IfErr result (λ why. (why ≡ fault) × (fault ≢ Read Ended)) }
@@ -169,7 +170,6 @@ impl Served {
     }
 }
 
-// Writes the hello of this version.
 fn greet<A: Allocator + Copy, W: Sink>(
     alloc: A,
     worker: u32,
@@ -191,7 +191,6 @@ fn greet<A: Allocator + Copy, W: Sink>(
     }
 }
 
-// Writes a whole text.
 fn write_whole<W: Sink>(sink: &mut W, text: &[u8]) -> Result<(), ServeFault>
     requires can { W.can_write sink.old }
     requires fits { length text.now < 2 ^ 64 }
@@ -206,7 +205,7 @@ fn write_whole<W: Sink>(sink: &mut W, text: &[u8]) -> Result<(), ServeFault>
     }
 }
 
-// Writes the reply to a frame, if there is one. It takes no memory.
+// Writes the reply to a frame, if there is one. It allocates nothing.
 fn write_reply<A: Allocator + Copy, W: Sink>(
     reply: Option<Frame<A>>,
     sink: &mut W,
@@ -232,7 +231,6 @@ fn write_reply<A: Allocator + Copy, W: Sink>(
     }
 }
 
-// Writes an answer.
 fn write_answer<A: Allocator, W: Sink>(sink: &mut W, answer: &Answer<A>) -> Result<(), ServeFault>
     requires few { length answer.now.offers ≤ 2 * MAX_SHARD_LINKS }
     requires can { W.can_write sink.old }
@@ -245,11 +243,11 @@ fn write_answer<A: Allocator, W: Sink>(sink: &mut W, answer: &Answer<A>) -> Resu
     write_offers(sink, &head, answer.offers.pairs())
 }
 
-// How many bytes of an answer go out by one write, at most.
+// The most bytes of an answer that are written at a time.
 const MOST: usize = 1 << 16;
 
-// Writes a head and the offers behind it, by writes of at most 64 KiB. An answer of few offers is one write, for a socket
-// sends each at once, and two would wake the coordinator twice.
+// Writes a head and the offers after it, by writes of at most 64 KiB. An answer with few offers is one write, since a
+// socket sends each write at once, and two would wake the coordinator twice.
 fn write_offers<W: Sink>(sink: &mut W, head: &[u8], offers: &[(u32, u32)]) -> Result<(), ServeFault>
     requires short { length head.now ≤ ANSWER_HEAD }
     requires can { W.can_write sink.old }
@@ -266,7 +264,7 @@ fn write_offers<W: Sink>(sink: &mut W, head: &[u8], offers: &[(u32, u32)]) -> Re
     Ok(())
 }
 
-// Writes a head and as many offers behind it as the buffer has room for. It answers the others.
+// Writes a head and as many offers after it as the buffer can take, and returns the other offers.
 fn write_piece<'a, W: Sink>(
     sink: &mut W,
     buffer: &mut [u8],
@@ -292,7 +290,7 @@ fn write_piece<'a, W: Sink>(
     Ok(rest)
 }
 
-// Makes the bytes of a head and of the offers behind it.
+// Encodes a head and the offers after it.
 fn fill_piece(text: &mut [u8], head: &[u8], offers: &[(u32, u32)])
     requires { length text.old ≡ length head.now + 8 * length offers.now }
     ensures { text.new ≡ head.now ++ flat_map offer_text offers.now }
@@ -302,7 +300,6 @@ fn fill_piece(text: &mut [u8], head: &[u8], offers: &[(u32, u32)])
     put_offers(behind, offers);
 }
 
-// Writes a fault.
 fn write_fault<W: Sink>(
     sink: &mut W,
     round: u32,

@@ -1,4 +1,4 @@
--- Light offers of a shard are such as an answer may say.
+-- The light offers of a shard are lawful in an answer.
 use Rattle.std.proofs.Common.{◌≡◌, ℕ, ◌*◌, ◌<◌, ◌≤◌, List, ◌++◌, length, map, get_or, Contains, sym, ap, ◌∙◌, subst, inl, inr, arith, length-append}
 use Rattle.std.specs.Prelude.{All, ◌^◌}
 use Rattle.std.specs.List.{IsDistinct}
@@ -22,7 +22,7 @@ use Rattle.std.specs.Cmp.{IsEquivalence}
 use Rattle.std.proofs.lemmas.Bool.{eqb-true, eq-eqb, ne_eqb}
 use Rattle.std.proofs.lemmas.Bool.Decides.{eqb_tells}
 
--- numbers are told apart by `==`
+-- `==` distinguishes numbers
 numbers_apart : IsEquivalence eqb
 numbers_apart = search (arith, eq-eqb, eqb_tells, ne_eqb, eqb, eqb-true)
 
@@ -30,7 +30,6 @@ Contains-map : {X Y : Type 0} (f : X → Y) (xs : List X) (x : X) → Contains x
 Contains-map f xs x (k, lt, here) = (k, omega (arith, lt, length-map xs f), get_or-map f xs k x (f x) lt ∙ ap f here)
 
 module _ (links : List Link) (labels : List ℕ) (offers : List Offer) (are : AreLightOffers links labels offers) where
-  -- an offer is a light one
   light_at : (o : Offer) → Contains offers o → IsLightOffer links labels o.0 o.1
   light_at o o_in = (are.exact o.0 o.1).0 o_in
 
@@ -60,7 +59,7 @@ module _ (links : List Link) (labels : List ℕ) (offers : List Offer) (are : Ar
         | inr high ↦ subst (Contains ends) (sym high) (Contains-append_right _ _ _ (Contains-map (λ (m : Link). label_of labels m.high) links l least.member))
       ])
 
-  -- each component is the label of an end, and each has one offer: there are at most two offers for each link
+  -- Each component is the label of an endpoint and has one offer, so there are at most two offers per link.
   pub few_offers : length offers ≤ 2 * length links
   few_offers =
       let most = length-le_from_is_member numbers_apart components ends components_differ
@@ -74,14 +73,13 @@ module _ (links : List Link) (labels : List ℕ) (offers : List Offer) (are : Ar
         length-map links (λ (l : Link). label_of labels l.high),
       )
 
-  -- components are vertices, and places are those of links
+  -- components are vertices, and indices are those of links
   pub offers_fit : length links ≤ 2 ^ 24 → AreLabels labels → EndsUpTo (length labels) links → All (λ o. IsU32 o.0 × IsU32 o.1) offers
   offers_fit few all up_to k d lt =
       let (l, least, at) = light_at (get_or offers k d) (Contains-get_or offers k d lt) in
       let vertex = left_label_is_vertex labels l (get_or offers k d).0 all (set_ends (length labels) links up_to l least.member) least.leaves in
       (omega (arith, vertex.1, all.few_vertices), omega (arith, at.within, few))
 
--- an answer that says the light offers of a shard is lawful
 pub light_answer_is_lawful : (links : List Link) (labels : List ℕ) (answer : AnswerValue) → length links ≤ 2 ^ 24 → AreLabels labels → EndsUpTo (length labels) links
     → IsU32 answer.round → IsU32 answer.shard → AreLightOffers links labels answer.offers → IsAnswer answer
 light_answer_is_lawful links labels answer few all up_to round shard are = search (arith, few_offers, offers_fit)

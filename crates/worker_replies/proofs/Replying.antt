@@ -19,7 +19,7 @@ use Rattle.worker_replies.specs.Serving.{Shelf, empty_shelf, shelf_with, shelf_a
 use Rattle.worker_replies.proofs.Versions.{heard_more, heard_lawful}
 use Rattle.worker_replies.proofs.Offering.{light_answer_is_lawful}
 
--- what is written for frames that stand behind others comes behind what is written for those
+-- The replies to frames that follow others come after the replies to those.
 pub replies_split : (shelf : Shelf) (fs gs out : List FrameValue) → AreReplies shelf (fs ++ gs) out
     → (early late : List FrameValue) × (out ≡ early ++ late) × AreReplies shelf fs early × AreReplies (shelf_after shelf fs) gs late
 replies_split shelf [] gs out are = ([], out, refl, refl, are)
@@ -53,13 +53,14 @@ replies_count shelf (f ∷ fs) out are =
     let (now, later, split, heard, rest) = are in
     omega (arith, ap length split, length-append now later, reply_count shelf f now heard, replies_count (shelf_with shelf f) fs later rest)
 
--- where as many replies came as there were asks before the last frame, an ask, the next one is the reply to it, and the last
+-- If as many replies came as there were asks before the last frame, which is an ask, the next reply is the one to it
+-- and the last one.
 pub last_reply : (shelf : Shelf) (fs : List FrameValue) (round shard : ℕ) (labels : List ℕ) (came : List FrameValue) (v : FrameValue) (more : List FrameValue)
     → AreReplies shelf (fs ++ AskFrame round shard labels ∷ []) (came ++ v ∷ more) → length came ≡ asks_in fs
     → MayReply (shelf_after shelf fs shard) round shard labels v
 last_reply shelf fs round shard labels came v more are count = search (arith, replies_split, parts_same, replies_count)
 
--- what is written for a stream begins with what may be written for a prefix of it
+-- what may be written for a prefix of a stream is a prefix of what is written for the stream
 pub prefix_has_prefix_replies : (version worker : ℕ) (prefix rest out : List ℕ) → Serves version worker (prefix ++ rest) out
     → (early : List ℕ) × (late : List ℕ) × (out ≡ early ++ late) × Serves version worker prefix early
 prefix_has_prefix_replies version worker prefix rest out serves =
@@ -76,7 +77,7 @@ prefix_has_prefix_replies version worker prefix rest out serves =
       record { known = serves.known; frames = some; replies = early; came = are; answered = first; written = refl },
     )
 
--- one more frame is heard
+-- another frame is read
 pub replies_more : (fs out now : List FrameValue) (v : FrameValue) → AreReplies empty_shelf fs out → MayFollow (shelf_after empty_shelf fs) v now
     → AreReplies empty_shelf (fs ++ v ∷ []) (out ++ now)
 replies_more fs out now v are heard = replies_join empty_shelf fs (v ∷ []) out now are (now, [], sym (append-nil now), heard, refl)
@@ -93,7 +94,7 @@ reply_is_lawful a1 a2 a3 a4 a5 a6 a7 a8 = search (arith, fault_is_lawful, light_
 follow_is_lawful : (shelf : Shelf) (v : FrameValue) (now : List FrameValue) → AreShort shelf → IsLawful v → MayFollow shelf v now → AreLawful now
 follow_is_lawful a1 a2 a3 a4 a5 a6 = search (arith, reply_is_lawful)
 
--- a lawful shard is no longer than a shard may be
+-- a lawful shard has no more links than are allowed
 pub short_with : (shelf : Shelf) (v : FrameValue) → AreShort shelf → IsLawful v → AreShort (shelf_with shelf v)
 short_with a1 a2 a3 a4 a5 = search (arith, eqb_tells)
 
@@ -113,14 +114,14 @@ served_lawful version worker stream out serves = search (arith, replies_lawful, 
 abbrev answer_of : ℕ → ℕ → List Offer → AnswerValue
 answer_of round shard offers = record { round = round; shard = shard; offers = offers }
 
--- there is one answer
+-- there is only one answer
 pub one_answer : (links : List Link) (r s : ℕ) (ls : List ℕ) (a b : AnswerValue) → IsAnswerTo links r s ls a → IsAnswerTo links r s ls b → a ≡ b
 one_answer links r s ls a b is also =
     ap (λ (n : ℕ). answer_of n a.shard a.offers) (is.round_is ∙ sym also.round_is)
     ∙ ap (λ (n : ℕ). answer_of b.round n a.offers) (is.shard_is ∙ sym also.shard_is)
     ∙ ap (answer_of b.round b.shard) (light_offers_unique links ls a.offers b.offers is.light also.light)
 
--- the reply for a shard that is kept is an answer or code 3
+-- the reply about a stored shard is an answer or code 3
 pub kept_reply : (links : List Link) (r s : ℕ) (ls : List ℕ) (v : FrameValue) → IsReply (Some links) r s ls v
     → ((a : AnswerValue) × (v ≡ AnswerFrame a) × IsAnswerTo links r s ls a) ⊎ ((v ≡ FaultFrame r s 3) × ¬ EndsUpTo (length ls) links)
 kept_reply a1 a2 a3 a4 a5 a6 = search arith
@@ -138,7 +139,7 @@ one_reply (Some links) r s ls v w is also = elim (kept_reply links r s ls v is) 
   ]
 ]
 
--- code 1 stands for a shard that is kept, and for no other
+-- code 1 may replace the reply about a stored shard, and no other
 abbrev code_of : List FrameValue → ℕ
 code_of (FaultFrame r s c ∷ vs) = c
 code_of vs = 0

@@ -12,11 +12,11 @@ use Rattle.worker_replies.specs.Session.{InSession}
 use Rattle.worker_replies.proofs.Versions.{this_version, all_heard}
 use Rattle.worker_replies.proofs.Replying.{replies_more, shelf_after-append}
 
--- what wasn't heard yet stands behind the frames
+-- the bytes after the frames that were read
 pub session_left : (worker : ℕ) (shelf : Shelf) (input out : List ℕ) (heard : ℕ) (session : InSession worker shelf input out heard) → drop heard input ≡ session.rest
 session_left worker shelf input out heard session = search (arith, drop_at)
 
--- the next frame is heard
+-- the next frame is read
 pub session_hears : (worker : ℕ) (shelf shelf' : Shelf) (input out out' left : List ℕ) (heard heard' : ℕ) (v : FrameValue) (now : List FrameValue)
     → IsLawful v → drop heard input ≡ text_of v ++ left → heard' ≡ heard + length (text_of v) → shelf' ≡ shelf_with shelf v → MayFollow shelf v now
     → out' ≡ out ++ texts_of now → InSession worker shelf input out heard → InSession worker shelf' input out' heard'
@@ -36,7 +36,7 @@ session_hears worker shelf shelf' input out out' left heard heard' v now lawful 
       written = search (arith, append_assoc, texts-append);
     }
 
--- a session that heard all the frames that came wrote what it may write
+-- a session that read all the frames that came wrote what it may write
 pub session_serves : (worker : ℕ) (shelf : Shelf) (input out : List ℕ) (heard : ℕ) → InSession worker shelf input out heard → BeginsNone (drop heard input) → Serves VERSION worker input out
 session_serves worker shelf input out heard session none = record {
   known = this_version;

@@ -14,26 +14,26 @@ use Rattle.frames.specs.FrameText.{version_of, text_of}
 use Rattle.frames.specs.Lawful.{IsVersion}
 use Rattle.frames.specs.FrameStream.{texts_of, AreFramesOf}
 
--- the links that are kept under each number
+-- the links that are stored under each number
 abbrev pub Shelf : Type 0
 Shelf = ℕ → Option (List Link)
 
 abbrev pub empty_shelf : Shelf
 empty_shelf = λ s. None
 
--- shards that are kept, each with its number
+-- stored shards, each with its number
 abbrev pub ShelfList : Type 0
 ShelfList = List (ℕ × List Link)
 
--- the links that are kept under a number
+-- the links that are stored under a number
 abbrev pub shelf_of : ShelfList → Shelf
 shelf_of kept = λ s. lookup (is_at (nat_cmp s)) kept
 
--- none has more links than a shard may have
+-- no shard has more links than are allowed
 abbrev pub AreShort : Shelf → Type 0
 AreShort shelf = (s : ℕ) → IfSome (shelf s) (λ links. length links ≤ MAX_SHARD_LINKS)
 
--- a shard's links stand under its number, in place of earlier ones
+-- a shard's links are stored under its number and replace earlier ones
 abbrev pub shelf_with : Shelf → FrameValue → Shelf
 shelf_with shelf (ShardFrame number links) = λ s. if s == number then Some links else shelf s
 shelf_with shelf v = shelf
@@ -42,34 +42,34 @@ abbrev pub shelf_after : Shelf → List FrameValue → Shelf
 shelf_after shelf [] = shelf
 shelf_after shelf (v ∷ frames) = shelf_after (shelf_with shelf v) frames
 
--- the answer to an ask for these links: of the round and the shard that were asked, with the light offers
+-- the answer to an ask for these links: it has the round and the shard of the ask, and the light offers
 pub record IsAnswerTo (links : List Link) (round shard : ℕ) (labels : List ℕ) (answer : AnswerValue) : Type 0 where
   pub round_is : answer.round ≡ round
   pub shard_is : answer.shard ≡ shard
   pub ends : EndsUpTo (length labels) links
   pub light : AreLightOffers links labels answer.offers
 
--- the reply to an ask, by what is kept under the shard's number: code 2 where nothing is, code 3 where an end has no label, else the answer
+-- The reply to an ask, by what is stored under the shard's number: code 2 if nothing is, code 3 if an endpoint has no
+-- label, and otherwise the answer.
 abbrev pub IsReply : Option (List Link) → ℕ → ℕ → List ℕ → FrameValue → Type 0
 IsReply None round shard labels v = v ≡ FaultFrame round shard 2
 IsReply (Some links) round shard labels (AnswerFrame answer) = IsAnswerTo links round shard labels answer
 IsReply (Some links) round shard labels v = (v ≡ FaultFrame round shard 3) × ¬ EndsUpTo (length labels) links
 
--- code 1, which may stand in place of the reply for a shard that is kept
+-- code 1, which may replace the reply for a stored shard
 abbrev pub IsWantOfMemory : Option (List Link) → ℕ → ℕ → FrameValue → Type 0
 IsWantOfMemory None round shard v = ⊥
 IsWantOfMemory (Some links) round shard v = v ≡ FaultFrame round shard 1
 
--- what may be written for an ask
 abbrev pub MayReply : Option (List Link) → ℕ → ℕ → List ℕ → FrameValue → Type 0
 MayReply kept round shard labels v = IsReply kept round shard labels v ⊎ IsWantOfMemory kept round shard v
 
--- what is replied to a frame: the reply to an ask, nothing to any other frame
+-- the reply to an ask, and nothing for any other frame
 abbrev pub AreReplyTo : Shelf → FrameValue → List FrameValue → Type 0
 AreReplyTo shelf (AskFrame round shard labels) out = (v : FrameValue) × (out ≡ v ∷ []) × IsReply (shelf shard) round shard labels v
 AreReplyTo shelf v out = out ≡ []
 
--- what may be written for a frame: one reply for an ask, nothing for any other frame
+-- what may be written for a frame: one reply to an ask, and nothing for any other frame
 abbrev pub MayFollow : Shelf → FrameValue → List FrameValue → Type 0
 MayFollow shelf (AskFrame round shard labels) out = (v : FrameValue) × (out ≡ v ∷ []) × MayReply (shelf shard) round shard labels v
 MayFollow shelf v out = out ≡ []
@@ -80,11 +80,11 @@ AreReplies shelf [] out = out ≡ []
 AreReplies shelf (v ∷ frames) out =
     (now : List FrameValue) × (later : List FrameValue) × (out ≡ now ++ later) × MayFollow shelf v now × AreReplies (shelf_with shelf v) frames later
 
--- the frames that a worker of this version hears: those before the first that its version hasn't, at which its session ends
+-- the frames that a worker of this version reads: those before the first of a later version, at which its session ends
 abbrev pub heard_by : ℕ → List FrameValue → List FrameValue
 heard_by version frames = take_while (λ v. nat_le (version_of v) version) frames
 
--- what worker `worker` of this version may write for a stream, from its hello on
+-- what worker `worker` of this version may write for a stream, its hello included
 pub record Serves (version worker : ℕ) (stream out : List ℕ) : Type 0 where
   pub known : IsVersion version
   pub frames : List FrameValue
@@ -102,18 +102,17 @@ abbrev pub asks_in : List FrameValue → ℕ
 asks_in [] = 0
 asks_in (v ∷ frames) = ask_bit v + asks_in frames
 
--- a frame that can't be heard without memory, and so may find none: a shard, or an ask of a shard that is kept
+-- a frame that needs memory, so that it may fail for lack of it: a shard, or an ask about a stored shard
 abbrev pub MayWantMemory : Shelf → FrameValue → Type 0
 MayWantMemory shelf (ShardFrame number links) = ⊤
 MayWantMemory shelf (AskFrame round shard labels) = IsSome (shelf shard)
 MayWantMemory shelf v = ⊥
 
--- a shard
 abbrev pub IsShardFrame : FrameValue → Type 0
 IsShardFrame (ShardFrame number links) = ⊤
 IsShardFrame v = ⊥
 
--- the reply of an engine, if it gives one
+-- the reply of an engine, if there is one
 abbrev pub replies_in : {A : Type 0} → Option (Frame A) → List FrameValue
 replies_in None = []
 replies_in (Some reply) = value_of reply ∷ []

@@ -6,7 +6,8 @@ use Rattle.frames.specs.FrameText.{text_of}
 use Rattle.frames.specs.FrameStream.{texts_of, AreLawful}
 use Rattle.worker_replies.specs.Serving.{Shelf, empty_shelf, shelf_after, AreReplies}
 
--- of a worker of this version: what it keeps, the bytes that came, how many of them were heard, and what it wrote
+-- a session of a worker of this version: its stored shards, the bytes that came, how many of them were read as frames,
+-- and what it wrote
 pub record InSession (worker : ℕ) (shelf : Shelf) (input out : List ℕ) (heard : ℕ) : Type 0 where
   pub frames : List FrameValue
   pub replies : List FrameValue

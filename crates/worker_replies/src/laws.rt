@@ -1,7 +1,7 @@
-//! What the definitions themselves promise, each as the contract of a function that does nothing.
+//! What the definitions alone promise. Each law is the contract of a function that does nothing.
 ghost use Rattle.worker_replies.specs.Laws.{CodeOneWhereKept, OneReply, PrefixHasPrefixReplies, RepliesAreLawful};
 
-/// What a session of any version may write for a stream begins with what it may write for any prefix of the stream.
+/// What a session of any version may write for a prefix of a stream is a prefix of what it may write for the stream.
 pub fn prefix_has_prefix_replies()
     ensures { PrefixHasPrefixReplies }
 {}
@@ -11,7 +11,7 @@ pub fn replies_are_lawful()
     ensures { RepliesAreLawful }
 {}
 
-/// There is one reply to an ask, and code 1 may stand in its place exactly where the shard is kept.
+/// There is one reply to an ask. Code 1 may replace it exactly if the shard is stored.
 pub fn replies_to_an_ask()
     ensures one { OneReply }
     ensures code_one { CodeOneWhereKept }

@@ -1,4 +1,4 @@
-//! A worker's engine that hears the next frame of a stream.
+//! Reads the next frame of a stream and takes it.
 ghost use Rattle.std.specs.Prelude.{IfOk, IfErr, OnOk};
 ghost use Rattle.frames.specs.FrameStream.{AreLawful};
 ghost use Rattle.worker_replies.specs.Serving.{shelf_of, replies_in};
@@ -13,10 +13,11 @@ use std::alloc::Allocator;
 use std::thread::Threads;
 
 impl<A: Allocator + Copy + Send + Sync> Engine<A> {
-    // Hears the next frame of a stream as `hear_par` hears it, but that an ask which finds no memory is replied to by a fault
-    // with the code `NO_MEMORY`, which takes none. An ask under the labels of the last one is replied to by those that are
-    // kept, without a copy or a look at them, and one under labels that coarsen them, as they were seen to while they came,
-    // leaves the lists of live links as they are.
+    // Reads the next frame of a stream and takes it, as `hear_par` does. If there is no memory to reply to an ask, the
+    // reply is a fault with the code `NO_MEMORY`, which needs none.
+    //
+    // An ask under the labels of the last one is answered under the stored labels, without a copy or a check of them.
+    // Labels that coarsen those were checked as they arrived, and the lists of live links stay.
     pub(crate) fn hear_next<R: Threads + Sync, S: Source>(
         &mut self,
         rt: &R,

@@ -1,4 +1,4 @@
-//! A worker's engine that scans by threads.
+//! Replies to asks with scans by threads.
 ghost use Rattle.std.specs.Prelude.{◌≡◌};
 ghost use Rattle.frames.specs.FrameValue.{value_of};
 ghost use Rattle.frames.specs.Lawful.{IsLawful, IsAsk};
@@ -14,11 +14,12 @@ use std::collections::BTreeMap;
 use std::thread::Threads;
 
 impl<A: Allocator + Copy + Send + Sync> Engine<A> {
-    /// Hears one frame as [`hear`](Engine::hear) does, but that it scans for the first ask of a shard by threads, as
-    /// [`scan_par`](crate::scan_par) does.
+    /// Takes one frame as [`hear`](Engine::hear) does, but the first scan of a shard is done by threads, as in
+    /// [`scan_par`](crate::scan_par).
     ///
-    /// An ask that is scanned by threads costs that scan, and memory for the offers and for a table of each part; any other
-    /// costs what it does there. The only error is want of memory, for a shard or for an ask of a shard that is kept; the engine is unchanged then.
+    /// A scan by threads takes memory for the offers and for a table of each part; any other ask takes what it takes in
+    /// `hear`. The call fails only if it is out of memory, for a shard or for an ask about a stored shard; the engine
+    /// is unchanged then.
     pub fn hear_par<R: Threads + Sync>(
         &mut self,
         rt: &R,
@@ -41,7 +42,7 @@ impl<A: Allocator + Copy + Send + Sync> Engine<A> {
         }
     }
 
-    // The reply to an ask, as `reply` gives it, by threads.
+    // Replies to an ask as `reply` does, by threads.
     pub(super) fn reply_par<R: Threads + Sync>(
         &mut self,
         rt: &R,
@@ -58,7 +59,7 @@ impl<A: Allocator + Copy + Send + Sync> Engine<A> {
     }
 }
 
-// The reply to an ask, as `reply_under` gives it, by threads.
+// Replies to an ask as `reply_under` does, by threads.
 pub(super) fn reply_under_par<R: Threads + Sync, A: Allocator + Copy + Send + Sync>(
     rt: &R,
     shards: &mut BTreeMap<u32, KeptShard<A>, A>,

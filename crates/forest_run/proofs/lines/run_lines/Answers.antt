@@ -10,7 +10,7 @@ use Rattle.plain_run.proofs.PlainRunning.{done}
 use Rattle.forest_run.proofs.LinesRunning.{had_setback, shards_ends, few_enough, spanning, few_links, lines_went, served_report, cut_unsolved, cut_served, solve_unsolved, solve_served, cut_unhindered, lines_broken_off, served_broken_off}
 use Rattle.forest_run.proofs.lines.run_lines.Goals as goal
 
--- ---- the file isn't read
+-- ---- the file can't be read
 
 pub returns-in-Err-clause-malformed : goal.returns-in-Err-clause-malformed
 returns-in-Err-clause-malformed g c = λ bytes file nothing. first_of_file c.in-Err.fault _ _ c.in-Err.ensures.outcome bytes file
@@ -22,7 +22,7 @@ pub returns-in-Err-clause-ends_well : goal.returns-in-Err-clause-ends_well
 returns-in-Err-clause-ends_well g c = λ served it.
     no_fault_of_file c.in-Err.fault _ _ c.in-Err.ensures.outcome it.bytes it.has (it.means.graph, it.means.file)
 
--- ---- the list isn't cut
+-- ---- the list can't be split
 
 pub returns-in-Err-cut_links-clause-ran : goal.returns-in-Err-cut_links-clause-ran
 returns-in-Err-cut_links-clause-ran g c =
@@ -82,7 +82,7 @@ returns-in-Ok-write_forest_par-clause-served g c = λ served.
 pub returns-in-Ok-write_forest_par-clause-malformed : goal.returns-in-Ok-write_forest_par-clause-malformed
 returns-in-Ok-write_forest_par-clause-malformed g c = λ bytes file nothing. absurd (something_of_file _ _ _ c.in-Ok.ensures.outcome bytes file nothing)
 
--- ---- and not all of its text went out
+-- ---- not all of the forest's text was written
 
 pub returns-clause-ran : goal.returns-clause-ran
 returns-clause-ran g c =

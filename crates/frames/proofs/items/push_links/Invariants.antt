@@ -1,4 +1,4 @@
--- The links of the bytes that were read stand behind those that came before.
+-- The links that the bytes so far encode were appended.
 use Rattle.std.proofs.Common.{◌≡◌, ◌++◌, ◌%◌, List, length}
 use Rattle.std.specs.List.{flat_map}
 use Rattle.links.specs.declared.links.Link.{Link}

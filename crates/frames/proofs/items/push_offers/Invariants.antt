@@ -1,4 +1,4 @@
--- The offers of the bytes that were read stand behind those that came before.
+-- The offers that the bytes so far encode were appended.
 use Rattle.std.proofs.Common.{◌≡◌, ◌++◌, ◌%◌, List, length, All}
 use Rattle.std.specs.List.{flat_map}
 use Rattle.links.specs.Offers.{Offer}

@@ -1,4 +1,4 @@
--- The numbers so far stand behind the text, with room for the others.
+-- The numbers so far were appended to the text, which has the capacity for the others.
 use Rattle.std.proofs.Common.{◌≡◌, ◌≤◌, ◌+◌, ◌*◌, ◌++◌, take}
 use Rattle.std.specs.Prelude.{vec_len, vec_capacity}
 use Rattle.std.specs.List.{flat_map}

@@ -1,4 +1,4 @@
--- The bytes of the offers so far stand in the first cells.
+-- The bytes of the offers so far are at the beginning.
 use Rattle.std.proofs.Common.{◌≡◌, ◌*◌, length, take}
 use Rattle.std.specs.List.{flat_map}
 use Rattle.frames.specs.FrameText.{offer_text}

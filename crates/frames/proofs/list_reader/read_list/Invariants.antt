@@ -1,4 +1,4 @@
--- The list heard the bytes that came, and no read failed or found the end.
+-- The list took the bytes that came, and no read failed or found the end.
 use Rattle.std.proofs.Common.{◌≡◌, ◌-◌, ◌≤◌, length}
 use Rattle.frames.specs.Pieces.{ListCame}
 use Rattle.frames.proofs.list_reader.read_list.Given as goal

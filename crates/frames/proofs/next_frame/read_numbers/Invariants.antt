@@ -1,4 +1,4 @@
--- What came is the numbers so far, and no read failed or found the end.
+-- The bytes that came encode the numbers so far, and no read failed or found the end.
 use Rattle.std.proofs.Common.{◌≡◌, ◌-◌, ◌≤◌, length, take, All}
 use Rattle.std.specs.Prelude.{◌↔◌, IsTrue}
 use Rattle.std.specs.List.{flat_map}

@@ -6,7 +6,7 @@ use Rattle.std.proofs.lemmas.Result.{IfErr-weaker}
 use Rattle.port_rounds.proofs.Ending.{honest_fault}
 use Rattle.port_rounds.proofs.run.solve.Goals as goal
 
--- what lies behind the lanes at the end is what `find_forest` left there, and what lay there at first is what was given
+-- the lanes at the end are those that `find_forest` left, and at first they were those that were given
 
 pub returns-clause-went : goal.returns-clause-went
 returns-clause-went g c = search arith

@@ -4,7 +4,7 @@ use Rattle.shard_scans.specs.Scanning.{AreBestUpTo}
 use Rattle.shard_scans.specs.Live.{places_of, AreLiveLinks, relabelled}
 use Rattle.shard_scans.proofs.live.keep_all.Given as goal
 
--- all before the next live place is seen
+-- all links before the next live index were scanned
 abbrev pub invariant-loop-i : goal.invariant-loop-i
 invariant-loop-i g l = record {
   size : length l.table ≡ length l.initial.table;

@@ -3,7 +3,7 @@ use Rattle.shard_scans.specs.declared.live.LiveLink.{LiveLink}
 use Rattle.shard_scans.specs.Live.{packed}
 use Rattle.shard_scans.proofs.live.pack.Given as goal
 
--- those before the next live link that stay stand at the front, and the others as they were
+-- the live links so far that stay are at the front, and the rest are as they were
 abbrev pub invariant-loop-i : goal.invariant-loop-i
 invariant-loop-i l = record {
   count : l.kept ≤ l.i;

@@ -3,7 +3,7 @@ use Rattle.shard_scans.specs.declared.live.LiveLink.{LiveLink}
 use Rattle.shard_scans.specs.Numbers.{marks_of, numbered, AreBothNamed}
 use Rattle.shard_scans.proofs.numbers.number_each.Given as goal
 
--- those before the next one are written with numbers, and the others stand
+-- those so far are written with numbers, and the others are as they were
 abbrev pub invariant-loop-i : goal.invariant-loop-i
 invariant-loop-i g l = record {
   numbered : l.live ≡ map (numbered (marks_of l.numbers)) (take l.i l.initial.live) ++ drop l.i l.initial.live;

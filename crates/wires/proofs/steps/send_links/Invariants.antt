@@ -1,4 +1,4 @@
--- The text and the first links went out, and the text awaits the rest.
+-- The text and the first links were sent, and the text awaits the rest.
 use Rattle.std.proofs.Common.{◌≡◌, ℕ, [], length}
 use Rattle.wires.specs.Lines.{HasRoom}
 use Rattle.wires.specs.Sending.{AwaitsLinks, PutsSome}

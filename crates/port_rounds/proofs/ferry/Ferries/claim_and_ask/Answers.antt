@@ -42,7 +42,7 @@ returns-clause-seat g c = c.claim.ensures.same
 pub returns-clause-held : goal.returns-clause-held
 returns-clause-held g c = c.in-Won.ensures.list ∙ ap (λ s. held c.args.seat.now.events ++ s ∷ []) (sym c.in-Some.ensures.of_shard)
 
--- ---- what the calls ask for
+-- ---- what the calls require
 
 pub claim-requires-clause-seat : goal.claim-requires-clause-seat
 claim-requires-clause-seat g c = c.requires.seat

@@ -1,4 +1,4 @@
--- The session goes on with what it heard so far, of the bytes that came before.
+-- The session goes on with the frames read so far, from the bytes that came before.
 use Rattle.std.proofs.Common.{◌≡◌, ◌-◌, ◌≤◌, length}
 use Rattle.ports.specs.EngineLines.{GoesOn, Extends}
 use Rattle.ports.proofs.session.Session.hear_all.Given as goal

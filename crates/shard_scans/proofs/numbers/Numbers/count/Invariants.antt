@@ -3,7 +3,7 @@ use Rattle.shard_scans.specs.declared.numbers.MarkWord.{MarkWord}
 use Rattle.shard_scans.specs.Numbers.{marks_of, marked_in}
 use Rattle.shard_scans.proofs.numbers.Numbers.count.Given as goal
 
--- the words before the next one say how many are marked before them
+-- each of the words so far says how many labels are marked before it
 abbrev pub invariant-loop-word : goal.invariant-loop-word
 invariant-loop-word g l = record {
   marks : marks_of l.word-items ≡ marks_of l.initial.word-items;

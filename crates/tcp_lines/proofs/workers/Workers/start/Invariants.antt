@@ -3,7 +3,7 @@ use Rattle.std.specs.Vec.{vec_capacity}
 use Rattle.tcp_lines.specs.Lines.{unused}
 use Rattle.tcp_lines.proofs.workers.Workers.start.Given as goal
 
--- as many lines as threads, at most one for each round, and room for those of the rounds to come
+-- there are as many lines as threads, at most one per iteration, and capacity for those of the iterations to come
 abbrev pub invariant-loop : goal.invariant-loop
 invariant-loop g l = record {
   few : vec_len l.lines ≤ l.counter;
