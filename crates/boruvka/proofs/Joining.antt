@@ -1,5 +1,6 @@
 -- Several files whose edges are joined: one file after another, and how the run ends.
-use Rattle.std.proofs.Common.{◌≡◌, ◌≢◌, ◌≤◌, ◌<◌, ◌+◌, ℕ, ◌∙◌, List, [], ◌∷◌, ◌++◌, length, get_or, take, drop, map, All, Option, None, Some, Bool, true, false, inl, inr, Result, Ok, Err, refl, sym, ap, subst, arith}
+use Rattle.std.proofs.Common.{◌≡◌, ◌≢◌, ◌≤◌, ◌<◌, ◌+◌, ℕ, ◌∙◌, List, [], ◌∷◌, ◌++◌, length, get_or, take, drop, map, All, Option, None, Some, Bool, true, false, inl, inr, Result, Ok, Err}
+use Rattle.std.proofs.Common.{refl, sym, ap, subst, arith}
 use Rattle.std.specs.Prelude.{IsSome, IsErrAnd, MatchResult, is_some, not, ◌||◌, option_map}
 use Rattle.std.proofs.lemmas.List.{drop_more, get_or-map, length-map, length-take, take-append-drop, take_more}
 use Rattle.limits.specs.declared.TheConstants.{MAX_BYTES}

@@ -1,5 +1,6 @@
 -- What two calls on a stream do together, and what a call does to a stream whose state the contracts show.
-use Rattle.std.proofs.Common.{◌≡◌, ℕ, ◌+◌, ◌-◌, ◌<◌, ◌≤◌, List, [], ◌++◌, length, take, drop, Some, None, IfSome, refl, sym, ap, subst, ◌∙◌, arith, append-nil, length-append, length-take-le, suc, zero}
+use Rattle.std.proofs.Common.{◌≡◌, ℕ, ◌+◌, ◌-◌, ◌<◌, ◌≤◌, List, [], ◌++◌, length, take, drop, Some, None, IfSome, refl, sym, ap, subst, ◌∙◌, arith, append-nil, length-append, length-take-le}
+use Rattle.std.proofs.Common.{suc, zero}
 use Rattle.std.proofs.Math.Seq.{take-add, take-append-add}
 use Rattle.std.proofs.lemmas.List.{nil_from_length, take-append-le, take_rest}
 use Rattle.std.specs.Prelude.{Option}

@@ -1,6 +1,7 @@
 -- Edges merged with candidates in the order of their keys, and the least index of each edge among the candidates so
 -- far.
-use Rattle.std.proofs.Common.{◌≡◌, zero, suc, ℕ, ◌+◌, ◌*◌, ◌%◌, ◌^◌, ◌<◌, ◌≤◌, ◌⊎◌, ℤ, Bool, true, false, cond, Less, Equal, Greater, is_lt, int_cmp, List, [], ◌∷◌, ◌++◌, Contains, length, get_or, set, take, min, refl, sym, ap, ◌∙◌, subst, inl, inr, get_or-set_same, get_or-set_other, arith}
+use Rattle.std.proofs.Common.{◌≡◌, zero, suc, ℕ, ◌+◌, ◌*◌, ◌%◌, ◌^◌, ◌<◌, ◌≤◌, ◌⊎◌, ℤ, Bool, true, false, cond, Less, Equal, Greater, is_lt, int_cmp, List, [], ◌∷◌, ◌++◌, Contains, length}
+use Rattle.std.proofs.Common.{get_or, set, take, min, refl, sym, ap, ◌∙◌, subst, inl, inr, get_or-set_same, get_or-set_other, arith}
 use Rattle.std.specs.Int.{bit_at}
 use Rattle.std.specs.Int.Bits.{bit_or}
 use Rattle.std.specs.Int.Signed.{◌<ℤ◌, lt_z}

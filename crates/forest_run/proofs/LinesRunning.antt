@@ -52,14 +52,16 @@ few_enough n m less few = omega (arith, less, few)
 -- ---- the forest and the report
 
 -- all new wires are open
-open_all : {L : Type 0} → (lanes : List (LaneState (WireState L))) → ((i : ℕ) (d : LaneState (WireState L)) → i < length lanes → (get_or lanes i d).port.is_open ≡ true) → open_count port_of lanes ≡ length lanes
+open_all : {L : Type 0} → (lanes : List (LaneState (WireState L))) → ((i : ℕ) (d : LaneState (WireState L)) → i < length lanes
+    → (get_or lanes i d).port.is_open ≡ true) → open_count port_of lanes ≡ length lanes
 open_all [] opened = refl
 open_all {L = L} (lane ∷ lanes) opened =
     let here : count_if lane.port.is_open ≡ 1 = ap count_if (opened 0 lane (omega arith)) in
     omega (arith, sum_by-cons (λ (l : LaneState (WireState L)). count_if (port_of l.port).is_open) lane lanes, here, open_all lanes (λ i d b. opened (suc i) d (omega arith)))
 
 -- what a run says about a graph of which it found a forest
-module _ {L A : Type 0} (over : Line.Ghosts L) (cutting : Cutting) (graph : GraphValue) (shards : List (List Link)) (is : IsCutOf cutting graph.links shards) (before after : List L) (forest : List Link) (report : Report)
+module _ {L A : Type 0} (over : Line.Ghosts L) (cutting : Cutting) (graph : GraphValue) (shards : List (List Link)) (is : IsCutOf cutting graph.links shards)
+    (before after : List L) (forest : List Link) (report : Report)
     (solved : FindsOverLines A over graph.vertices shards before after forest report) where
   opened_all : open_count port_of solved.lanes ≡ length before
   opened_all = open_all solved.lanes (λ i d b. (solved.new.each i d.port.client.line d (let e = solved.new.number in omega arith)).opened) ∙ solved.new.number
@@ -90,12 +92,16 @@ module _ {L A : Type 0} (over : Line.Ghosts L) (cutting : Cutting) (graph : Grap
   }
 
 -- what follows for the forest and the report
-module _ {L A : Type 0} (over : Line.Ghosts L) (cutting : Cutting) (before after : List L) (graph : GraphValue) (forest : List Link) (report : Report) (went : RunsOverLines A over cutting before after graph forest report) where
+module _ {L A : Type 0} (over : Line.Ghosts L) (cutting : Cutting) (before after : List L) (graph : GraphValue) (forest : List Link) (report : Report)
+    (went : RunsOverLines A over cutting before after graph forest report) where
   pub spanning : IsSpanning graph forest
   spanning =
       let found = went.solved.went in
-      let f = found.finished in
-      (f.ascending, subst (λ (ls : List Link). IsSpanningForestOf ls forest) went.cut_is.whole (record { from_list = λ l l_in. All-contains (Contains (joined went.cut)) forest l found.from_list l_in; no_cycle = f.no_cycle; spans = f.spans }))
+      let f = found.finished in (
+        f.ascending,
+        subst (λ (ls : List Link). IsSpanningForestOf ls forest) went.cut_is.whole
+            (record { from_list = λ l l_in. All-contains (Contains (joined went.cut)) forest l found.from_list l_in; no_cycle = f.no_cycle; spans = f.spans }),
+      )
 
   pub few_links : length forest ≤ length graph.links
   few_links = no_longer forest graph.links spanning.0 (subst (λ (ls : List Link). All (Contains ls) forest) went.cut_is.whole went.solved.went.from_list)

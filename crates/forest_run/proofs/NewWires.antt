@@ -53,10 +53,12 @@ module _ {L : Type 0} (state : L → LineState) (cut : List (List Link)) (all : 
             ∙ ap (λ zs. zs ++ reverse rest) (ap (λ l. lines_of lanes ++ l ∷ []) (sym new.line_is) ∙ sym (map-append (λ lane. lane.port.client.line) lanes (lane ∷ []))));
         each = λ worker d lane' b. elim (cases_lt worker (length lanes)) [
           | inl before ↦
-              subst (λ (w : WireState L). IsNewWire (get_or all worker d) cut worker w) (ap (λ l. l.port) (sym (get_or_append_left lanes (lane ∷ []) lane' worker before))) (some.each worker d lane' before)
+              subst (λ (w : WireState L). IsNewWire (get_or all worker d) cut worker w) (ap (λ l. l.port)
+              (sym (get_or_append_left lanes (lane ∷ []) lane' worker before))) (some.each worker d lane' before)
           | inr past ↦
               let at : length lanes ≡ worker = omega (arith, length-append lanes (lane ∷ [])) in
-              let here : get_or all worker d ≡ line = ap (λ zs. get_or zs worker d) split ∙ (ap (λ k. get_or (lines_of lanes ++ line ∷ reverse rest) k d) (omega (arith, number)) ∙ get_or-append-add (lines_of lanes) (line ∷ reverse rest) 0 d) in
+              let here : get_or all worker d ≡ line = ap (λ zs. get_or zs worker d) split ∙ (ap (λ k. get_or (lines_of lanes ++ line ∷ reverse rest) k d)
+              (omega (arith, number)) ∙ get_or-append-add (lines_of lanes) (line ∷ reverse rest) 0 d) in
               let there : get_or (lanes ++ lane ∷ []) worker lane' ≡ lane = get_or_push lanes lane lane' worker at in
               subst (λ (l : L). IsNewWire l cut worker (get_or (lanes ++ lane ∷ []) worker lane').port) (sym here)
               (subst (λ (x : LaneState (WireState L)). IsNewWire line cut worker x.port) (sym there) (subst (λ k. IsNewWire line cut k lane.port) at new))
@@ -82,16 +84,21 @@ module _ {L : Type 0} where
 -- ---- what new wires over new lines are
 
 module _ {L : Type 0} (over : Line.Ghosts L) where
-  new_calm : (line : L) (cut : List (List Link)) (worker : ℕ) (wire : WireState L) → IsNewWire line cut worker wire → IsFresh (over.state line) → HasKnownBytes (over.state line) → IsFaultless over.state (over.state line).ends wire [] []
+  new_calm : (line : L) (cut : List (List Link)) (worker : ℕ) (wire : WireState L) → IsNewWire line cut worker wire → IsFresh (over.state line)
+      → HasKnownBytes (over.state line) → IsFaultless over.state (over.state line).ends wire [] []
   new_calm line cut worker wire new fresh known = search (arith, fresh_faultless)
 
-  pub new_sound : (line : L) (cut : List (List Link)) (worker : ℕ) (wire : WireState L) → IsNewWire line cut worker wire → IsFresh (over.state line) → HasKnownBytes (over.state line) → IsSoundWire over.state wire (over.state line).ends []
+  pub new_sound : (line : L) (cut : List (List Link)) (worker : ℕ) (wire : WireState L) → IsNewWire line cut worker wire → IsFresh (over.state line)
+      → HasKnownBytes (over.state line) → IsSoundWire over.state wire (over.state line).ends []
   new_sound line cut worker wire new fresh known = inl ([], new_calm line cut worker wire new fresh known)
 
-  pub new_honest : (line : L) (cut : List (List Link)) (worker : ℕ) (wire : WireState L) → IsNewWire line cut worker wire → IsFresh (over.state line) → HasKnownBytes (over.state line) → over.faithful line worker
+  pub new_honest : (line : L) (cut : List (List Link)) (worker : ℕ) (wire : WireState L) → IsNewWire line cut worker wire → IsFresh (over.state line)
+      → HasKnownBytes (over.state line) → over.faithful line worker
       → IsHonestWire over wire
-  new_honest line cut worker wire new fresh known carries =
-      (subst (λ w. over.faithful wire.client.line w) (sym new.worker_is) (subst (λ l. over.faithful l worker) (sym new.line_is) carries), ((over.state line).ends, [], inl ([], new_calm line cut worker wire new fresh known)))
+  new_honest line cut worker wire new fresh known carries = (
+    subst (λ w. over.faithful wire.client.line w) (sym new.worker_is) (subst (λ l. over.faithful l worker) (sym new.line_is) carries),
+    ((over.state line).ends, [], inl ([], new_calm line cut worker wire new fresh known)),
+  )
 
   -- over lines that are served, each wire is honest
   pub served_honest : (lines : List L) (cut : List (List Link)) (lanes : List (LaneState (WireState L))) → AreNewLanes lines cut lanes → AreServed over lines
@@ -137,8 +144,21 @@ module _ {L A : Type 0} (over : Line.Ghosts L) (n : ℕ) (cut : List (List Link)
   pub solve_fault : (fault : SolveFault) → IsSolveFault (wire_port A over) n cut before after fault
       → (fault ≡ Memory) ⊎ RefusesOverLines A over n cut lines fault
   solve_fault fault (inl none) = inl none
-  solve_fault fault (inr refused) = inr (record { lanes = before; new = new; ended = after; refused = refused; wires = (let rounds = refused.went.rounds in wires_went _ rounds.answers_at rounds.ports) })
+  solve_fault fault (inr refused) = inr (record {
+    lanes = before;
+    new = new;
+    ended = after;
+    refused = refused;
+    wires = (let rounds = refused.went.rounds in wires_went _ rounds.answers_at rounds.ports);
+  })
 
   pub solve_went : (forest : List Link) (report : Report) (lines' : List L) → FindsForest (wire_port A over) n cut before after forest report
       → lines' ≡ lines_of after → FindsOverLines A over n cut lines lines' forest report
-  solve_went forest report lines' went out = record { lanes = before; new = new; ended = after; went = went; wires = (let rounds = went.went.rounds in wires_went _ rounds.answers_at rounds.ports); lines_are = out }
+  solve_went forest report lines' went out = record {
+    lanes = before;
+    new = new;
+    ended = after;
+    went = went;
+    wires = (let rounds = went.went.rounds in wires_went _ rounds.answers_at rounds.ports);
+    lines_are = out;
+  }

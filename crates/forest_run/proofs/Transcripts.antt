@@ -39,7 +39,8 @@ choose {X = X} (suc n) R some =
     each x xs here others zero d b = here
     each x xs here others (suc i) d b = others i d (omega arith)
 
-same_sums : {X Y : Type 0} (f : X → ℕ) (g : Y → ℕ) (xs : List X) (ys : List Y) → length xs ≡ length ys → ((i : ℕ) (d : X) (e : Y) → i < length xs → f (get_or xs i d) ≡ g (get_or ys i e)) → sum_by f xs ≡ sum_by g ys
+same_sums : {X Y : Type 0} (f : X → ℕ) (g : Y → ℕ) (xs : List X) (ys : List Y) → length xs ≡ length ys
+    → ((i : ℕ) (d : X) (e : Y) → i < length xs → f (get_or xs i d) ≡ g (get_or ys i e)) → sum_by f xs ≡ sum_by g ys
 same_sums f g [] [] same each = refl
 same_sums f g [] (y ∷ ys) same each = absurd (omega (arith, same))
 same_sums f g (x ∷ xs) [] same each = absurd (omega (arith, same))
@@ -107,7 +108,14 @@ module _ {L A : Type 0} (over : Line.Ghosts L) (n : ℕ) (cut : List (List Link)
         λ line'. ap (λ ls. get_or ls i line') solved.lines_are ∙ get_or-map (λ (lane : LaneState (WireState L)). lane.port.client.line) solved.ended i d line' (omega (arith, number)) in (
           (said, went.exchanges),
           record {
-            each = λ line'. record { client = seen_client over.state last.port.client; worker_is = went.worker ∙ new.worker_is; line_is = ap over.state (sym (out line')); cut_is = went.cut ∙ new.cut_is; in_step = step };
+            each = λ line'. record {
+              client = seen_client over.state last.port.client;
+              worker_is = went.worker
+                  ∙ new.worker_is;
+              line_is = ap over.state (sym (out line'));
+              cut_is = went.cut ∙ new.cut_is;
+              in_step = step;
+            };
             answers = went.kept_are;
             asks = λ lane. asks ∙ ap (λ (l : LaneState (WireState L)). l.port.asks) (same_place solved.ended i d lane (omega (arith, number)));
           },

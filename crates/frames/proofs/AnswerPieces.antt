@@ -68,7 +68,13 @@ module _ (r s c k : ℕ) (x y z : SourceState) (came : Gave 0 0 (u32_text r ++ (
       answer_came few os same ascending =
           let spelled : flat_map offer_text os ≡ bytes = ap (flat_map offer_text) same ∙ are.bytes_are in
           list_came 4 (12 + 8 * k) (8 * k) (u32_text r ++ (u32_text s ++ u32_text c)) long x y z came (AnswerFrame (record { round = r; shard = s; offers = os })) bytes count behind
-          (answer_found r s c bytes os wide_r wide_s (omega (arith, counted, few)) (omega (arith, ap length spelled, items_length offer_text 8 offer_length os, count, counted)) spelled (subst (All FitsOffer) (sym same) are.fit) ascending)
+          (answer_found r s c bytes os wide_r wide_s (omega (arith, counted, few)) (omega (
+            arith,
+            ap length spelled,
+            items_length offer_text 8 offer_length os,
+            count,
+            counted,
+          )) spelled (subst (All FitsOffer) (sym same) are.fit) ascending)
 
       -- pairs came that aren't offers
       pub no_answer_came : IsU32 c → (AreOffers pairs → ⊥) → IsBodyRefused BadField 4 (12 + 8 * k) x z

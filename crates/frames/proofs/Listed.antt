@@ -1,5 +1,6 @@
 -- Lists of items, written and read.
-use Rattle.std.proofs.Common.{◌≡◌, ℕ, zero, suc, ◌+◌, ◌*◌, ◌/◌, ◌%◌, ◌^◌, ◌<◌, ◌≤◌, ℤ, Bool, true, false, ◌&&◌, IsTrue, List, [], ◌∷◌, ◌++◌, length, map, take, drop, get_or, All, refl, sym, ap, subst, ◌∙◌, append_assoc, append-nil, arith}
+use Rattle.std.proofs.Common.{◌≡◌, ℕ, zero, suc, ◌+◌, ◌*◌, ◌/◌, ◌%◌, ◌^◌, ◌<◌, ◌≤◌, ℤ, Bool, true, false, ◌&&◌, IsTrue, List, [], ◌∷◌, ◌++◌, length, map, take, drop, get_or, All, refl, sym}
+use Rattle.std.proofs.Common.{ap, subst, ◌∙◌, append_assoc, append-nil, arith}
 use Rattle.std.specs.Int.{w32, from_be_bytes, cast_signed, cast_unsigned}
 use Rattle.std.specs.List.{flat_map, AllByRecursion}
 use Rattle.std.specs.Simd.{first_chunks}
@@ -131,4 +132,5 @@ pub offer_more : (new old : List Offer) (component place : ℕ) (bytes rest rest
 offer_more new old component place bytes rest rest' rest'' so_far first second is = search (arith, flat_map-append, append-nil, append_assoc)
 
 pub fits_more : (new old : List Offer) (component place : ℕ) → All FitsOffer old → FitsOffer (component, place) → new ≡ old ++ (component, place) ∷ [] → All FitsOffer new
-fits_more new old component place before this is = subst (All FitsOffer) (sym is) (All-append FitsOffer old ((component, place) ∷ []) before (All-cons FitsOffer (component, place) [] this (All-nil FitsOffer)))
+fits_more new old component place before this is = subst (All FitsOffer) (sym is)
+    (All-append FitsOffer old ((component, place) ∷ []) before (All-cons FitsOffer (component, place) [] this (All-nil FitsOffer)))

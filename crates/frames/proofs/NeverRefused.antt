@@ -36,10 +36,18 @@ possible_of (ShardFrame n ls) lawful = elim (cases_Bool (are_narrow ls)) [
       grind (arith, kind, items)
 ]
 possible_of (AskFrame r s ls) lawful =
-    let items : IsWithItems 12 4 MAX_VERTICES (length (body_of (AskFrame r s ls))) = (length ls, lawful.labels.few_vertices, omega (arith, three_length r s (length ls) (flat_map u32_text ls), items_length u32_text 4 u32_length ls)) in
+    let items : IsWithItems 12 4 MAX_VERTICES (length (body_of (AskFrame r s ls))) = (
+      length ls,
+      lawful.labels.few_vertices,
+      omega (arith, three_length r s (length ls) (flat_map u32_text ls), items_length u32_text 4 u32_length ls),
+    ) in
     grind (arith, items)
 possible_of (AnswerFrame a) lawful =
-    let items : IsWithItems 12 8 (2 * MAX_SHARD_LINKS) (length (body_of (AnswerFrame a))) = (length a.offers, lawful.count, omega (arith, three_length a.round a.shard (length a.offers) (flat_map offer_text a.offers), items_length offer_text 8 offer_length a.offers)) in
+    let items : IsWithItems 12 8 (2 * MAX_SHARD_LINKS) (length (body_of (AnswerFrame a))) = (
+      length a.offers,
+      lawful.count,
+      omega (arith, three_length a.round a.shard (length a.offers) (flat_map offer_text a.offers), items_length offer_text 8 offer_length a.offers),
+    ) in
     grind (arith, items)
 possible_of (FaultFrame r s c) lawful =
     let long : length (body_of (FaultFrame r s c)) ≡ 9 = omega (arith, length-append (u32_text r) (u32_text s ++ c ∷ []), length-append (u32_text s) (c ∷ []), u32_length r, u32_length s) in

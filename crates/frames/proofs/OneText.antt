@@ -12,7 +12,8 @@ use Rattle.frames.specs.FrameValue.{FrameValue, HelloFrame, ShardFrame, AskFrame
 use Rattle.frames.specs.FrameText.{u16_text, u32_text, are_narrow, link_text, wide_link_text, links_text, offer_text, kind_of, body_of}
 use Rattle.frames.specs.Lawful.{IsU32, IsShard, IsAsk, IsAnswer, IsLawful}
 use Rattle.frames.specs.OneText.{EachHasOneText}
-use Rattle.frames.proofs.Texts.{parts_same, u16_length, u32_length, three_length, u16_prefix, u32_prefix, link_prefix, wide_link_prefix, offer_prefix, FitsNarrow, FitsWide, FitsOffer, narrow_fit, wide_fit, narrow_text, wide_text, links_length, link_length, wide_link_length, offer_length, items_length, items_same}
+use Rattle.frames.proofs.Texts.{parts_same, u16_length, u32_length, three_length, u16_prefix, u32_prefix, link_prefix, wide_link_prefix, offer_prefix, FitsNarrow, FitsWide, FitsOffer}
+use Rattle.frames.proofs.Texts.{narrow_fit, wide_fit, narrow_text, wide_text, links_length, link_length, wide_link_length, offer_length, items_length, items_same}
 
 -- ---- the fields of each body, given that they fit
 
@@ -69,7 +70,8 @@ ask_same r r' s s' ls ls' lawful wide wide' short fits same =
 pub answer_same : (a b : AnswerValue) → IsAnswer a → IsU32 b.round → IsU32 b.shard → length b.offers < 2 ^ 32 → AllByRecursion FitsOffer b.offers
     → body_of (AnswerFrame a) ≡ body_of (AnswerFrame b) → a ≡ b
 answer_same a b lawful wide wide' short fits same =
-    let prefix = two_prefix a.round a.shard b.round b.shard (u32_text (length a.offers) ++ flat_map offer_text a.offers) (u32_text (length b.offers) ++ flat_map offer_text b.offers) lawful.round lawful.shard wide wide' same in
+    let prefix = two_prefix a.round a.shard b.round b.shard (u32_text (length a.offers) ++ flat_map offer_text a.offers)
+    (u32_text (length b.offers) ++ flat_map offer_text b.offers) lawful.round lawful.shard wide wide' same in
     let count = u32_prefix (length a.offers) (length b.offers) (flat_map offer_text a.offers) (flat_map offer_text b.offers) (omega (arith, lawful.count)) short prefix.2 in
     let offers = items_same offer_text 8 FitsOffer (omega arith) offer_length offer_prefix a.offers b.offers (recursion_from_All _ _ lawful.fit) fits count.1 in
     λ i. record { round = prefix.0 i; shard = prefix.1 i; offers = offers i }
@@ -113,7 +115,15 @@ bodies_same v w first second kind same = absurd (omega (arith, kind))
 pub body_short : (v : FrameValue) → IsLawful v → IsU32 (length (body_of v))
 body_short (HelloFrame v w) lawful = omega (arith, length-append (u16_text v) (u32_text w), u16_length v, u32_length w)
 body_short (ShardFrame n ls) lawful =
-    omega (arith, length-append (u32_text n) (u32_text (length ls) ++ links_text ls), length-append (u32_text (length ls)) (links_text ls), u32_length n, u32_length (length ls), links_length ls, lawful.count)
+    omega (
+      arith,
+      length-append (u32_text n) (u32_text (length ls) ++ links_text ls),
+      length-append (u32_text (length ls)) (links_text ls),
+      u32_length n,
+      u32_length (length ls),
+      links_length ls,
+      lawful.count,
+    )
 body_short (AskFrame r s ls) lawful = omega (arith, three_length r s (length ls) (flat_map u32_text ls), items_length u32_text 4 u32_length ls, lawful.labels.few_vertices)
 body_short (AnswerFrame a) lawful = omega (arith, three_length a.round a.shard (length a.offers) (flat_map offer_text a.offers), items_length offer_text 8 offer_length a.offers, lawful.count)
 body_short (FaultFrame r s c) lawful = omega (arith, length-append (u32_text r) (u32_text s ++ c ∷ []), length-append (u32_text s) (c ∷ []), u32_length r, u32_length s)

@@ -104,6 +104,7 @@ pub pushed_one : (s : Spelling) (new old before more : List Link) (link : Link) 
     → (new ≡ before ++ (more ++ link ∷ [])) × (flat_map (spelled_in s) (more ++ link ∷ []) ++ behind ≡ bytes) × FitIn s (more ++ link ∷ [])
 pushed_one s new old before more link bytes rest first behind pushed so_far read fits front back spelled fit = search (arith, take-append-drop, append_assoc, flat_map-append, append-nil, fit_append)
 
-pub no_link_behind : (s : Spelling) (more : List Link) (bytes rest first behind : List ℕ) → flat_map (spelled_in s) more ++ rest ≡ bytes → first ≡ take (size_in s) rest → behind ≡ drop (size_in s) rest
+pub no_link_behind : (s : Spelling) (more : List Link) (bytes rest first behind : List ℕ) → flat_map (spelled_in s) more ++ rest ≡ bytes
+    → first ≡ take (size_in s) rest → behind ≡ drop (size_in s) rest
     → length first ≡ size_in s → IsNoLink (spelled_in s) first → AreNoLinks (spelled_in s) bytes
 no_link_behind s more bytes rest first behind = no_links_behind (spelled_in s) (size_in s) (size_some s) (spelled_length s) more bytes rest first behind

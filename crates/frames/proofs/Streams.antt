@@ -83,7 +83,8 @@ pub whole_body : (kind len : ℕ) (stream body rest : List ℕ) → IsU32 len �
 whole_body kind len stream body rest wide possible count is =
     let count-is : length_at stream ≡ len = ap length_at is ∙ length_is kind len (body ++ rest) wide in
     let long : 5 + length_at stream ≤ length stream = omega (arith, ap length is, head_length kind len (body ++ rest), length-append body rest, count-is) in
-    let there : body_at stream ≡ body = ap (λ (n : ℕ). take n (drop 5 stream)) count-is ∙ ap (λ (t : List ℕ). take len (drop 5 t)) is ∙ ap (take len) (behind_is kind len (body ++ rest)) ∙ take_at body rest len count in
+    let there : body_at stream ≡ body = ap (λ (n : ℕ). take n (drop 5 stream)) count-is ∙ ap (λ (t : List ℕ). take len (drop 5 t)) is
+    ∙ ap (take len) (behind_is kind len (body ++ rest)) ∙ take_at body rest len count in
     ((good_head kind len stream (body ++ rest) wide possible is, long), ap kind_at is, there)
 
 body_fault : (fault : FrameFault) (all : List ℕ) → HasBody all → BodyRefused fault (kind_at all) (body_at all)

@@ -1,5 +1,6 @@
 -- Joined texts of the same lengths have equal parts, and the text of a number determines the number.
-use Rattle.std.proofs.Common.{◌≡◌, ℕ, ◌+◌, ◌*◌, ◌^◌, ◌<◌, ◌≤◌, ℤ, pos, neg_ℤ, int_le, int_lt, ◌&&◌, true, false, IsTrue, List, [], ◌∷◌, ◌++◌, length, get_or, take, drop, refl, sym, ap, ◌∙◌, append_assoc, arith, FitsSigned}
+use Rattle.std.proofs.Common.{◌≡◌, ℕ, ◌+◌, ◌*◌, ◌^◌, ◌<◌, ◌≤◌, ℤ, pos, neg_ℤ, int_le, int_lt, ◌&&◌, true, false, IsTrue, List, [], ◌∷◌, ◌++◌, length, get_or, take, drop, refl, sym, ap, ◌∙◌}
+use Rattle.std.proofs.Common.{append_assoc, arith, FitsSigned}
 use Rattle.std.specs.Int.{w16, w32, w64, to_be_bytes, from_be_bytes, cast_unsigned, cast_signed}
 use Rattle.std.specs.List.{flat_map, AllByRecursion}
 use Rattle.std.proofs.Common.{inl, inr}
@@ -36,7 +37,15 @@ u32_length n = refl
 
 -- three numbers, and what follows them
 pub three_length : (a b c : ℕ) (list : List ℕ) → length (u32_text a ++ (u32_text b ++ (u32_text c ++ list))) ≡ 12 + length list
-three_length a b c list = omega (arith, length-append (u32_text a) (u32_text b ++ (u32_text c ++ list)), length-append (u32_text b) (u32_text c ++ list), length-append (u32_text c) list, u32_length a, u32_length b, u32_length c)
+three_length a b c list = omega (
+  arith,
+  length-append (u32_text a) (u32_text b ++ (u32_text c ++ list)),
+  length-append (u32_text b) (u32_text c ++ list),
+  length-append (u32_text c) list,
+  u32_length a,
+  u32_length b,
+  u32_length c,
+)
 
 pub u16_again : (n : ℕ) → n < 2 ^ 16 → from_be_bytes w16 (u16_text n) ≡ n
 unfolding u16_text
@@ -120,10 +129,24 @@ pub offer_prefix : (o p : Offer) (x y : List ℕ) → FitsOffer o → FitsOffer 
 offer_prefix o p x y first second same = search (arith, u32_prefix, append_assoc)
 
 pub link_length : (l : Link) → length (link_text l) ≡ 12
-link_length l = omega (arith, length-append (u32_text l.low) (u32_text l.high ++ i32_text l.weight), length-append (u32_text l.high) (i32_text l.weight), u32_length l.low, u32_length l.high, u32_length (cast_unsigned w32 l.weight))
+link_length l = omega (
+  arith,
+  length-append (u32_text l.low) (u32_text l.high ++ i32_text l.weight),
+  length-append (u32_text l.high) (i32_text l.weight),
+  u32_length l.low,
+  u32_length l.high,
+  u32_length (cast_unsigned w32 l.weight),
+)
 
 pub wide_link_length : (l : Link) → length (wide_link_text l) ≡ 16
-wide_link_length l = omega (arith, length-append (u32_text l.low) (u32_text l.high ++ i64_text l.weight), length-append (u32_text l.high) (i64_text l.weight), u32_length l.low, u32_length l.high, i64_length l.weight)
+wide_link_length l = omega (
+  arith,
+  length-append (u32_text l.low) (u32_text l.high ++ i64_text l.weight),
+  length-append (u32_text l.high) (i64_text l.weight),
+  u32_length l.low,
+  u32_length l.high,
+  i64_length l.weight,
+)
 
 pub offer_length : (o : Offer) → length (offer_text o) ≡ 8
 offer_length o = omega (arith, length-append (u32_text o.0) (u32_text o.1), u32_length o.0, u32_length o.1)

@@ -20,7 +20,8 @@ record Built (n : ℕ) (links : List Link) (k : ℕ) : Type 0 where
   rows : length merges ≡ k
   each : (i : ℕ) (l : Link) (merge : Merge) → slice_get links i ≡ Some l → slice_get merges i ≡ Some merge → IsMerge n links i l merge
 
-module _ (n : ℕ) (links : List Link) (ends : EndsUpTo n links) (acyclic : IsAcyclic links) (k : ℕ) (lt : k < length links) (l : Link) (link_at : slice_get links k ≡ Some l) (before : Built n links k) where
+module _ (n : ℕ) (links : List Link) (ends : EndsUpTo n links) (acyclic : IsAcyclic links) (k : ℕ) (lt : k < length links) (l : Link)
+    (link_at : slice_get links k ≡ Some l) (before : Built n links k) where
   in_n : (l.low ≤ n) × (1 ≤ l.high) × (l.high ≤ n)
   in_n = ends_in n links k l ends link_at
 
@@ -36,7 +37,8 @@ module _ (n : ℕ) (links : List Link) (ends : EndsUpTo n links) (acyclic : IsAc
 
   size : (c : ℕ) → c < n + k → HasSize (IsInCluster n links c) (points_in n before.merges c)
   size c there = size_of n links before.merges k c (omega (arith, lt))
-      (λ j m below at. before.each j m (row_at before.merges j) at (slice_get-get_or before.merges j (record { first = 0; second = 0; size = 0 }) (let len = before.rows in omega (arith, len, below)))) there
+      (λ j m below at. before.each j m (row_at before.merges j) at (slice_get-get_or before.merges j (record { first = 0; second = 0; size = 0 })
+      (let len = before.rows in omega (arith, len, below)))) there
 
   abbrev merge : Merge
   merge = record {

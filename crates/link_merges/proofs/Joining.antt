@@ -60,7 +60,8 @@ module _ (n : ℕ) (links : List Link) (k : ℕ) where
             each = λ j l lt at.
                 let lt' : j < length second = omega (arith, same, lt) in
                 let there : k + (length first + j) ≡ k + length first' + j = omega (arith, len') in
-                let has : HasEnds n links k l (row_at second j) = subst (HasEnds n links k l) (get_or-append-add first second j no_row) (are.each (length first + j) l (omega (arith, len, lt')) (ap (slice_get links) there ∙ at)) in
+                let has : HasEnds n links k l (row_at second j) = subst (HasEnds n links k l) (get_or-append-add first second j no_row)
+                (are.each (length first + j) l (omega (arith, len, lt')) (ap (slice_get links) there ∙ at)) in
                 record {
                   low = subst (IsClusterOf n links (k + length first') l.low) (sym (moved j lt').0) (leads l.low (row_at second j).first has.low);
                   high = subst (IsClusterOf n links (k + length first') l.high) (sym (moved j lt').1) (leads l.high (row_at second j).second has.high);

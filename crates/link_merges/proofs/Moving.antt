@@ -72,7 +72,8 @@ module _ (n : ℕ) (links : List Link) (k : ℕ) (none : CloseNone links k) (l :
       → LeadsOn n links (k + 1) m now → LeadsOn n links k m (set (set now row.first next) row.second next)
   leads_one m now next first_in second_in next_is leads u c is = elim (both_set now row.first row.second next first_in second_in c) [
     | inl (either, here) ↦
-        let is_new : IsClusterOf n links (k + 1) u (n + k) = ⊎_elim (λ same. gone_first u (subst (IsClusterOf n links k u) same is)) (λ same. gone_second u (subst (IsClusterOf n links k u) same is)) either in
+        let is_new : IsClusterOf n links (k + 1) u (n + k) = ⊎_elim (λ same. gone_first u (subst (IsClusterOf n links k u) same is))
+        (λ same. gone_second u (subst (IsClusterOf n links k u) same is)) either in
         subst (IsClusterOf n links m u) (sym next_is ∙ sym here) (leads u (n + k) is_new)
     | inr (not_first, not_second, as_was) ↦ subst (IsClusterOf n links m u) (sym as_was) (leads u c (stays u c is not_first not_second))
   ]

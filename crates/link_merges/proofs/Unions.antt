@@ -29,11 +29,14 @@ module _ (n : ℕ) (links : List Link) (i : ℕ) (l : Link) (link_at : slice_get
   of_ends v = (
     λ v_in. by_ends v (through n links i l link_at l.low v ((new_cluster n links i l link_at v).0 v_in)),
     λ is. (new_cluster n links i l link_at v).1
-        (⊎_elim (longer n links i l link_at l.low v) (λ joined. joins_trans (Contains (take (i + 1) links)) l.low l.high v (low_to_high n links i l link_at) (longer n links i l link_at l.high v joined)) is),
+        (⊎_elim (longer n links i l link_at l.low v) (λ joined. joins_trans (Contains (take (i + 1) links)) l.low l.high v (low_to_high n links i l link_at)
+        (longer n links i l link_at l.high v joined)) is),
   )
 
   -- with cluster p of one endpoint and cluster q of the other
-  module _ (merge : Merge) (size : HasSize (IsInCluster n links (n + i)) merge.size) (apart : (v : ℕ) → IsInCluster n links merge.first v → ¬ (IsInCluster n links merge.second v)) (both : (v : ℕ) → IsInCluster n links (n + i) v ↔ (IsInCluster n links merge.first v ⊎ IsInCluster n links merge.second v)) where
+  module _ (merge : Merge) (size : HasSize (IsInCluster n links (n + i)) merge.size)
+      (apart : (v : ℕ) → IsInCluster n links merge.first v → ¬ (IsInCluster n links merge.second v))
+      (both : (v : ℕ) → IsInCluster n links (n + i) v ↔ (IsInCluster n links merge.first v ⊎ IsInCluster n links merge.second v)) where
     union : IsUnion n links i merge
     union = search (arith, one_size, size_both)
 

@@ -91,7 +91,8 @@ module _ (n : ℕ) (links : List Link) (k : ℕ) (none : CloseNone links k) wher
     | inl is ↦ omega (arith, e, e', is)
     | inr other ↦ elim (cases_lt i j) [
       | inl lt ↦ absurd (not_later i j l m at at' lt (omega (arith, e', d_there)) (λ v v_in. subst (λ x. IsInCluster n links x v) e ((same v).1 (subst (λ x. IsInCluster n links x v) (sym e') v_in))))
-      | inr ge ↦ absurd (not_later j i m l at' at (omega (arith, ge, other)) (omega (arith, e, c_there)) (λ v v_in. subst (λ x. IsInCluster n links x v) e' ((same v).0 (subst (λ x. IsInCluster n links x v) (sym e) v_in))))
+      | inr ge ↦ absurd (not_later j i m l at' at (omega (arith, ge, other)) (omega (arith, e, c_there))
+          (λ v v_in. subst (λ x. IsInCluster n links x v) e' ((same v).0 (subst (λ x. IsInCluster n links x v) (sym e) v_in))))
     ]
   ]
 
@@ -117,8 +118,10 @@ module _ (n : ℕ) (links : List Link) (k : ℕ) (none : CloseNone links k) wher
   one_merge : (l : Link) (merge other : Merge) → IsMerge n links k l merge → IsMerge n links k l other → merge ≡ other
   one_merge l merge other is is' =
       let numbers : (merge.first ≡ other.first) × (merge.second ≡ other.second) = elim is.ends [
-        | inl are ↦ in_order merge.first merge.second other.first other.second merge.first merge.second is.ascending is'.ascending (inl (refl, refl)) (ends_of l merge.first merge.second other.first other.second are.0 are.1 is'.ends)
-        | inr are ↦ in_order merge.first merge.second other.first other.second merge.second merge.first is.ascending is'.ascending (inr (refl, refl)) (ends_of l merge.second merge.first other.first other.second are.1 are.0 is'.ends)
+        | inl are ↦ in_order merge.first merge.second other.first other.second merge.first merge.second is.ascending is'.ascending (inl (refl, refl))
+            (ends_of l merge.first merge.second other.first other.second are.0 are.1 is'.ends)
+        | inr are ↦ in_order merge.first merge.second other.first other.second merge.second merge.first is.ascending is'.ascending (inr (refl, refl))
+            (ends_of l merge.second merge.first other.first other.second are.1 are.0 is'.ends)
       ] in
       ap₂ (λ (first second : ℕ). record { first = first; second = second; size = merge.size }) numbers.0 numbers.1
       ∙ ap (λ (size : ℕ). record { first = other.first; second = other.second; size = size }) (one_size (IsInCluster n links (n + k)) merge.size other.size is.size is'.size)

@@ -62,7 +62,8 @@ others_of S (x ∷ xs) v pairs v_in = elim (contains_cases x v xs v_in) [
         | inl is ↦ inr (subst (Contains (x ∷ others.rest)) (sym is) (contains_head x others.rest))
         | inr in_list ↦ elim (others.keeps u in_list) [ inl same ↦ inl same | inr in_rest ↦ inr (contains_tail x u others.rest in_rest) ]
       ];
-      pairs = AllPairs-cons (Apart S) x others.rest (λ k d lt. ascends_head (Apart S) x xs pairs (get_or others.rest k d) (others.within (get_or others.rest k d) (Contains-get_or others.rest k d lt))) others.pairs;
+      pairs = AllPairs-cons (Apart S) x others.rest (λ k d lt. ascends_head (Apart S) x xs pairs (get_or others.rest k d)
+          (others.within (get_or others.rest k d) (Contains-get_or others.rest k d lt))) others.pairs;
       apart = λ u u_in joined. elim (contains_cases x u others.rest u_in) [
         | inl is ↦ ascends_head (Apart S) x xs pairs v in_xs (joins_symm S v x (subst (Joins S v) is joined))
         | inr in_rest ↦ others.apart u in_rest joined
@@ -199,14 +200,16 @@ pub components_left : (n : ℕ) (links : List Link) → EndsUpTo n links → Are
     → (ones : List ℕ) × AreRepresentatives n (Contains links) ones × (length links + length ones ≡ n)
 components_left n [] ends distinct none = (vertices n, each_by_itself n, let all = all_vertices n in omega (arith, all))
 components_left n (l ∷ links) ends distinct none =
-    let before = components_left n links (λ k d lt. ends (suc k) d (omega (arith, lt))) (distinct_tail l links distinct) (no_cycle_part (Contains links) (Contains (l ∷ links)) (λ m m_in. contains_tail l m links m_in) none) in
+    let before = components_left n links (λ k d lt. ends (suc k) d (omega (arith, lt))) (distinct_tail l links distinct)
+    (no_cycle_part (Contains links) (Contains (l ∷ links)) (λ m m_in. contains_tail l m links m_in) none) in
     let after = one_fewer n (Contains links) l before.0 before.1 (ends 0 l (omega arith)) unjoined in
     let sum = before.2 in
     let less = after.2 in
     (after.0, each_alike n (WithLink (Contains links) l) (Contains (l ∷ links)) after.0 alike after.1, omega (arith, sum, less))
   where
     unjoined : ¬ (Joins (Contains links) l.low l.high)
-    unjoined joined = none l (contains_head l links) (joins_more (Contains links) (Without (Contains (l ∷ links)) l) (λ m m_in. (contains_tail l m links m_in, λ same. distinct_head l links distinct m m_in (sym same))) l.low l.high joined)
+    unjoined joined = none l (contains_head l links) (joins_more (Contains links) (Without (Contains (l ∷ links)) l)
+        (λ m m_in. (contains_tail l m links m_in, λ same. distinct_head l links distinct m m_in (sym same))) l.low l.high joined)
 
     alike : (u v : ℕ) → Joins (WithLink (Contains links) l) u v ↔ Joins (Contains (l ∷ links)) u v
     alike = joins_alike (WithLink (Contains links) l) (Contains (l ∷ links)) (λ m. (to m, contains_with m))
@@ -224,7 +227,8 @@ components_left n (l ∷ links) ends distinct none =
 of_forest : (n : ℕ) (links forest : List Link) → EndsUpTo n links → IsForestOf links forest
     → (ones : List ℕ) × AreRepresentatives n (Contains links) ones × (length forest + length ones ≡ n)
 of_forest n links forest ends is =
-    let left = components_left n forest ends_of_forest (ascending_distinct forest is.ascending) (no_cycle_part (Contains forest) (IsForestLink links) (λ l l_in. (is.exact l).0 l_in) (forest_no_cycle links)) in
+    let left = components_left n forest ends_of_forest (ascending_distinct forest is.ascending)
+    (no_cycle_part (Contains forest) (IsForestLink links) (λ l l_in. (is.exact l).0 l_in) (forest_no_cycle links)) in
     (left.0, each_alike n (Contains forest) (Contains links) left.0 alike left.1, left.2)
   where
     in_links : (l : Link) → Contains forest l → Contains links l

@@ -41,7 +41,8 @@ no_cycle_one_more S l none apart m is_in joined = elim (link_dec m l) [
     closes : S m → Joins (Without S m) m.low m.high ⊎ (Joins (Without S m) m.low l.low × Joins (Without S m) l.high m.high) ⊎ (Joins (Without S m) m.low l.high × Joins (Without S m) l.low m.high) → ⊥
     closes in_S (inl others) = none m in_S others
     closes in_S (inr (inl (to, from))) =
-        apart (joins_trans S l.low m.low l.high (joins_symm S m.low l.low (whole m.low l.low to)) (joins_trans S m.low m.high l.high (joins_link S m in_S) (joins_symm S l.high m.high (whole l.high m.high from))))
+        apart (joins_trans S l.low m.low l.high (joins_symm S m.low l.low (whole m.low l.low to))
+        (joins_trans S m.low m.high l.high (joins_link S m in_S) (joins_symm S l.high m.high (whole l.high m.high from))))
     closes in_S (inr (inr (to, from))) =
         apart (joins_trans S l.low m.high l.high (whole l.low m.high from) (joins_trans S m.high m.low l.high (joins_symm S m.low m.high (joins_link S m in_S)) (whole m.low l.high to)))
 
@@ -78,4 +79,5 @@ no_cycle_either S P none ascends l is_in joined =
     let links = l ∷ around.walk in
     let some = part_in S P links (λ m m_in. elim (contains_cases l m around.walk m_in) [ inl is ↦ subst (Either S P) (sym is) is_in | inr in_walk ↦ (around.within m in_walk).0 ]) in
     no_cycle_list S P none ascends (length some.part) some.part (omega arith) some.within l (some.covers l (contains_head l around.walk))
-    (joins_more (Contains around.walk) (Without (Either S (Contains some.part)) l) (λ m m_in. (some.covers m (contains_tail l m around.walk m_in), (around.within m m_in).1)) l.low l.high around.joined)
+    (joins_more (Contains around.walk) (Without (Either S (Contains some.part)) l) (λ m m_in.
+    (some.covers m (contains_tail l m around.walk m_in), (around.within m m_in).1)) l.low l.high around.joined)

@@ -37,7 +37,8 @@ not_above_higher links l m below = joins_more (ForestNotAbove links m) (ForestNo
 -- The forest joins the endpoints of each link of the list, by links that aren't above it. If smaller links don't join
 -- them, the link is in the forest. Otherwise, each of these smaller links has its endpoints joined in this way, by
 -- induction. (The list `lower` has all links of the list that are below l, and gets shorter.)
-ends_joined : (links : List Link) (fuel : ℕ) (lower : List Link) → length lower ≤ fuel → (l : Link) → Contains links l → ((m : Link) → LinksBelow links l m → Contains lower m) → Joins (ForestNotAbove links l) l.low l.high
+ends_joined : (links : List Link) (fuel : ℕ) (lower : List Link) → length lower ≤ fuel → (l : Link) → Contains links l
+    → ((m : Link) → LinksBelow links l m → Contains lower m) → Joins (ForestNotAbove links l) l.low l.high
 ends_joined links zero lower small l is_in has = elim (joins_dec (λ m. IsBelow m l) (λ m. below_dec m l) links l.low l.high) [
   | inr apart ↦ joins_link (ForestNotAbove links l) l ((is_in, apart), below_irrefl l)
   | inl joined ↦ joins_replace (LinksBelow links l) (ForestNotAbove links l) (λ m below. let fewer = without_one lower m (has m below) in absurd (omega (arith, fewer.shorter))) l.low l.high joined
@@ -55,7 +56,8 @@ pub forest_joins_ends : (links : List Link) (l : Link) → Contains links l → 
 forest_joins_ends links l is_in = ends_joined links (length links) links (omega arith) l is_in (λ m below. below.0)
 
 pub forest_spans : (links : List Link) → Spans (IsForestLink links) links
-forest_spans links = joins_replace (Contains links) (IsForestLink links) (λ l is_in. joins_more (ForestNotAbove links l) (IsForestLink links) (λ m m_is. m_is.0) l.low l.high (forest_joins_ends links l is_in))
+forest_spans links = joins_replace (Contains links) (IsForestLink links) (λ l is_in. joins_more (ForestNotAbove links l) (IsForestLink links)
+    (λ m m_is. m_is.0) l.low l.high (forest_joins_ends links l is_in))
 
 pub spanning_part_is_forest : (links : List Link) (P : LinkSet) → IsPartOf P (IsForestLink links) → Spans P links → SameLinks P (IsForestLink links)
 spanning_part_is_forest = spanning_part

@@ -1,5 +1,6 @@
 -- The order of keys is total, and links with equal keys are equal. So an ascending list is determined by its members.
-use Rattle.std.proofs.Common.{◌≡◌, ◌+◌, ◌<◌, ◌≤◌, ◌^◌, Bool, true, false, IsTrue, is_lt, ◌⊎◌, ◌↔◌, List, ◌∷◌, Contains, get_or, Ordering, Less, Equal, Greater, int_cmp, nat_cmp, refl, ap, ◌∙◌, subst, inl, inr, arith}
+use Rattle.std.proofs.Common.{◌≡◌, ◌+◌, ◌<◌, ◌≤◌, ◌^◌, Bool, true, false, IsTrue, is_lt, ◌⊎◌, ◌↔◌, List, ◌∷◌, Contains, get_or, Ordering, Less, Equal, Greater, int_cmp, nat_cmp, refl, ap}
+use Rattle.std.proofs.Common.{◌∙◌, subst, inl, inr, arith}
 use Rattle.std.specs.Ordering.{ordering_then, ordering_reverse}
 use Rattle.std.specs.List.{IsAllAdjacentAnswer}
 use Rattle.std.specs.List.Sorted.{IsSorted}

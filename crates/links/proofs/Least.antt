@@ -6,7 +6,8 @@
 -- it. The link replaces that one, which weighs at least as much.
 --
 -- At the end, the set is the forest, and no step made it heavier.
-use Rattle.std.proofs.Common.{◌≡◌, ◌≢◌, ℕ, ℤ, pos, suc, ◌*◌, ◌^◌, ◌⊎◌, List, [], ◌∷◌, ◌++◌, length, Contains, get_or, fold, rules, Ordering, Less, Equal, Greater, int_cmp, nat_cmp, refl, sym, ◌∙◌, subst, inl, inr, arith}
+use Rattle.std.proofs.Common.{◌≡◌, ◌≢◌, ℕ, ℤ, pos, suc, ◌*◌, ◌^◌, ◌⊎◌, List, [], ◌∷◌, ◌++◌, length, Contains, get_or, fold, rules, Ordering, Less, Equal, Greater, int_cmp, nat_cmp, refl}
+use Rattle.std.proofs.Common.{sym, ◌∙◌, subst, inl, inr, arith}
 use Rattle.std.specs.Prelude.{◌+ℤ◌, neg_ℤ}
 use Rattle.std.specs.Int.Signed.{◌≤ℤ◌, ◌<ℤ◌}
 use Rattle.std.specs.Ordering.{ordering_then, MatchOrdering}
@@ -112,7 +113,8 @@ Beside S R m = S m × ¬ (Contains R m)
 all_spared : (S : LinkSet) (u v : ℕ) → HasNoCycle S → Joins S u v → (R : List Link) → ((t : Link) → Contains R t → S t × Joins (Without S t) u v) → Joins (Beside S R) u v
 all_spared S u v none joined [] each = joins_more S (Beside S []) (λ m is_in. (is_in, contains_none m)) u v joined
 all_spared S u v none joined (t ∷ R) each =
-    through ((joins_one_more (Beside S (t ∷ R)) t u v).0 (joins_more (Beside S R) (WithLink (Beside S (t ∷ R)) t) split u v (all_spared S u v none joined R (λ m m_in. each m (contains_tail t m R m_in)))))
+    through ((joins_one_more (Beside S (t ∷ R)) t u v).0 (joins_more (Beside S R) (WithLink (Beside S (t ∷ R)) t) split u v
+    (all_spared S u v none joined R (λ m m_in. each m (contains_tail t m R m_in)))))
   where
     split : (m : Link) → Beside S R m → WithLink (Beside S (t ∷ R)) t m
     split m m_in = elim (link_dec m t) [
@@ -132,7 +134,8 @@ all_spared S u v none joined (t ∷ R) each =
     through : JoinsThrough (Beside S (t ∷ R)) t u v → Joins (Beside S (t ∷ R)) u v
     through (inl others) = others
     through (inr (inl (to, from))) =
-        absurd (closes (joins_trans (Without S t) t.low u t.high (joins_symm (Without S t) u t.low (along u t.low to)) (joins_trans (Without S t) u v t.high around (joins_symm (Without S t) t.high v (along t.high v from)))))
+        absurd (closes (joins_trans (Without S t) t.low u t.high (joins_symm (Without S t) u t.low (along u t.low to))
+        (joins_trans (Without S t) u v t.high around (joins_symm (Without S t) t.high v (along t.high v from)))))
     through (inr (inr (to, from))) =
         absurd (closes (joins_trans (Without S t) t.low v t.high (along t.low v from) (joins_trans (Without S t) v u t.high (joins_symm (Without S t) u v around) (along u t.high to))))
 
@@ -149,8 +152,10 @@ find S l (c ∷ candidates) = next (below_dec l c) (joins_dec (λ m. m ≢ c) di
     differs m = elim (link_dec m c) [ inl same ↦ inr (λ other. other same) | inr other ↦ inl other ]
 
     next : Decided (IsBelow l c) → Decided (Joins (Without (Contains S) c) l.low l.high)
-        → ((t : Link) × Contains candidates t × IsBelow l t × ¬ (Joins (Without (Contains S) t) l.low l.high)) ⊎ ((t : Link) → Contains candidates t → IsBelow l t → Joins (Without (Contains S) t) l.low l.high)
-        → ((t : Link) × Contains (c ∷ candidates) t × IsBelow l t × ¬ (Joins (Without (Contains S) t) l.low l.high)) ⊎ ((t : Link) → Contains (c ∷ candidates) t → IsBelow l t → Joins (Without (Contains S) t) l.low l.high)
+        → ((t : Link) × Contains candidates t × IsBelow l t × ¬ (Joins (Without (Contains S) t) l.low l.high))
+        ⊎ ((t : Link) → Contains candidates t → IsBelow l t → Joins (Without (Contains S) t) l.low l.high)
+        → ((t : Link) × Contains (c ∷ candidates) t × IsBelow l t × ¬ (Joins (Without (Contains S) t) l.low l.high))
+        ⊎ ((t : Link) → Contains (c ∷ candidates) t → IsBelow l t → Joins (Without (Contains S) t) l.low l.high)
     next (inl above) (inr apart) rest = inl (c, contains_head c candidates, above, apart)
     next below joined (inl (t, t_in, t_above, apart)) = inl (t, contains_tail c t candidates t_in, t_above, apart)
     next (inl above) (inl joined) (inr spared) = inr (λ t t_in t_above. elim (contains_cases c t candidates t_in) [
@@ -299,13 +304,15 @@ module _ (links taken : List Link) (l : Link) (left others : List Link) (taking 
     where
       by_after : (without : Others others given) (m : Link) → Before m → Joins (After given without) m.low m.high
       by_after without m m_in = elim (link_dec m given) [
-        | inl same ↦ subst (λ (x : Link). Joins (After given without) x.low x.high) (sym same) (joins_more (WithLink (Without Before given) l) (After given without) (to_after given without is_in) given.low given.high joined)
+        | inl same ↦ subst (λ (x : Link). Joins (After given without) x.low x.high) (sym same)
+            (joins_more (WithLink (Without Before given) l) (After given without) (to_after given without is_in) given.low given.high joined)
         | inr differs ↦ joins_link (After given without) m (to_after given without is_in m (inl (m_in, differs)))
       ]
 
   -- if the spanning forest already has the link, it replaces itself
   has_it : Contains others l → Exchanged links taken l others
-  has_it is_in = exchanged l is_in (omega (arith, ints)) (λ m m_in differs. differs) (no_cycle_part (WithLink (Without Before l) l) Before back holding.none) (joins_link (WithLink (Without Before l) l) l (inr refl))
+  has_it is_in = exchanged l is_in (omega (arith, ints)) (λ m m_in differs. differs) (no_cycle_part (WithLink (Without Before l) l) Before back holding.none)
+      (joins_link (WithLink (Without Before l) l) l (inr refl))
     where
       back : (m : Link) → WithLink (Without Before l) l m → Before m
       back m (inl m_in) = m_in.0
@@ -423,7 +430,10 @@ lightest_forest links forest is = (forest_is_lightest links forest is).2
 
 -- no link's endpoints are joined by the other links, and so not by those below it
 pub no_cycle_is_its_forest : NoCycleIsItsForest
-no_cycle_is_its_forest links forest none is l = (λ l_in. ((is.exact l).0 l_in).0, λ l_in. (is.exact l).1 (l_in, λ joined. none l l_in (joins_more (LinksBelow links l) (Without (Contains links) l) other l.low l.high joined)))
+no_cycle_is_its_forest links forest none is l = (
+  λ l_in. ((is.exact l).0 l_in).0,
+  λ l_in. (is.exact l).1 (l_in, λ joined. none l l_in (joins_more (LinksBelow links l) (Without (Contains links) l) other l.low l.high joined)),
+)
   where
     other : (m : Link) → LinksBelow links l m → Without (Contains links) l m
     other m m_in = (m_in.0, λ same. below_irrefl l (subst (λ x. IsBelow x l) same m_in.1))

@@ -35,7 +35,8 @@ ascends_tail R x xs up i j d lt in_range = up (suc i) (suc j) d (omega arith) (o
 
 -- Two ascending lists with the same members are equal. The first element of each is before all its other members, and
 -- no tail contains its list's first element.
-pub same_ascending : {X : Type 0} (R : X → X → Type 0) → ((x : X) → ¬ (R x x)) → ((x y : X) → R x y → ¬ (R y x)) → (xs ys : List X) → AllPairs R xs → AllPairs R ys → ((x : X) → Contains xs x ↔ Contains ys x) → xs ≡ ys
+pub same_ascending : {X : Type 0} (R : X → X → Type 0) → ((x : X) → ¬ (R x x)) → ((x y : X) → R x y → ¬ (R y x)) → (xs ys : List X) → AllPairs R xs
+    → AllPairs R ys → ((x : X) → Contains xs x ↔ Contains ys x) → xs ≡ ys
 same_ascending {X = X} R irrefl asymm [] [] up up' same = refl
 same_ascending {X = X} R irrefl asymm [] (y ∷ ys) up up' same = absurd (contains_none y ((same y).1 (contains_head y ys)))
 same_ascending {X = X} R irrefl asymm (x ∷ xs) [] up up' same = absurd (contains_none x ((same x).0 (contains_head x xs)))

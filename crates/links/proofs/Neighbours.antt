@@ -14,7 +14,8 @@ all_pairs_from_neighbours R trans xs adjacent i j d lt in_range =
     reach (suc n) within = search (arith, slice_index_or, add-one, reach n (omega arith))
 
 -- the result of comparing each pair of neighbours by a test that decides the relation
-pub all_pairs_by_neighbours : {X : Type 0} (R : X → X → Type 0) → ((x y z : X) → R x y → R y z → R x z) → (test : X → X → Bool) → ((x y : X) → (test x y ≡ true) ↔ R x y) → (xs : List X) (r : Bool) → IsAllAdjacentAnswer (λ x y b. b ≡ test x y) xs r → IsTrue r ↔ AllPairs R xs
+pub all_pairs_by_neighbours : {X : Type 0} (R : X → X → Type 0) → ((x y z : X) → R x y → R y z → R x z) → (test : X → X → Bool)
+    → ((x y : X) → (test x y ≡ true) ↔ R x y) → (xs : List X) (r : Bool) → IsAllAdjacentAnswer (λ x y b. b ≡ test x y) xs r → IsTrue r ↔ AllPairs R xs
 all_pairs_by_neighbours R trans test decides xs true adjacent = (λ _. all_pairs_from_neighbours R trans xs up, λ _. refl)
   where
     up : AllAdjacentBelow R xs (length xs)

@@ -85,7 +85,13 @@ record Sifted (P : Link → Type 0) (links : List Link) : Type 0 where
 sift_more : (P : Link → Type 0) (l : Link) (links : List Link) → Decided (P l) → Sifted P links → Sifted P (l ∷ links)
 sift_more P l links tested rest = elim tested [
   | inl passes ↦ joined passes (insert l rest.all rest.ascending)
-  | inr fails ↦ record { all = rest.all; ascending = rest.ascending; members = λ m. (λ is_in. let old = (rest.members m).0 is_in in (contains_tail l m links old.0, old.1), without fails m); few = let fewer = rest.few in omega (arith, fewer) }
+  | inr fails ↦ record {
+    all = rest.all;
+    ascending = rest.ascending;
+    members = λ m.
+        (λ is_in. let old = (rest.members m).0 is_in in (contains_tail l m links old.0, old.1), without fails m);
+    few = let fewer = rest.few in omega (arith, fewer);
+  }
 ]
   where
     without : (P l → ⊥) → (m : Link) → Contains (l ∷ links) m × P m → Contains rest.all m
@@ -110,7 +116,12 @@ sift_more P l links tested rest = elim tested [
         ]
 
 sift : (P : Link → Type 0) → ((l : Link) → Decided (P l)) → (links : List Link) → Sifted P links
-sift P test [] = record { all = []; ascending = λ i j d lt in_range. absurd (omega arith); members = λ m. (λ is_in. absurd (contains_none m is_in), λ is. absurd (contains_none m is.0)); few = omega arith }
+sift P test [] = record {
+  all = [];
+  ascending = λ i j d lt in_range. absurd (omega arith);
+  members = λ m. (λ is_in. absurd (contains_none m is_in), λ is. absurd (contains_none m is.0));
+  few = omega arith;
+}
 sift P test (l ∷ links) = sift_more P l links (test l) (sift P test links)
 
 -- whether smaller links join the endpoints of a link of the list is decidable
@@ -126,7 +137,8 @@ the_forest links = sift (λ l. ¬ (Joins (LinksBelow links l) l.low l.high)) (ap
 
 -- These links are the forest. Every other forest is an ascending list with the same members.
 no_other : (links other : List Link) → IsForestOf links other → other ≡ (the_forest links).all
-no_other links other is = same_members other (the_forest links).all is.ascending (the_forest links).ascending (λ l. (λ is_in. ((the_forest links).members l).1 ((is.exact l).0 is_in), λ is_in. (is.exact l).1 (((the_forest links).members l).0 is_in)))
+no_other links other is = same_members other (the_forest links).all is.ascending (the_forest links).ascending
+    (λ l. (λ is_in. ((the_forest links).members l).1 ((is.exact l).0 is_in), λ is_in. (is.exact l).1 (((the_forest links).members l).0 is_in)))
 
 pub each_has_one_forest : EachHasOneForest
 each_has_one_forest links = ((the_forest links).all, record { ascending = (the_forest links).ascending; exact = (the_forest links).members }, no_other links)

@@ -94,14 +94,22 @@ module _ (f : ℤ → ℤ) (links changed : List Link) (keeps : KeepsOrder f lin
   joins_ends S m k m_in low high = subst (λ u. Joins S u k.2) (sym low) (subst (λ v. Joins S m.low v) (sym high) (joins_link S m m_in))
 
   forest_link_changed : (l l' : Link) → Contains links l → Contains changed l' → IsReweighted f l l' → IsForestLink links l → IsForestLink changed l'
-  forest_link_changed l l' l_in l'_in l_is is = (l'_in, λ joined. is.1 (subst (λ (k : Key). Joins (LinksBelow links l) k.1 k.2) l_is (joins_replace (LinksBelow changed l') (LinksBelow links l) own l'.low l'.high joined)))
+  forest_link_changed l l' l_in l'_in l_is is = (
+    l'_in,
+    λ joined. is.1 (subst (λ (k : Key). Joins (LinksBelow links l) k.1 k.2) l_is
+        (joins_replace (LinksBelow changed l') (LinksBelow links l) own l'.low l'.high joined)),
+  )
     where
       own : (m' : Link) → LinksBelow changed l' m' → Joins (LinksBelow links l) m'.low m'.high
       own m' (m'_in, below) = let one = own_one f links changed are m' m'_in in
           joins_ends (LinksBelow links l) one.0 (key_of m') (one.1, below_own one.0 l m' l' one.1 l_in one.2 l_is below) (ap (λ (k : Key). k.1) one.2) (ap (λ (k : Key). k.2) one.2)
 
   forest_link_own : (l l' : Link) → Contains links l → IsReweighted f l l' → IsForestLink changed l' → IsForestLink links l
-  forest_link_own l l' l_in l_is is = (l_in, λ joined. is.1 (subst (λ (k : Key). Joins (LinksBelow changed l') k.1 k.2) (sym l_is) (joins_replace (LinksBelow links l) (LinksBelow changed l') other l.low l.high joined)))
+  forest_link_own l l' l_in l_is is = (
+    l_in,
+    λ joined. is.1 (subst (λ (k : Key). Joins (LinksBelow changed l') k.1 k.2) (sym l_is)
+        (joins_replace (LinksBelow links l) (LinksBelow changed l') other l.low l.high joined)),
+  )
     where
       other : (m : Link) → LinksBelow links l m → Joins (LinksBelow changed l') m.low m.high
       other m (m_in, below) = let one = changed_one f links changed are m m_in in

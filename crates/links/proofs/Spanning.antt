@@ -27,7 +27,8 @@ walked S u v (walk, all, leads) = record {
 -- either. If the greatest is below the link, all of them are, and the link is in the forest. Otherwise, it is above the
 -- link. If the others don't join the link's endpoints without it, they and the link join its endpoints, and all of
 -- these are below it.
-by_greatest : (links : List Link) (l : Link) → IsForestLink links l → (Q : List Link) (top : HasGreatest Q) → ((q : Link) → Contains Q q → IsForestLink links q × (q ≢ l)) → ¬ (Joins (Contains top.others) l.low l.high) → ¬ (Joins (Contains Q) l.low l.high)
+by_greatest : (links : List Link) (l : Link) → IsForestLink links l → (Q : List Link) (top : HasGreatest Q)
+    → ((q : Link) → Contains Q q → IsForestLink links q × (q ≢ l)) → ¬ (Joins (Contains top.others) l.low l.high) → ¬ (Joins (Contains Q) l.low l.high)
 by_greatest links l is Q top each fewer joined = by_order (trichotomy top.greatest l)
   where
     with_greatest : (m : Link) → Contains Q m → WithLink (Contains top.others) top.greatest m
@@ -50,7 +51,8 @@ by_greatest links l is Q top each fewer joined = by_order (trichotomy top.greate
     closes above (inr (inl (to, from))) =
         let S = LinksBelow links top.greatest in
         let g = top.greatest in
-        not_around (joins_trans S g.low l.low g.high (joins_symm S l.low g.low (along l.low g.low to)) (joins_trans S l.low l.high g.high (joins_link S l (is.0, above)) (joins_symm S g.high l.high (along g.high l.high from))))
+        not_around (joins_trans S g.low l.low g.high (joins_symm S l.low g.low (along l.low g.low to))
+        (joins_trans S l.low l.high g.high (joins_link S l (is.0, above)) (joins_symm S g.high l.high (along g.high l.high from))))
     closes above (inr (inr (to, from))) =
         let S = LinksBelow links top.greatest in
         let g = top.greatest in
@@ -59,9 +61,11 @@ by_greatest links l is Q top each fewer joined = by_order (trichotomy top.greate
     by_order : IsBelow top.greatest l ⊎ (top.greatest ≡ l) ⊎ IsBelow l top.greatest → ⊥
     by_order (inl below) = is.1 (joins_more (Contains Q) (LinksBelow links l) (to_below below) l.low l.high joined)
     by_order (inr (inl same)) = (each top.greatest top.member).1 same
-    by_order (inr (inr above)) = closes above ((joins_one_more (Contains top.others) top.greatest l.low l.high).0 (joins_more (Contains Q) (WithLink (Contains top.others) top.greatest) with_greatest l.low l.high joined))
+    by_order (inr (inr above)) = closes above ((joins_one_more (Contains top.others) top.greatest l.low l.high).0
+        (joins_more (Contains Q) (WithLink (Contains top.others) top.greatest) with_greatest l.low l.high joined))
 
-others_dont_join : (links : List Link) (l : Link) → IsForestLink links l → (fuel : ℕ) (Q : List Link) → length Q ≤ fuel → ((q : Link) → Contains Q q → IsForestLink links q × (q ≢ l)) → ¬ (Joins (Contains Q) l.low l.high)
+others_dont_join : (links : List Link) (l : Link) → IsForestLink links l → (fuel : ℕ) (Q : List Link) → length Q ≤ fuel
+    → ((q : Link) → Contains Q q → IsForestLink links q × (q ≢ l)) → ¬ (Joins (Contains Q) l.low l.high)
 others_dont_join links l is fuel [] small each joined = is.1 (joins_more (Contains []) (LinksBelow links l) (λ m m_in. absurd (contains_none m m_in)) l.low l.high joined)
 others_dont_join links l is zero (q ∷ Q) small each joined = absurd (omega arith)
 others_dont_join links l is (suc fuel) (q ∷ Q) small each joined =
@@ -71,7 +75,8 @@ others_dont_join links l is (suc fuel) (q ∷ Q) small each joined =
 
 -- The part joins the endpoints of each forest link by a walk. No walk over other forest links does, so the part has the
 -- link.
-pub spanning_part : (links : List Link) (P : Link → Type 0) → ((l : Link) → P l → IsForestLink links l) → ((u v : ℕ) → Joins (Contains links) u v → Joins P u v) → (l : Link) → P l ↔ IsForestLink links l
+pub spanning_part : (links : List Link) (P : Link → Type 0) → ((l : Link) → P l → IsForestLink links l)
+    → ((u v : ℕ) → Joins (Contains links) u v → Joins P u v) → (l : Link) → P l ↔ IsForestLink links l
 spanning_part links P part spans l = (part l, taken)
   where
     taken : IsForestLink links l → P l
@@ -79,5 +84,6 @@ spanning_part links P part spans l = (part l, taken)
         let around = walked P l.low l.high (spans l.low l.high (joins_link (Contains links) l is.0)) in
         elim (contains_dec link_dec around.walk l) [
           | inl in_walk ↦ around.within l in_walk
-          | inr not_in ↦ absurd (others_dont_join links l is (length around.walk) around.walk (omega arith) (λ m m_in. (part m (around.within m m_in), λ same. not_in (subst (λ x. Contains around.walk x) same m_in))) around.joined)
+          | inr not_in ↦ absurd (others_dont_join links l is (length around.walk) around.walk (omega arith)
+              (λ m m_in. (part m (around.within m m_in), λ same. not_in (subst (λ x. Contains around.walk x) same m_in))) around.joined)
         ]

@@ -29,7 +29,8 @@ joins_trans S u v w (walk, all, leads) then_on = along u walk all leads
 
 -- Every equivalence relation that holds between the endpoints of each link of a set holds between any two vertices that
 -- the set joins. The proof goes along the walk, link by link.
-pub joins_least : (S : Link → Type 0) (R : ℕ → ℕ → Type 0) → ((u : ℕ) → R u u) → ((u v : ℕ) → R u v → R v u) → ((u v w : ℕ) → R u v → R v w → R u w) → ((l : Link) → S l → R l.low l.high) → (u v : ℕ) → Joins S u v → R u v
+pub joins_least : (S : Link → Type 0) (R : ℕ → ℕ → Type 0) → ((u : ℕ) → R u u) → ((u v : ℕ) → R u v → R v u) → ((u v w : ℕ) → R u v → R v w → R u w)
+    → ((l : Link) → S l → R l.low l.high) → (u v : ℕ) → Joins S u v → R u v
 joins_least S R same back on ends u v (walk, all, leads) = along u walk all leads
   where
     along : (u : ℕ) (walk : List Link) → AllByRecursion S walk → IsWalk u walk v → R u v
@@ -133,7 +134,8 @@ joins_dec P test (l ∷ links) u v = elim (test l) [
   | inl passes ↦ dec_along
       (λ joined. joins_more (WithLink (Passing links P) l) (Passing (l ∷ links) P) (with_to passes) u v ((joins_one_more (Passing links P) l u v).1 joined))
       (λ joined. (joins_one_more (Passing links P) l u v).0 (joins_more (Passing (l ∷ links) P) (WithLink (Passing links P) l) to_with u v joined))
-      (three_dec (joins_dec P test links u v) (both_dec (joins_dec P test links u l.low) (joins_dec P test links l.high v)) (both_dec (joins_dec P test links u l.high) (joins_dec P test links l.low v)))
+      (three_dec (joins_dec P test links u v) (both_dec (joins_dec P test links u l.low) (joins_dec P test links l.high v))
+      (both_dec (joins_dec P test links u l.high) (joins_dec P test links l.low v)))
   | inr fails ↦ dec_along
       (joins_more (Passing links P) (Passing (l ∷ links) P) (λ m is_in. (contains_tail l m links is_in.0, is_in.1)) u v)
       (joins_more (Passing (l ∷ links) P) (Passing links P) (without fails) u v)

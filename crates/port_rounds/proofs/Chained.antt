@@ -15,11 +15,13 @@ use Rattle.port_rounds.specs.Chains.{MergesBook, MergesBooks, MergesFromStart}
 
 -- ---- another book
 
-more : (old : Progress) (books : List BookValue) (middle : Progress) (book : BookValue) (new : Progress) → MergesBooks old books middle → MergesBook middle book new → MergesBooks old (books ++ book ∷ []) new
+more : (old : Progress) (books : List BookValue) (middle : Progress) (book : BookValue) (new : Progress) → MergesBooks old books middle
+    → MergesBook middle book new → MergesBooks old (books ++ book ∷ []) new
 more old [] middle book new so_far m = (new, subst (λ (p : Progress). MergesBook p book new) so_far m, refl)
 more old (b ∷ books) middle book new so_far m = (so_far.0, so_far.1, more so_far.0 books middle book new so_far.2 m)
 
-pub merged_then : (n : ℕ) (books : List BookValue) (old : Progress) (book : BookValue) (new : Progress) → MergesFromStart n books old → MergesBook old book new → MergesFromStart n (books ++ book ∷ []) new
+pub merged_then : (n : ℕ) (books : List BookValue) (old : Progress) (book : BookValue) (new : Progress) → MergesFromStart n books old → MergesBook old book new
+    → MergesFromStart n (books ++ book ∷ []) new
 merged_then n books old book new s m = record { start = s.start; at_start = s.at_start; merged = more s.start books old book new s.merged m }
 
 -- ---- light answers

@@ -12,14 +12,16 @@ pub no_first : {Y : Type 0} (r : Option Y) (none : Type 0) (some : Y → Type 0)
 no_first a1 a2 a3 a4 a5 = search arith
 
 module _ {P : Type 0} where
-  pub open_cons : (state : P → PortState) (zs : List (LaneState P)) (x : LaneState P) (xs : List (LaneState P)) → zs ≡ x ∷ xs → open_count state zs ≡ count_if (state x.port).is_open + open_count state xs
+  pub open_cons : (state : P → PortState) (zs : List (LaneState P)) (x : LaneState P) (xs : List (LaneState P)) → zs ≡ x ∷ xs
+      → open_count state zs ≡ count_if (state x.port).is_open + open_count state xs
   open_cons state zs x xs e = rw e (sum_by-cons (λ l. count_if (state l.port).is_open) x xs)
 
   pub no_seat_tail : (zs : List (LaneState P)) (x : LaneState P) (xs : List (LaneState P)) → zs ≡ x ∷ xs → All (λ l. l.seat ≡ None) zs → All (λ l. l.seat ≡ None) xs
   no_seat_tail zs x xs e a = All-tail (λ l. l.seat ≡ None) x xs (rw e at a)
 
   -- the seats taken out of the first lane, and then those out of the rest
-  pub taken_back : (zs : List (LaneState P)) (x : LaneState P) (xs : List (LaneState P)) (old middle new : List SeatState) → zs ≡ x ∷ xs → middle ≡ old ++ option_to_list x.seat → new ≡ middle ++ seats_of xs → new ≡ old ++ seats_of zs
+  pub taken_back : (zs : List (LaneState P)) (x : LaneState P) (xs : List (LaneState P)) (old middle new : List SeatState) → zs ≡ x ∷ xs
+      → middle ≡ old ++ option_to_list x.seat → new ≡ middle ++ seats_of xs → new ≡ old ++ seats_of zs
   taken_back zs x xs old middle new e f h = rw e (h ∙ (ap (λ o. o ++ seats_of xs) f ∙ append_assoc old (option_to_list x.seat) (seats_of xs)))
 
   pub seats_cons : (zs : List (LaneState P)) (x : LaneState P) (xs : List (LaneState P)) → zs ≡ x ∷ xs → length (seats_of zs) ≡ length (option_to_list x.seat) + length (seats_of xs)

@@ -66,7 +66,8 @@ module _ {P A : Type 0} (port : Port.Ghosts P A) where
   }
 
   -- passes over the book of the solver's next round
-  pub turn_asked : (r : ℕ) (cut : List (List Link)) (ls : List ℕ) (old : Progress) (middle : BookValue) (xs ys : List (LaneState P)) → r ≡ old.rounds + 1 → ls ≡ old.labels → IsProgress old → All (EndsUpTo (vertices old)) cut
+  pub turn_asked : (r : ℕ) (cut : List (List Link)) (ls : List ℕ) (old : Progress) (middle : BookValue) (xs ys : List (LaneState P)) → r ≡ old.rounds + 1
+      → ls ≡ old.labels → IsProgress old → All (EndsUpTo (vertices old)) cut
       → length cut ≤ MAX_SHARDS → RunsPasses port (opened r cut ls) middle xs ys → AsksInRound port cut old xs ys
   turn_asked r cut ls old middle xs ys same_round same_labels is ends few u =
       let first = opened (old.rounds + 1) cut old.labels in
@@ -86,7 +87,8 @@ module _ {P A : Type 0} (port : Port.Ghosts P A) where
         ports = record {
           same_lanes = v.same_lanes;
           each = λ i d b. asks_more port (TakesExchange first) (IsKeptIn (middle ∷ [])) (ClosesPort first) (ClosesPortIn (middle ∷ []))
-              (λ x q. (middle, (0, omega arith, refl), kept_still first middle same x q)) (λ w t q. (middle, (0, omega arith, refl), closing_still first middle same w t q)) _ _ (v.answers_at i) (v.each i d b);
+              (λ x q. (middle, (0, omega arith, refl), kept_still first middle same x q)) (λ w t q.
+              (middle, (0, omega arith, refl), closing_still first middle same w t q)) _ _ (v.answers_at i) (v.each i d b);
         };
         kept = kept_in port first middle middle xs ys 0 v (scanned_none middle) refl;
       }
@@ -193,7 +195,8 @@ module _ {P A : Type 0} (port : Port.Ghosts P A) where
             All-append (λ (book : BookValue). book.round < new.rounds + 1) u.books (r.book ∷ []) (λ i d b. (let f = u.earlier i d b in omega arith))
             (one (λ (book : BookValue). book.round < new.rounds + 1) r.book (let f = same.round in omega arith)));
         right = λ light.
-            (one_round (joined cut) old picks is (ends_of n cut old u.vertices_are ends) (u.right (light_first u.books (r.book ∷ []) light)) (least_picks n cut xs zs old picks _ _ v light) new count m).right;
+            (one_round (joined cut) old picks is (ends_of n cut old u.vertices_are ends) (u.right (light_first u.books (r.book ∷ []) light))
+            (least_picks n cut xs zs old picks _ _ v light) new count m).right;
       }
 
   -- the last round, which had no picks

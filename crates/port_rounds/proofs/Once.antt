@@ -33,7 +33,8 @@ is_taken_now p [] t h = absurd (omega (arith, h.1))
 is_taken_now p (x ∷ ts) t (zero, b, e) = search (arith, either, taken_before, set_takes)
 is_taken_now p (x ∷ ts) t (suc k, b, e) = is_taken_now (with_answer p x) ts t (k, omega arith, e)
 
-pub value_opened : (round : ℕ) (cut : List (List Link)) (labels : List ℕ) → AreLabels labels → All (EndsUpTo (length labels)) cut → length cut ≤ MAX_SHARDS → IsBook (opened round cut labels) labels (length cut) (replicate (length labels) None)
+pub value_opened : (round : ℕ) (cut : List (List Link)) (labels : List ℕ) → AreLabels labels → All (EndsUpTo (length labels)) cut → length cut ≤ MAX_SHARDS
+    → IsBook (opened round cut labels) labels (length cut) (replicate (length labels) None)
 value_opened round cut labels are ends few =
     let nothing : List (Option Link) = replicate (length labels) None in
     let long : length nothing ≡ length labels = length-replicate (length labels) None in
@@ -47,7 +48,8 @@ book_all p looked_up [] room best is are = is
 book_all p looked_up (t ∷ ts) room best is are = book_all (with_answer p t) looked_up ts room best (book_heard p looked_up room best t.shard t is are.0.within are.0.taken) are.1
 
 -- a book that was opened stays a book
-pub value_of_book : (round : ℕ) (cut : List (List Link)) (labels : List ℕ) (ts : List AnswerValue) → AreLabels labels → All (EndsUpTo (length labels)) cut → length cut ≤ MAX_SHARDS → TakesAll (opened round cut labels) ts → IsBookValue (with_answers (opened round cut labels) ts)
+pub value_of_book : (round : ℕ) (cut : List (List Link)) (labels : List ℕ) (ts : List AnswerValue) → AreLabels labels → All (EndsUpTo (length labels)) cut
+    → length cut ≤ MAX_SHARDS → TakesAll (opened round cut labels) ts → IsBookValue (with_answers (opened round cut labels) ts)
 value_of_book round cut labels ts labels_are ends few are = (book_all (opened round cut labels) labels ts _ _ (value_opened round cut labels labels_are ends few) are).value
 
 -- ---- lists of numbers without repeats
@@ -97,13 +99,15 @@ once_of (x ∷ xs) d zero (suc j) k l t a b c e same =
     let first = get_or x.kept k t in
     let other = get_or (kept_at xs j) l t in
     let there : Contains (kept_answers xs) other = kept_to xs j other (omega arith) (All-contains_itself (kept_at xs j) l t e) in
-    absurd (distinct_apart (shards_of x.kept) (shards_of (kept_answers xs)) first.shard apart (named x.kept first (All-contains_itself x.kept k t c)) (subst (Contains (shards_of (kept_answers xs))) (sym same.1) (named (kept_answers xs) other there)))
+    absurd (distinct_apart (shards_of x.kept) (shards_of (kept_answers xs)) first.shard apart (named x.kept first (All-contains_itself x.kept k t c))
+    (subst (Contains (shards_of (kept_answers xs))) (sym same.1) (named (kept_answers xs) other there)))
 once_of (x ∷ xs) d (suc i) zero k l t a b c e same =
     let apart : Distinct (shards_of x.kept ++ shards_of (kept_answers xs)) = rw (shards_cut x.kept (kept_answers xs)) at d in
     let first = get_or x.kept l t in
     let other = get_or (kept_at xs i) k t in
     let there : Contains (kept_answers xs) other = kept_to xs i other (omega arith) (All-contains_itself (kept_at xs i) k t c) in
-    absurd (distinct_apart (shards_of x.kept) (shards_of (kept_answers xs)) first.shard apart (named x.kept first (All-contains_itself x.kept l t e)) (subst (Contains (shards_of (kept_answers xs))) same.1 (named (kept_answers xs) other there)))
+    absurd (distinct_apart (shards_of x.kept) (shards_of (kept_answers xs)) first.shard apart (named x.kept first (All-contains_itself x.kept l t e))
+    (subst (Contains (shards_of (kept_answers xs))) same.1 (named (kept_answers xs) other there)))
 once_of (x ∷ xs) d (suc i) (suc j) k l t a b c e same =
     let rest : Distinct (shards_of (kept_answers xs)) = distinct_rest (shards_of x.kept) (shards_of (kept_answers xs)) (rw (shards_cut x.kept (kept_answers xs)) at d) in
     let r = once_of xs rest i j k l t (omega arith) (omega arith) c e same in
@@ -147,7 +151,8 @@ once_then n at bt u v apart i j k l d bi bj bk bl same =
         | inl here ↦
             let c = get_or (at j) l d in
             let e = get_or (bt i) (k - length (at i)) d in
-            absurd (apart j i c e bj bi (All-contains_itself (at j) l d here) (All-contains_itself (bt i) (k - length (at i)) d (omega arith)) (other_way e c (one_same a b e c (p.second over) (q.first here) same)))
+            absurd (apart j i c e bj bi (All-contains_itself (at j) l d here) (All-contains_itself (bt i) (k - length (at i)) d (omega arith))
+            (other_way e c (one_same a b e c (p.second over) (q.first here) same)))
         | inr past ↦
             let c = get_or (bt i) (k - length (at i)) d in
             let e = get_or (bt j) (l - length (at j)) d in

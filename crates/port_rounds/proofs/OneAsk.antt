@@ -45,7 +45,8 @@ pub where_held : (r : Claim) (fact : Type 0) → ¬ (r ≡ Won) → IfHeld r (λ
 where_held a1 a2 a3 a4 = search arith
 
 -- the book doesn't reject an honest answer
-pub honest_taken : (value : BookValue) (cut : List (List Link)) (round shard : ℕ) (labels : List ℕ) (t : AnswerValue) → LightOffersAreTaken → cut ≡ value.cut → round ≡ value.round → value.labels ≡ labels → is_taken value shard ≡ false
+pub honest_taken : (value : BookValue) (cut : List (List Link)) (round shard : ℕ) (labels : List ℕ) (t : AnswerValue) → LightOffersAreTaken → cut ≡ value.cut
+    → round ≡ value.round → value.labels ≡ labels → is_taken value shard ≡ false
     → IsHonestAnswer cut round shard labels t → refusal value shard t ≡ None
 honest_taken value cut round shard labels t law a b c missed h = (let r = honest_of value cut round shard labels t a b c h in law value shard t missed r.round_is r.shard_is r.light)
 
@@ -93,11 +94,14 @@ module _ {P A : Type 0} (port : Port.Ghosts P A) (value : BookValue) (a : P) (ro
   }
 
   -- the answer is rejected, and the port is shut
-  pub refused_one : (m b : P) (t : AnswerValue) → IsSome (refusal value shard t) → (port.honest a → refusal value shard t ≡ None) → CountsAsks 1 0 0 (port.state a) (port.state m) → (port.state m).last ≡ (round, shard)
+  pub refused_one : (m b : P) (t : AnswerValue) → IsSome (refusal value shard t) → (port.honest a → refusal value shard t ≡ None)
+      → CountsAsks 1 0 0 (port.state a) (port.state m) → (port.state m).last ≡ (round, shard)
       → CountsAsks 0 0 0 (port.state m) (port.state b) → (port.state b).is_open ≡ false
-      → ((before : List Exchange) → port.exchanged a before → port.exchanged m (before ++ exchange_of round shard labels t ∷ [])) → ((others : List Exchange) → port.exchanged m others → port.exchanged b others)
+      → ((before : List Exchange) → port.exchanged a before → port.exchanged m (before ++ exchange_of round shard labels t ∷ []))
+      → ((others : List Exchange) → port.exchanged m others → port.exchanged b others)
       → (port.honest a → port.honest m) → (port.honest m → port.honest b)
-      → ((ends : ℕ) (before : List Exchange) → port.sound a ends before → port.sound m ends (before ++ exchange_of round shard labels t ∷ [])) → ((ends : ℕ) (others : List Exchange) → port.sound m ends others → port.sound b ends others)
+      → ((ends : ℕ) (before : List Exchange) → port.sound a ends before → port.sound m ends (before ++ exchange_of round shard labels t ∷ []))
+      → ((ends : ℕ) (others : List Exchange) → port.sound m ends others → port.sound b ends others)
       → AnswersAsks port (TakesExchange value) (ClosesPort value) a b []
   refused_one m b t some none_of_honest went last shut closed exchanges exchanges' stays stays' sounds sounds' = record {
     cut = shut.cut ∙ went.cut;

@@ -125,7 +125,8 @@ module _ {P A : Type 0} (port : Port.Ghosts P A) where
     answers = [];
     answers_at = λ i. [];
     same_lanes = each_length SamePort xs ys same;
-    each = λ i d b. (let e = (each_at SamePort xs ys same i d b).port in subst (λ q. AnswersAsks port (TakesExchange value) (ClosesPort value) (get_or xs i d).port q []) (sym e) (stayed port (TakesExchange value) (ClosesPort value) (get_or xs i d).port));
+    each = λ i d b. (let e = (each_at SamePort xs ys same i d b).port in subst (λ q. AnswersAsks port (TakesExchange value) (ClosesPort value)
+        (get_or xs i d).port q []) (sym e) (stayed port (TakesExchange value) (ClosesPort value) (get_or xs i d).port));
     few = λ i. omega arith;
     reached = λ i t b h. absurd (omega arith);
     given = λ t h. absurd (omega arith);
@@ -154,8 +155,10 @@ heard_same p q ts e = search (arith, same_round)
 pub askable_still : (p q : BookValue) → SameRound p q → IsAskable p → IsAskable q
 askable_still p q s r = record { some_shard = rw s.cut r.some_shard; ends = rw (s.cut, s.labels) r.ends; round = rw s.round r.round }
 
-refusal_of : (r r' : ℕ) (cut cut' : List (List Link)) (labels labels' : List ℕ) (taken taken' : List Bool) (answers answers' : List AnswerValue) (s : ℕ) (t : AnswerValue) → r' ≡ r → cut' ≡ cut → labels' ≡ labels → get_or taken s true ≡ false → get_or taken' s true ≡ false
-    → refusal (record { round = r'; cut = cut'; labels = labels'; taken = taken'; answers = answers' }) s t ≡ refusal (record { round = r; cut = cut; labels = labels; taken = taken; answers = answers }) s t
+refusal_of : (r r' : ℕ) (cut cut' : List (List Link)) (labels labels' : List ℕ) (taken taken' : List Bool) (answers answers' : List AnswerValue) (s : ℕ)
+    (t : AnswerValue) → r' ≡ r → cut' ≡ cut → labels' ≡ labels → get_or taken s true ≡ false → get_or taken' s true ≡ false
+    → refusal (record { round = r'; cut = cut'; labels = labels'; taken = taken'; answers = answers' }) s t ≡ refusal
+    (record { round = r; cut = cut; labels = labels; taken = taken; answers = answers }) s t
 refusal_of r r' cut cut' labels labels' taken taken' answers answers' s t a b c d e = rw (a, b, c, d, e) refl
 
 ask_before : (p : BookValue) (ts : List AnswerValue) (w : ℕ × ℕ) → IsAskOf (with_answers p ts) w → IsAskOf p w

@@ -1,5 +1,6 @@
 -- One round after others.
-use Rattle.std.proofs.Common.{◌≡◌, ℕ, zero, suc, ◌+◌, ◌*◌, ◌<◌, ◌≤◌, ◌⊎◌, inl, inr, not, cond, false, List, [], ◌∷◌, ◌++◌, length, get_or, refl, ap, sym, subst, ◌∙◌, arith, length-append, append-nil, append_assoc}
+use Rattle.std.proofs.Common.{◌≡◌, ℕ, zero, suc, ◌+◌, ◌*◌, ◌<◌, ◌≤◌, ◌⊎◌, inl, inr, not, cond, false, List, [], ◌∷◌, ◌++◌, length, get_or, refl, ap, sym, subst, ◌∙◌, arith, length-append}
+use Rattle.std.proofs.Common.{append-nil, append_assoc}
 use Rattle.std.specs.Prelude.{All, Contains, Option, Some, None}
 use Rattle.std.proofs.Math.Nat.{suc-mul}
 use Rattle.std.proofs.lemmas.List.{nil_from_length}
@@ -79,7 +80,8 @@ pub whole_books : (cut : List (List Link)) (books : List BookValue) → All (IsF
 whole_books cut books whole = All-weaker (IsFullBook cut) IsBookValue (λ book w. w.value) books whole
 
 -- exchanges of books of earlier rounds come before those of a round
-pub books_first : (books : List BookValue) (round : ℕ) (xs ys : List Exchange) → All (λ (book : BookValue). book.round < round) books → All (IsKeptIn books) xs → All (λ (y : Exchange). y.round ≡ round) ys → ComeFirst xs ys
+pub books_first : (books : List BookValue) (round : ℕ) (xs ys : List Exchange) → All (λ (book : BookValue). book.round < round) books → All (IsKeptIn books) xs
+    → All (λ (y : Exchange). y.round ≡ round) ys → ComeFirst xs ys
 books_first books round xs ys earlier kept now i d b j e c =
     let (book, is_in, is) = kept i d b in
     omega (arith, is.asked.ask.round, All-contains (λ (book : BookValue). book.round < round) books book earlier is_in, now j e c)
@@ -112,7 +114,8 @@ kept_in port old middle new xs ys k v w none =
     }
 
 -- an answer that was kept is of the round of a book
-pub kept_round : {P : Type 0} (honest : P → Type 0) (xs : List (LaneState P)) (books : List BookValue) (at : ℕ → List AnswerValue) (i : ℕ) (t : AnswerValue) → All IsBookValue books → MatchesBooks honest xs books at
+pub kept_round : {P : Type 0} (honest : P → Type 0) (xs : List (LaneState P)) (books : List BookValue) (at : ℕ → List AnswerValue) (i : ℕ) (t : AnswerValue)
+    → All IsBookValue books → MatchesBooks honest xs books at
     → i < length xs → Contains (at i) t → (book : BookValue) × Contains books book × (t.round ≡ book.round)
 kept_round honest xs books at i t values u b h =
     let r = u.reached i t b h in
@@ -121,7 +124,8 @@ kept_round honest xs books at i t values u b h =
 
 -- kept answers and their books, and those of another book of a later round
 pub kept_then : {P : Type 0} (honest : P → Type 0) (xs ys : List (LaneState P)) (books : List BookValue) (new : BookValue) (at bt : ℕ → List AnswerValue) → length ys ≡ length xs
-    → ((i : ℕ) (d : LaneState P) → i < length xs → honest (get_or xs i d).port → honest (get_or ys i d).port) → All IsBookValue books → IsBookValue new → All (λ (book : BookValue). book.round < new.round) books
+    → ((i : ℕ) (d : LaneState P) → i < length xs → honest (get_or xs i d).port → honest (get_or ys i d).port) → All IsBookValue books → IsBookValue new
+    → All (λ (book : BookValue). book.round < new.round) books
     → MatchesBooks honest xs books at → MatchesBooks honest ys (new ∷ []) bt → MatchesBooks honest xs (books ++ new ∷ []) (λ i. at i ++ bt i)
 kept_then {P} honest xs ys books new at bt same stays values value earlier u v =
     let both : ℕ → List AnswerValue = λ i. at i ++ bt i in
@@ -134,11 +138,13 @@ kept_then {P} honest xs ys books new at bt same stays values value earlier u v =
       ];
       each_is =
           All-append (λ (book : BookValue). All (λ t. IsLight book t ⊎ IsGivenBy (length xs) both t) book.answers) books (new ∷ [])
-          (All-weaker (λ (book : BookValue). All (λ t. IsLight book t ⊎ IsGivenBy (length xs) at t) book.answers) (λ (book : BookValue). All (λ t. IsLight book t ⊎ IsGivenBy (length xs) both t) book.answers)
+          (All-weaker (λ (book : BookValue). All (λ t. IsLight book t ⊎ IsGivenBy (length xs) at t) book.answers)
+          (λ (book : BookValue). All (λ t. IsLight book t ⊎ IsGivenBy (length xs) both t) book.answers)
           (λ book a. All-weaker (λ t. IsLight book t ⊎ IsGivenBy (length xs) at t) (λ t. IsLight book t ⊎ IsGivenBy (length xs) both t)
           (λ t e. elim e [ inl l ↦ inl l | inr g ↦ inr (g.0, g.1, Contains-append_left (at g.0) (bt g.0) t g.2) ]) book.answers a)
           books u.each_is)
-          (All-weaker (λ (book : BookValue). All (λ t. IsLight book t ⊎ IsGivenBy (length ys) bt t) book.answers) (λ (book : BookValue). All (λ t. IsLight book t ⊎ IsGivenBy (length xs) both t) book.answers)
+          (All-weaker (λ (book : BookValue). All (λ t. IsLight book t ⊎ IsGivenBy (length ys) bt t) book.answers)
+          (λ (book : BookValue). All (λ t. IsLight book t ⊎ IsGivenBy (length xs) both t) book.answers)
           (λ book a. All-weaker (λ t. IsLight book t ⊎ IsGivenBy (length ys) bt t) (λ t. IsLight book t ⊎ IsGivenBy (length xs) both t)
           (λ t e. elim e [ inl l ↦ inl l | inr g ↦ inr (g.0, (let l = g.1 in omega arith), Contains-append_right (at g.0) (bt g.0) t g.2) ]) book.answers a)
           (new ∷ []) v.each_is);
@@ -252,7 +258,8 @@ module _ {P A : Type 0} (port : Port.Ghosts P A) where
             let nothing_scanned : w.answers ≡ [] = nil_from_length w.answers (let e = w.count_is in omega arith) in
             let just : v.answers ≡ new.answers = sym (append-nil v.answers) ∙ (ap (λ zs. v.answers ++ zs) (sym nothing_scanned) ∙ sym answers) in
             subst (λ (ts : List AnswerValue). All (IsGivenBy (length xs) at) ts) just
-            (contains_all (IsGivenBy (length xs) at) v.answers (λ t c. (let q = v.given t c in (q.0, (let e = u.ports.same_lanes in let l = q.1 in omega arith), Contains-append_right (u.answers_at q.0) (v.answers_at q.0) t q.2))))));
+            (contains_all (IsGivenBy (length xs) at) v.answers (λ t c. (let q = v.given t c in
+            (q.0, (let e = u.ports.same_lanes in let l = q.1 in omega arith), Contains-append_right (u.answers_at q.0) (v.answers_at q.0) t q.2))))));
         light = λ h.
             All-append (λ (book : BookValue). All (IsLight book) book.answers) books (new ∷ []) (u.light h)
             (one (λ (book : BookValue). All (IsLight book) book.answers) new (subst (λ (ts : List AnswerValue). All (IsLight new) ts) (sym answers)

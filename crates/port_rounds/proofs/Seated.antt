@@ -101,7 +101,8 @@ module _ {P A : Type 0} (port : Port.Ghosts P A) (value : BookValue) where
   kept_apart xs ys row f back apart = search (arith, held_kept, distinct_of, taken_of, kept_all)
 
   -- the asks of all ports rose by the kept answers and by the ports that closed
-  pub counted : (xs ys : List (LaneState P)) → AllZip (RunsFerry port value) xs ys → ask_count port.state ys + open_count port.state ys ≡ (ask_count port.state xs + length (kept_answers ys)) + open_count port.state xs
+  pub counted : (xs ys : List (LaneState P)) → AllZip (RunsFerry port value) xs ys
+      → ask_count port.state ys + open_count port.state ys ≡ (ask_count port.state xs + length (kept_answers ys)) + open_count port.state xs
   counted [] [] p = refl
   counted [] (y ∷ ys) p = absurd p
   counted (x ∷ xs) [] p = absurd p

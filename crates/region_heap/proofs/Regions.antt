@@ -48,7 +48,8 @@ region_made 𝓛 p n small =
     flt_i ! n (2 ^ 64) small $ feq_i ! (List Val) (vint w64 n ∷ []) (vint w64 n ∷ []) refl $ fjoin ! $ fjoin ! $
     feq_i ! (List Val) (ptr_val p ∷ []) (ptr_val p ∷ []) refl $ fjoin ! $
     feq_i ! (List Val) (region_val p n ∷ []) (region_val p n ∷ []) refl $ fjoin ! $
-    fpack ! (Valss (RawPtr ∷ usize ∷ owner.the_row ∷ [])) (within (Declared.shape region.the_type) (p, (n, (o, tt))) (region_val p n ∷ [])) (ptr_val p ∷ [], (vint w64 n ∷ [], (vstruct vnil ∷ [], tt))) $ done !
+    fpack ! (Valss (RawPtr ∷ usize ∷ owner.the_row ∷ [])) (within (Declared.shape region.the_type) (p, (n, (o, tt))) (region_val p n ∷ []))
+    (ptr_val p ∷ [], (vint w64 n ∷ [], (vstruct vnil ∷ [], tt))) $ done !
 
 -- no type has a greater alignment than a unit
 aligned : (τ : Ty) → Dv (align τ) 16

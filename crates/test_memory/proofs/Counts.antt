@@ -59,7 +59,8 @@ module _ {M : Type 1} {𝓤 : Ura M} (𝓛 : Logic 𝓤) (at_mem : Memory → SP
   pub Asks-gives : (g : (GA.the_row).Denot) (v : Val) → ent 𝓤 ((Asks 𝓛 at_mem run).post (at_asks 𝓛 at_mem run κ q g p) v) (H.⇛ (ex 𝓤 (λ (s : Ruling g.refusals). guard 𝓤 (v ≡ vbool s.0) (A.lft κ q))))
   Asks-gives g v =
       qed 𝓛 (raw ((Asks 𝓛 at_mem run).post (at_asks 𝓛 at_mem run κ q g p) v) ∷ []) ∵ updating ! $
-      use1 𝓛 (later (some (λ (y : Bool). ((‵ (flft κ q) ⊛ ‵ ftrue) ⊛ ‵ (bool.own_val y (v ∷ []))) ⊛ some (λ (ws : Unit {0} × Unit {0}). ‵ (fsep ftrue ftrue) ⊛ raw (fact 𝓤 (IsSaidOf g.refusals y)))))) (id⊢ 𝓤 _) $ await ! tt $ pick ! (λ y.
+      use1 𝓛 (later (some (λ (y : Bool). ((‵ (flft κ q) ⊛ ‵ ftrue) ⊛ ‵ (bool.own_val y (v ∷ []))) ⊛ some
+      (λ (ws : Unit {0} × Unit {0}). ‵ (fsep ftrue ftrue) ⊛ raw (fact 𝓤 (IsSaidOf g.refusals y)))))) (id⊢ 𝓤 _) $ await ! tt $ pick ! (λ y.
       split ! $ split ! $ move ! (1 ∷ []) $ feq_l ! (λ e. move ! (1 ∷ []) $ pick ! (λ ws. split ! $ move ! (1 ∷ []) $ heard ! (IsSaidOf g.refusals y) (λ said.
       move ! (1 ∷ []) $ split ! $ at_once ! $ show ! (λ (s : Ruling g.refusals). guard 𝓤 (v ≡ vbool s.0) (A.lft κ q)) (y, said) $ check ! (ap only e) $ keep ! (0 ∷ []) $ done !))))
 
@@ -73,5 +74,6 @@ module _ {M : Type 1} {𝓤 : Ura M} (𝓛 : Logic 𝓤) (at_mem : Memory → SP
   pub Counts-gives : (c : (TA.the_row).Denot) (n : ℕ) (v : Val) → ent 𝓤 ((Counts 𝓛 at_mem run).post (at_counts 𝓛 at_mem run κ q c p n) v) (H.⇛ (guard 𝓤 (v ≡ vunit) (A.lft κ q)))
   Counts-gives c n v =
       qed 𝓛 (raw ((Counts 𝓛 at_mem run).post (at_counts 𝓛 at_mem run κ q c p n) v) ∷ []) ∵ updating ! $
-      use1 𝓛 (later (some (λ (r : Unit {0}). ((‵ (flft κ q) ⊛ ‵ ftrue) ⊛ ‵ (unit.own_val r (v ∷ []))) ⊛ some (λ (ws : Unit {0} × (Unit {0} × Unit {0})). ‵ (fsep ftrue (fsep ftrue ftrue)) ⊛ ‵ ftrue)))) (id⊢ 𝓤 _) $ await ! tt $ pick ! (λ r.
+      use1 𝓛 (later (some (λ (r : Unit {0}). ((‵ (flft κ q) ⊛ ‵ ftrue) ⊛ ‵ (unit.own_val r (v ∷ []))) ⊛ some
+      (λ (ws : Unit {0} × (Unit {0} × Unit {0})). ‵ (fsep ftrue (fsep ftrue ftrue)) ⊛ ‵ ftrue)))) (id⊢ 𝓤 _) $ await ! tt $ pick ! (λ r.
       split ! $ split ! $ move ! (1 ∷ []) $ feq_l ! (λ e. split ! $ at_once ! $ check ! (ap only e) $ keep ! (0 ∷ []) $ done !))

@@ -25,7 +25,8 @@ use Rattle.wires.specs.Lines.{LineState, Transfers, ServesSoFar}
 use Rattle.wires.specs.Causes.{IsNoReply, Receives, Cause, IsBlameless}
 use Rattle.round_theory.specs.Ports.{IsHonestAnswer}
 use Rattle.round_theory.specs.Exchanges.{Exchange, exchange_of, IsAskedIn, answers_of}
-use Rattle.wires.specs.Clients.{Client, ClientState, HelloCame, HasFrames, seen_client, hello_due, shard_due, frames_put, Brings, AnswersOverLine, frames_got, HasGiven, IsOfCut, times_sent, asks_among, FollowTheirShards, MatchesLine}
+use Rattle.wires.specs.Clients.{Client, ClientState, HelloCame, HasFrames, seen_client, hello_due, shard_due, frames_put, Brings, AnswersOverLine, frames_got, HasGiven, IsOfCut, times_sent}
+use Rattle.wires.specs.Clients.{asks_among, FollowTheirShards, MatchesLine}
 use Rattle.std.proofs.lemmas.List.Sums.{take_while-cons}
 use Rattle.wires.proofs.Going.{then_came}
 use Rattle.wires.proofs.Refused.{bad_never}

@@ -20,7 +20,8 @@ use Rattle.worker_engine.specs.declared.session.ServeFault.TheVariants.{Read, Wr
 use Rattle.worker_engine.specs.declared.session.Written.{Written}
 use Rattle.worker_engine.specs.declared.session.Written.TheVariants.{AFault}
 use Rattle.worker_replies.specs.Serving.{Shelf, empty_shelf, shelf_with, shelf_after, MayFollow, AreReplies, IsShardFrame}
-use Rattle.worker_engine.specs.Served.{answers_in, faults_in, HeardFrames, ServesToEnd, EndsAtRead, EndsAtWrite, EndsAtMemory, EndsAtLimit, EndsBy, IsSortOf, CountsReplies, HearsNext, HearsNone, WroteFor, CutOff, Ungreeted}
+use Rattle.worker_engine.specs.Served.{answers_in, faults_in, HeardFrames, ServesToEnd, EndsAtRead, EndsAtWrite, EndsAtMemory, EndsAtLimit, EndsBy, IsSortOf, CountsReplies, HearsNext}
+use Rattle.worker_engine.specs.Served.{HearsNone, WroteFor, CutOff, Ungreeted}
 use Rattle.worker_replies.proofs.Versions.{this_version, all_heard}
 use Rattle.worker_replies.proofs.Replying.{replies_more, shelf_after-append}
 

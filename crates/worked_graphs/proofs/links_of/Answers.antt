@@ -20,7 +20,11 @@ loop-row-preserved g c =
     ]
 
 pub returns-clause-lawful : goal.returns-clause-lawful
-returns-clause-lawful g c = (λ _. (subst (λ rows. Made c.args.n rows c.loop-row.links.items) (take_all c.loop-row.row-index c.args.arcs.now c.loop-row-test.false) c.loop-row.invariant).lawful, λ _. refl)
+returns-clause-lawful g c = (
+  λ _. (subst (λ rows. Made c.args.n rows c.loop-row.links.items)
+      (take_all c.loop-row.row-index c.args.arcs.now c.loop-row-test.false) c.loop-row.invariant).lawful,
+  λ _. refl,
+)
 
 pub returns-clause-links : goal.returns-clause-links
 returns-clause-links g c = (subst (λ rows. Made c.args.n rows c.loop-row.links.items) (take_all c.loop-row.row-index c.args.arcs.now c.loop-row-test.false) c.loop-row.invariant).are

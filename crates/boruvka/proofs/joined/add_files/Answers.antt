@@ -3,7 +3,8 @@ use Rattle.std.proofs.lemmas.List.{length-map, take_all}
 use Rattle.std.specs.Prelude.{not, ◌||◌}
 use Rattle.std.specs.String.{string_bytes}
 use Rattle.boruvka.specs.Joined.{StopsAt, inputs}
-use Rattle.boruvka.proofs.Joining.{Keeps, added_left, added_unread, fresh_more, inputs_step, is_some-under, length_before, ok_left, some_here, some_under, split_at, stops_left, keeps_none, take_one, unread_more, times}
+use Rattle.boruvka.proofs.Joining.{Keeps, added_left, added_unread, fresh_more, inputs_step, is_some-under, length_before, ok_left, some_here, some_under, split_at, stops_left, keeps_none}
+use Rattle.boruvka.proofs.Joining.{take_one, unread_more, times}
 use Rattle.boruvka.proofs.joined.add_files.Goals as goal
 
 pub returns-in-Err-clause-stopped : goal.returns-in-Err-clause-stopped
@@ -11,7 +12,8 @@ returns-in-Err-clause-stopped g c =
     let files = map (option_map string_bytes) c.as_slice-files.result.now in
     let i = c.loop-file.file-index in
     let loop = c.loop-file.invariant in
-    subst (λ (all : List (Option (List ℕ))). StopsAt all (option_map string_bytes c.file-item.result) c.in-Err.fault (g.I.Source.state c.args.input.now.source) (g.I.Source.state c.add_file.new.input.source))
+    subst (λ (all : List (Option (List ℕ))). StopsAt all (option_map string_bytes c.file-item.result) c.in-Err.fault (g.I.Source.state c.args.input.now.source)
+    (g.I.Source.state c.add_file.new.input.source))
     (ap (map (option_map string_bytes)) c.as_slice-files.ensures.value)
     (stops_left (g.I.Source.state c.args.input.now.source) (g.I.Source.state c.loop-file.input.source) (g.I.Source.state c.add_file.new.input.source)
     files (take i files) (drop (i + 1) files) (option_map string_bytes c.file-item.result) c.loop-file.was_read c.loop-file.parts c.in-Err.fault
@@ -30,7 +32,8 @@ loop-file-preserved g c =
     let reads = c.is_read_by-was_read.ensures ∙ ap (λ some. c.loop-file.was_read || not some) (is_some-under string_bytes c.file-item.result) in
     record {
       count = omega (arith, c.in-Ok.ensures.files, loop.count);
-      keeps = subst (λ (all : List (Option (List ℕ))). Keeps (g.I.Source.state c.args.input.now.source) all c.is_read_by-was_read.result c.in-Ok.more (g.I.Source.state c.add_file.new.input.source)) (sym one)
+      keeps = subst (λ (all : List (Option (List ℕ))). Keeps (g.I.Source.state c.args.input.now.source) all c.is_read_by-was_read.result c.in-Ok.more
+          (g.I.Source.state c.add_file.new.input.source)) (sym one)
           (ok_left (g.I.Source.state c.args.input.now.source) (g.I.Source.state c.loop-file.input.source) (g.I.Source.state c.add_file.new.input.source)
           (take i files) (option_map string_bytes c.file-item.result) c.loop-file.was_read c.is_read_by-was_read.result c.loop-file.parts c.in-Ok.more
           reads

@@ -26,7 +26,8 @@ loop-place-preserved g c =
           let byte = byte_few kept in
           let counted = w.count-is in
           let whole = ap₂ take counted w.found-is ∙ sifted kept l.found l.count x (omega (arith, few, test, to, room)) in
-          let both = sifted_more arcs links c.args.from l.place (take l.count l.found) x refl w.in-Some.ensures.key kept w.may_have-kept.ensures (omega (arith, test, to, len)) l.invariant.of_arcs l.invariant.none_missed in
+          let both = sifted_more arcs links c.args.from l.place (take l.count l.found) x refl w.in-Some.ensures.key kept w.may_have-kept.ensures
+          (omega (arith, test, to, len)) l.invariant.of_arcs l.invariant.none_missed in
           record {
             few = omega (arith, few, counted, byte);
             of_arcs = subst (AreOfArcs arcs) (sym whole) both.0;

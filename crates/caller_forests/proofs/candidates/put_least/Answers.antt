@@ -73,7 +73,8 @@ loop-i-preserved c =
             let differ = w.if-key-other-2.false in
             λ t d t_in. subst (λ ps. LeastBefore found (l.j + 1) (get_or links t d) (get_or c.args.places.now t 0) (get_or ps t 0)) (sym w.places-is)
             (other_more found l.j (get_or links t d) (get_or c.args.places.now t 0) (get_or l.places t 0)
-            (no_link links found l.i l.j x y i_in j_in at_i at_j l.invariant.behind c.requires.ascending (sym (ap₂ lt_z (key_word ∙ key) (other_word ∙ other)) ∙ no_less) (λ e. differ (ap (of_z w128) (key ∙ e ∙ sym other))) t d t_in)
+            (no_link links found l.i l.j x y i_in j_in at_i at_j l.invariant.behind c.requires.ascending
+            (sym (ap₂ lt_z (key_word ∙ key) (other_word ∙ other)) ∙ no_less) (λ e. differ (ap (of_z w128) (key ∙ e ∙ sym other))) t d t_in)
             (l.invariant.least t d t_in))
       ];
     }

@@ -14,4 +14,5 @@ weighs_no_more l m = int_le l.weight m.weight
 pub returns : goal.returns
 returns c =
     let answer = c.is_sorted_by.ensures.cases weighs_no_more (answers_always _ _ _ (λ f a r f' called. search rules)) in
-    all_pairs_by_neighbours (λ (l m : GivenLink). l.weight ≤ℤ m.weight) (λ l m k lm mk. omega (arith, ints, lm, mk)) weighs_no_more (λ l m. (λ test. grind (arith, ints, test), λ no_more. grind (arith, ints, no_more))) c.args.links.now c.is_sorted_by.result answer
+    all_pairs_by_neighbours (λ (l m : GivenLink). l.weight ≤ℤ m.weight) (λ l m k lm mk. omega (arith, ints, lm, mk)) weighs_no_more
+    (λ l m. (λ test. grind (arith, ints, test), λ no_more. grind (arith, ints, no_more))) c.args.links.now c.is_sorted_by.result answer

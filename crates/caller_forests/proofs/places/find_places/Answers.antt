@@ -11,7 +11,8 @@ of_links-requires-clause-ends g c =
     let forest = c.in-Ok-forest_of.forest in
     let list = c.in-Ok.list.items in
     subst (EndsUpTo c.args.n) (sym c.links-links.ensures.links)
-    (λ k d lt. All-contains (λ (l : Link). l.high ≤ c.args.n) list (get_or forest k d) c.in-Ok.ensures.ends ((c.in-Ok-forest_of.ensures.forest.exact (get_or forest k d)).0 (Contains-get_or forest k d lt)).0)
+    (λ k d lt. All-contains (λ (l : Link). l.high ≤ c.args.n) list (get_or forest k d) c.in-Ok.ensures.ends
+    ((c.in-Ok-forest_of.ensures.forest.exact (get_or forest k d)).0 (Contains-get_or forest k d lt)).0)
 
 pub put_first_places-requires-clause-among : goal.put_first_places-requires-clause-among
 put_first_places-requires-clause-among g c =

@@ -17,9 +17,11 @@ loop-from-preserved g c t d t_in =
     let in_range = said.in_range in
     let kept = c.sort.auto.found in
     let same = c.put_candidates-count.auto.found in
-    least_next c.args.arcs.now (take count found) sorted l.from (l.from + length (sorted ++ drop count found)) link (get_or l.places t 0) (get_or c.put_least.new.places t 0) said.of_arcs c.sort.ensures.same
+    least_next c.args.arcs.now (take count found) sorted l.from (l.from + length (sorted ++ drop count found)) link (get_or l.places t 0)
+    (get_or c.put_least.new.places t 0) said.of_arcs c.sort.ensures.same
     (λ place ge lt place_in at. said.none_missed place link ge (omega (arith, lt, in_range, kept, same)) place_in at (Contains-get_or sieve t d t_in))
-    (subst (λ (links : List Link). (i : ℕ) (e : Link) → i < length links → IsLeastOf sorted (get_or links i e) (get_or l.places i 0) (get_or c.put_least.new.places i 0)) c.links.ensures c.put_least.ensures.least t d t_in)
+    (subst (λ (links : List Link). (i : ℕ) (e : Link) → i < length links → IsLeastOf sorted (get_or links i e) (get_or l.places i 0)
+    (get_or c.put_least.new.places i 0)) c.links.ensures c.put_least.ensures.least t d t_in)
     (l.invariant t d t_in)
 
 pub returns : goal.returns

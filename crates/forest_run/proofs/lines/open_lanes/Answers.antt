@@ -24,7 +24,8 @@ new-requires-clause-worker g c =
 
 pub new-requires-clause-room : goal.new-requires-clause-room
 new-requires-clause-room g c =
-    next_room g.L.Line.state c.args.cut.now c.args.lines.now.items c.loop-line.lanes.items c.loop-line.lines.items c.pop.new.self.items c.in-Some.line c.in-Some.ensures.items c.loop-line.invariant.some
+    next_room g.L.Line.state c.args.cut.now c.args.lines.now.items c.loop-line.lanes.items c.loop-line.lines.items c.pop.new.self.items c.in-Some.line
+    c.in-Some.ensures.items c.loop-line.invariant.some
 
 pub push_reserved-requires : goal.push_reserved-requires
 push_reserved-requires g c =
@@ -39,7 +40,8 @@ loop-line-preserved g c =
     rw c.new-in-Some.ensures.port (rw at at c.new.ensures.new) in
     record {
       some = rw c.push_reserved.ensures.items
-          (lane_more g.L.Line.state c.args.cut.now c.args.lines.now.items c.loop-line.lanes.items c.loop-line.lines.items c.pop.new.self.items c.in-Some.line c.new-in-Some.result c.in-Some.ensures.items new c.new-in-Some.ensures.idle
+          (lane_more g.L.Line.state c.args.cut.now c.args.lines.now.items c.loop-line.lanes.items c.loop-line.lines.items c.pop.new.self.items c.in-Some.line
+          c.new-in-Some.result c.in-Some.ensures.items new c.new-in-Some.ensures.idle
           c.loop-line.invariant.some);
       room = search (rules, arith);
       capacity = search (rules, arith);

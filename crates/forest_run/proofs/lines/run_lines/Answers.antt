@@ -7,7 +7,8 @@ use Rattle.plain_run.specs.Outcomes.{IsSpanning, IsLeast}
 use Rattle.plain_run.proofs.KnownFiles.{reads_the_file, first_of_file, no_fault_of_file, something_of_file}
 use Rattle.plain_run.proofs.Lengths.{same_length}
 use Rattle.plain_run.proofs.PlainRunning.{done}
-use Rattle.forest_run.proofs.LinesRunning.{had_setback, shards_ends, few_enough, spanning, few_links, lines_went, served_report, cut_unsolved, cut_served, solve_unsolved, solve_served, cut_unhindered, lines_broken_off, served_broken_off}
+use Rattle.forest_run.proofs.LinesRunning.{had_setback, shards_ends, few_enough, spanning, few_links, lines_went, served_report, cut_unsolved, cut_served, solve_unsolved, solve_served}
+use Rattle.forest_run.proofs.LinesRunning.{cut_unhindered, lines_broken_off, served_broken_off}
 use Rattle.forest_run.proofs.lines.run_lines.Goals as goal
 
 -- ---- the file can't be read
@@ -77,7 +78,8 @@ returns-in-Ok-write_forest_par-clause-served g c = λ served.
     let went : RunsOverLines g.row.A.Denot g.L.Line c.args.cutting c.args.lines.items solved.2.items c.in-Ok.graph solved.0 solved.1 =
     lines_went g.L.Line c.args.cutting c.in-Ok.graph c.in-Ok-cut_links.cut (rw c.links.ensures.links at c.in-Ok-cut_links.ensures.cut) c.args.lines.items solved.2.items solved.0 solved.1
     (rw c.n.ensures.vertices at c.in-Ok-solve_lines.ensures.went) in
-    done IsLeast _ c.in-Ok.graph solved.0 c.n-2.result _ _ _ _ c.in-Ok.ensures.outcome (went.least served).0 c.n-2.ensures.vertices c.in-Ok-write_forest_par.ensures.whole (served_report _ _ _ _ _ _ _ went served)
+    done IsLeast _ c.in-Ok.graph solved.0 c.n-2.result _ _ _ _ c.in-Ok.ensures.outcome
+    (went.least served).0 c.n-2.ensures.vertices c.in-Ok-write_forest_par.ensures.whole (served_report _ _ _ _ _ _ _ went served)
 
 pub returns-in-Ok-write_forest_par-clause-malformed : goal.returns-in-Ok-write_forest_par-clause-malformed
 returns-in-Ok-write_forest_par-clause-malformed g c = λ bytes file nothing. absurd (something_of_file _ _ _ c.in-Ok.ensures.outcome bytes file nothing)
@@ -91,7 +93,8 @@ returns-clause-ran g c =
     lines_went g.L.Line c.args.cutting c.in-Ok.graph c.in-Ok-cut_links.cut (rw c.links.ensures.links at c.in-Ok-cut_links.ensures.cut) c.args.lines.items solved.2.items solved.0 solved.1
     (rw c.n.ensures.vertices at c.in-Ok-solve_lines.ensures.went) in
     let found = spanning _ _ _ _ _ _ _ went in
-    lines_broken_off g.L.Line c.args.cutting c.in-Ok.graph c.args.lines.items solved.0 solved.1 solved.2 _ c.n-2.result _ _ _ _ c.in-Ok.ensures.outcome found (few_enough _ _ (few_links _ _ _ _ _ _ _ went) c.links.ensures.few)
+    lines_broken_off g.L.Line c.args.cutting c.in-Ok.graph c.args.lines.items solved.0 solved.1 solved.2 _ c.n-2.result _ _ _ _ c.in-Ok.ensures.outcome found
+    (few_enough _ _ (few_links _ _ _ _ _ _ _ went) c.links.ensures.few)
     c.n-2.ensures.vertices c.in-Err-write_forest_par.ensures.part went
 
 pub returns-clause-served : goal.returns-clause-served
@@ -100,7 +103,8 @@ returns-clause-served g c = λ served.
     let went : RunsOverLines g.row.A.Denot g.L.Line c.args.cutting c.args.lines.items solved.2.items c.in-Ok.graph solved.0 solved.1 =
     lines_went g.L.Line c.args.cutting c.in-Ok.graph c.in-Ok-cut_links.cut (rw c.links.ensures.links at c.in-Ok-cut_links.ensures.cut) c.args.lines.items solved.2.items solved.0 solved.1
     (rw c.n.ensures.vertices at c.in-Ok-solve_lines.ensures.went) in
-    served_broken_off c.args.cutting c.in-Ok.graph solved.0 solved.1 solved.2 _ c.n-2.result _ _ _ _ c.in-Ok.ensures.outcome (went.least served).0 (few_enough _ _ (few_links _ _ _ _ _ _ _ went) c.links.ensures.few)
+    served_broken_off c.args.cutting c.in-Ok.graph solved.0 solved.1 solved.2 _ c.n-2.result _ _ _ _ c.in-Ok.ensures.outcome (went.least served).0
+    (few_enough _ _ (few_links _ _ _ _ _ _ _ went) c.links.ensures.few)
     c.n-2.ensures.vertices c.in-Err-write_forest_par.ensures.part (served_report _ _ _ _ _ _ _ went served)
 
 pub returns-clause-malformed : goal.returns-clause-malformed

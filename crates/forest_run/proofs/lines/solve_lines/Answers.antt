@@ -39,5 +39,6 @@ returns-clause-went g c =
     let same = c.in_ok-forest.ensures.went.went.rounds.ports.same_lanes in
     let before = ap (λ xs. length xs) c.deref_mut.ensures.value in
     let back = written_back c.in_ok-lanes.lanes.len c.in_ok-lanes.lanes.items c.solve.new.lanes (omega (arith, same, before, c.in_ok-lanes.lanes.ok.0)) in
-    solve_went g.L.Line c.args.n c.args.cut.now c.args.lines.items c.deref_mut.result.now c.solve.new.lanes new c.in_ok-forest.forest c.in_ok-forest.report c.close_lanes.new.lines.items c.in_ok-forest.ensures.went
+    solve_went g.L.Line c.args.n c.args.cut.now c.args.lines.items c.deref_mut.result.now c.solve.new.lanes new c.in_ok-forest.forest c.in_ok-forest.report
+    c.close_lanes.new.lines.items c.in_ok-forest.ensures.went
     (c.close_lanes.ensures.lines ∙ ap (λ xs. lines_of xs) back)

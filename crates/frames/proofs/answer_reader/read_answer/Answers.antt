@@ -30,7 +30,8 @@ returns-in-Some-clause-came g c =
     let (wide_r, wide_s, wide_c) = c.in_ok-round.ensures.fit in
     let list = c.in_ok-read_list.ensures.came in
     let same = c.in-Some.ensures.same_pairs in
-    answer_came c.in_ok-round.round c.in_ok-round.shard c.in_ok-round.count c.args.most _ _ _ c.in_ok-round.ensures.came c.if-count-most.false wide_r wide_s c.read_list.new.list.items list.bytes list.counted list.gave list.heard
+    answer_came c.in_ok-round.round c.in_ok-round.shard c.in_ok-round.count c.args.most _ _ _ c.in_ok-round.ensures.came c.if-count-most.false wide_r wide_s
+    c.read_list.new.list.items list.bytes list.counted list.gave list.heard
     c.requires.few _ (search rules) (subst AreOffers (sym same) (c.in-Some.ensures.exactly_ascending.0 refl))
 
 pub returns-in-None-clause-refused : goal.returns-in-None-clause-refused

@@ -18,6 +18,7 @@ returns-in-Some-clause-late g c =
     let before = g.S.Source.state c.args.source.now in
     IfErr-weaker c.read_shard.result _ _
     (λ fault late.
-    late_by_head c.in-Some.spelling c.args.head.kind c.args.head.length c.links_in-most.result c.in-Some.ensures.shard (says_links c.in-Some.spelling c.args.head.kind c.args.head.length _ c.in-Some.ensures.shard c.requires.possible c.links_in-most.ensures) before before
+    late_by_head c.in-Some.spelling c.args.head.kind c.args.head.length c.links_in-most.result c.in-Some.ensures.shard
+    (says_links c.in-Some.spelling c.args.head.kind c.args.head.length _ c.in-Some.ensures.shard c.requires.possible c.links_in-most.ensures) before before
     fault late)
     c.read_shard.ensures.late

@@ -21,5 +21,6 @@ loop-rest-preserved g c =
     c.in-Some.ensures.found c.in-Some.ensures.fits in
     record {
       pushed = (_, one.0, one.1, one.2);
-      whole = whole_behind c.args.spelling (length c.split_at.result.1.now) (length rest) c.loop-rest.invariant.whole (ap (λ (k : ℕ). length c.split_at.result.1.now + k) (sym c.size.ensures) ∙ c.split_at.ensures.back_len);
+      whole = whole_behind c.args.spelling (length c.split_at.result.1.now) (length rest) c.loop-rest.invariant.whole
+          (ap (λ (k : ℕ). length c.split_at.result.1.now + k) (sym c.size.ensures) ∙ c.split_at.ensures.back_len);
     }

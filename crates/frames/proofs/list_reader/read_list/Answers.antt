@@ -30,7 +30,14 @@ loop-left-preserved g c =
     let so_far = c.loop-left.invariant.came in
     record {
       within = omega (arith, c.loop-left.invariant.within);
-      room = omega (arith, length-append piece (drop c.piece_of-count.result c.loop-left.buffer), length-drop c.piece_of-count.result c.loop-left.buffer, count, c.piece_of-count.ensures.fits, c.loop-left.invariant.room);
+      room = omega (
+        arith,
+        length-append piece (drop c.piece_of-count.result c.loop-left.buffer),
+        length-drop c.piece_of-count.result c.loop-left.buffer,
+        count,
+        c.piece_of-count.ensures.fits,
+        c.loop-left.invariant.room,
+      );
       came = record {
         bytes = so_far.bytes ++ piece;
         counted = omega (arith, length-append so_far.bytes piece, so_far.counted, count, within, c.loop-left.invariant.within);

@@ -9,7 +9,12 @@ pub returns-in_err-pass_over-clause-refused : goal.returns-in_err-pass_over-clau
 returns-in_err-pass_over-clause-refused g c = search (arith, err_from_is_err_and, ask_unpassed)
 
 pub returns-then-shard-ge-MAX_SHARDS-clause-refused : goal.returns-then-shard-ge-MAX_SHARDS-clause-refused
-returns-then-shard-ge-MAX_SHARDS-clause-refused g c = search (arith, ask_unlawful, then-shard-ge-MAX_SHARDS-via-then-shard-ge-MAX_SHARDS, then-shard-ge-MAX_SHARDS-via-else-shard-ge-MAX_SHARDS+then-count-last)
+returns-then-shard-ge-MAX_SHARDS-clause-refused g c = search (
+  arith,
+  ask_unlawful,
+  then-shard-ge-MAX_SHARDS-via-then-shard-ge-MAX_SHARDS,
+  then-shard-ge-MAX_SHARDS-via-else-shard-ge-MAX_SHARDS+then-count-last,
+)
 
 pub returns-in_err-heard-clause-refused : goal.returns-in_err-heard-clause-refused
 returns-in_err-heard-clause-refused g c = search (arith, err_from_is_err_and, ask_stopped)

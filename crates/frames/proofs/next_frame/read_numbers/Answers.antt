@@ -54,7 +54,8 @@ loop-came-preserved g c =
       counted = came_k.long;
       others = subst (λ (n : ℕ). AreOthers last (came + n) new) items c.in_ok-hear_piece.ensures.others;
       coarser = elim c.if-are_coarser.branch [
-        | then-are_coarser w ↦ rw w.are_coarser-is (stayed last c.requires.labels old new came k heard.more came_k w.stay_coarser-are_coarser.result w.stay_coarser-are_coarser.ensures.others w.stay_coarser-are_coarser.ensures.same)
+        | then-are_coarser w ↦ rw w.are_coarser-is (stayed last c.requires.labels old new came k heard.more came_k w.stay_coarser-are_coarser.result
+            w.stay_coarser-are_coarser.ensures.others w.stay_coarser-are_coarser.ensures.same)
         | else-are_coarser w ↦
             let off : c.if-are_coarser.are_coarser ≡ false = w.are_coarser-is ∙ w.if-are_coarser.false in
             let never : AreCoarserUpTo last before came → ⊥ = λ all. (let t : IsTrue c.loop-came.are_coarser = c.loop-came.invariant.coarser.1 all in cc) in (
@@ -62,7 +63,8 @@ loop-came-preserved g c =
               λ all. absurd (not_again last c.requires.labels old new came k heard.more came_k never all),
             )
       ];
-      gave = subst (λ (t : List ℕ). Gave 0 0 t (g.S.Source.state c.args.source.now) (g.S.Source.state c.read_bytes.new.source)) (sym text) (gave_more 0 0 (flat_map u32_text before) piece _ _ _ c.loop-came.invariant.gave c.in_ok-read_bytes.ensures.came);
+      gave = subst (λ (t : List ℕ). Gave 0 0 t (g.S.Source.state c.args.source.now) (g.S.Source.state c.read_bytes.new.source)) (sym text)
+          (gave_more 0 0 (flat_map u32_text before) piece _ _ _ c.loop-came.invariant.gave c.in_ok-read_bytes.ensures.came);
       fit = λ all. subst (λ (n : ℕ). All IsU32 (numbers_of_ask (take (came + n) last) new)) items (c.in_ok-hear_piece.ensures.fit (c.loop-came.invariant.fit all));
       lasts = λ fact held. c.in_ok-read_bytes.ensures.kept.lasts fact (c.loop-came.invariant.lasts fact held);
       can = c.in_ok-read_bytes.ensures.kept.again;
@@ -76,7 +78,8 @@ stay_coarser-are_coarser-requires-clause-within g c =
     let old = c.loop-came.numbers in
     let new = c.hear_piece.new.numbers in
     let piece = c.read_bytes.new.bytes in
-    others_within last c.requires.labels old new came k c.in_ok-hear_piece.ensures.heard.more (came_more last came k piece old new (search rules) (search rules) c.loop-came.invariant.counted c.in_ok-hear_piece.ensures.heard)
+    others_within last c.requires.labels old new came k c.in_ok-hear_piece.ensures.heard.more
+    (came_more last came k piece old new (search rules) (search rules) c.loop-came.invariant.counted c.in_ok-hear_piece.ensures.heard)
 
 pub stay_coarser-are_coarser-requires-clause-so_far : goal.stay_coarser-are_coarser-requires-clause-so_far
 stay_coarser-are_coarser-requires-clause-so_far g c =
@@ -86,7 +89,8 @@ stay_coarser-are_coarser-requires-clause-so_far g c =
     let old = c.loop-came.numbers in
     let new = c.hear_piece.new.numbers in
     let piece = c.read_bytes.new.bytes in
-    others_so_far last c.requires.labels old new came k c.in_ok-hear_piece.ensures.heard.more (came_more last came k piece old new (search rules) (search rules) c.loop-came.invariant.counted c.in_ok-hear_piece.ensures.heard)
+    others_so_far last c.requires.labels old new came k c.in_ok-hear_piece.ensures.heard.more
+    (came_more last came k piece old new (search rules) (search rules) c.loop-came.invariant.counted c.in_ok-hear_piece.ensures.heard)
     (c.loop-came.invariant.coarser.0 c.if-are_coarser.true)
 
 pub returns-clause-coarser : goal.returns-clause-coarser

@@ -19,7 +19,13 @@ pub returns-in_err-pass_over-clause-refused : goal.returns-in_err-pass_over-clau
 returns-in_err-pass_over-clause-refused g c = search (arith, err_from_is_err_and, shard_unpassed, unpassed_so_many)
 
 pub returns-then-number-ge-MAX_SHARDS-clause-refused : goal.returns-then-number-ge-MAX_SHARDS-clause-refused
-returns-then-number-ge-MAX_SHARDS-clause-refused g c = search (arith, shard_unlawful, passed_so_many, then-number-ge-MAX_SHARDS-via-then-number-ge-MAX_SHARDS, then-number-ge-MAX_SHARDS-via-else-number-ge-MAX_SHARDS+then-count-most)
+returns-then-number-ge-MAX_SHARDS-clause-refused g c = search (
+  arith,
+  shard_unlawful,
+  passed_so_many,
+  then-number-ge-MAX_SHARDS-via-then-number-ge-MAX_SHARDS,
+  then-number-ge-MAX_SHARDS-via-else-number-ge-MAX_SHARDS+then-count-most,
+)
 
 pub returns-in_err-read_list-clause-refused : goal.returns-in_err-read_list-clause-refused
 returns-in_err-read_list-clause-refused g c = search (arith, err_from_is_err_and, shard_stopped, stopped_so_many)

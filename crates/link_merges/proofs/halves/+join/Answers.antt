@@ -15,10 +15,12 @@ equal : (a b : ℕ) → not (eqb a b) ≡ false → a ≡ b
 equal a b is = elim (cases_eq a b) [ inl same ↦ same | inr other ↦ let e = ne_eqb a b other in absurd (let no : true ≡ false = sym (ap not e) ∙ is in cc) ]
 
 pub returns-else-is_empty-clause-joined : goal.returns-else-is_empty-clause-joined
-returns-else-is_empty-clause-joined t c is n k links name are = one_joined n links k c.args.rows.now (one (length c.args.rows.now) c.if-rows-lt2.true (sym c.if-is_empty.false ∙ c.is_empty.ensures)) are (differ (row_at c.args.rows.now 0).first (row_at c.args.rows.now 0).second is)
+returns-else-is_empty-clause-joined t c is n k links name are = one_joined n links k c.args.rows.now
+    (one (length c.args.rows.now) c.if-rows-lt2.true (sym c.if-is_empty.false ∙ c.is_empty.ensures)) are (differ (row_at c.args.rows.now 0).first (row_at c.args.rows.now 0).second is)
 
 pub returns-else-is_empty-clause-cycle : goal.returns-else-is_empty-clause-cycle
-returns-else-is_empty-clause-cycle t c is n k links name are = one_cycle n links k c.args.rows.now (one (length c.args.rows.now) c.if-rows-lt2.true (sym c.if-is_empty.false ∙ c.is_empty.ensures)) are (equal (row_at c.args.rows.now 0).first (row_at c.args.rows.now 0).second is)
+returns-else-is_empty-clause-cycle t c is n k links name are = one_cycle n links k c.args.rows.now
+    (one (length c.args.rows.now) c.if-rows-lt2.true (sym c.if-is_empty.false ∙ c.is_empty.ensures)) are (equal (row_at c.args.rows.now 0).first (row_at c.args.rows.now 0).second is)
 
 pub returns-then-not-join-clause-cycle : goal.returns-then-not-join-clause-cycle
 returns-then-not-join-clause-cycle t c is n k links name are =

@@ -14,7 +14,8 @@ unseat_lanes-requires g t c = search (arith, seats_cons, length-append, vec_len)
 
 pub returns-in-Some-clause-seats : goal.returns-in-Some-clause-seats
 returns-in-Some-clause-seats g t c =
-    taken_back c.args.lanes.now c.in-Some.lane.now c.in-Some.rest.now c.args.row.now.items c.unseat_lane.new.row.items c.unseat_lanes.new.row.items c.in-Some.ensures.cases.0 c.unseat_lane.ensures.row c.unseat_lanes.ensures.seats
+    taken_back c.args.lanes.now c.in-Some.lane.now c.in-Some.rest.now c.args.row.now.items c.unseat_lane.new.row.items c.unseat_lanes.new.row.items
+    c.in-Some.ensures.cases.0 c.unseat_lane.ensures.row c.unseat_lanes.ensures.seats
 
 pub returns-in-Some-clause-lanes : goal.returns-in-Some-clause-lanes
 returns-in-Some-clause-lanes g t c = search (arith, each_cons)

@@ -53,7 +53,14 @@ returns-clause-after g c =
     let at = c.self.inside.given in
     let n = c.min-n.result in
     let room : ℕ = length c.args.buf.now in
-    let s : FusedSourceState = record { given = take at all; rest = drop at all; budget = c.self.inside.budget; piece = c.self.inside.piece; failures = c.self.inside.failures; ends = c.self.inside.ends } in
+    let s : FusedSourceState = record {
+      given = take at all;
+      rest = drop at all;
+      budget = c.self.inside.budget;
+      piece = c.self.inside.piece;
+      failures = c.self.inside.failures;
+      ends = c.self.inside.ends;
+    } in
     let view : c.args.self.now ≡ s = search rules in
     let is : n ≡ given_to s room = grind (arith, common_steps) in
     let can : s.budget ≢ 0 = search rules in

@@ -65,7 +65,8 @@ module _ (c : goal.After-of_arc) where
   shown = arc_at c.self.inside.base c.self.inside.tails.now c.self.inside.heads.now c.self.inside.weights.now c.args.place
 
   shown_is : (d : Arc) → get_or c.args.self.now c.args.place d ≡ shown
-  shown_is d = shown_at c.args.n c.self.inside.base c.self.inside.tails.now c.self.inside.heads.now c.self.inside.weights.now c.self.invariant c.args.self.now c.self.view_is c.args.place d c.requires.in_range
+  shown_is d = shown_at c.args.n c.self.inside.base c.self.inside.tails.now c.self.inside.heads.now c.self.inside.weights.now c.self.invariant c.args.self.now
+      c.self.view_is c.args.place d c.requires.in_range
 
 pub returns-clause-none_for_a_loop : goal.returns-clause-none_for_a_loop
 returns-clause-none_for_a_loop c d =

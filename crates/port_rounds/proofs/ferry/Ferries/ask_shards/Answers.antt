@@ -22,7 +22,8 @@ returns-then-not-is_open g c =
       light = i.light;
       way = whole_way c.args.self.now.board.now c.args.seat.now c.first_shard-first.result c.len-shards.result c.loop-step.step (shards_of c.loop-step.kept.items)
           c.requires.ready.seat.of_board (c.args.self.now.board_is.shards ∙ sym c.len-shards.ensures.shards)
-          (c.first_shard-first.ensures.first ∙ (ap (λ s. first_of s c.args.self.now.seats c.len-shards.result) c.number.ensures.number ∙ ap (λ k. first_of c.args.seat.now.number k c.len-shards.result) c.args.self.now.seats_are))
+          (c.first_shard-first.ensures.first ∙ (ap (λ s. first_of s c.args.self.now.seats c.len-shards.result) c.number.ensures.number
+          ∙ ap (λ k. first_of c.args.seat.now.number k c.len-shards.result) c.args.self.now.seats_are))
           i.steps i.way;
     }
 

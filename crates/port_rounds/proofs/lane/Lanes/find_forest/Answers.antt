@@ -32,5 +32,6 @@ returns-clause-went g c =
     let opened = c.count_open-open.ensures.count in
     let counted = c.count_open.ensures.count in
     let closed : open_count g.P.Port.state c.merge_rounds.new.self.lanes.now + c.report_of-report.result.closed ≡ open_count g.P.Port.state c.args.self.now.lanes.now = omega arith in
-    solved g.P.Port c.args.n c.args.cut.now c.args.self.now.lanes.now c.merge_rounds.new.self.lanes.now c.in_ok-solver.solver answered c.in_ok-solver.alone c.in_ok-forest.forest c.report_of-report.result c.requires.can.ends
+    solved g.P.Port c.args.n c.args.cut.now c.args.self.now.lanes.now c.merge_rounds.new.self.lanes.now c.in_ok-solver.solver answered c.in_ok-solver.alone
+    c.in_ok-forest.forest c.report_of-report.result c.requires.can.ends
     went c.in_ok-forest.ensures.forest c.report_of-report.ensures.report rounds c.report_of-report.ensures.alone closed

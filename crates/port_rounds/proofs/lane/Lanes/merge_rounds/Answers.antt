@@ -5,7 +5,11 @@ use Rattle.port_rounds.proofs.lane.Lanes.merge_rounds.Goals as goal
 use Rattle.port_rounds.proofs.lane.Lanes.merge_rounds.Goals.{in-None, in-Some+in_ok-turn+in-Done}
 
 pub loop-init : goal.loop-init
-loop-init g c = record { so_far = so_far_none g.P.Port c.args.n c.args.cut.now c.args.self.now.lanes.now c.in_ok-solver.solver c.in_ok-solver.ensures; same_lanes = refl; none = λ i d lt. absurd (omega (arith, lt, ap length c.empty-picks.ensures)) }
+loop-init g c = record {
+  so_far = so_far_none g.P.Port c.args.n c.args.cut.now c.args.self.now.lanes.now c.in_ok-solver.solver c.in_ok-solver.ensures;
+  same_lanes = refl;
+  none = λ i d lt. absurd (omega (arith, lt, ap length c.empty-picks.ensures));
+}
 
 pub returns-in_err-solver-clause-ports : goal.returns-in_err-solver-clause-ports
 returns-in_err-solver-clause-ports g c = asked_none g.P.Port c.args.n c.args.cut.now c.args.self.now.lanes.now
@@ -33,7 +37,8 @@ pub returns-clause-went : goal.returns-clause-went
 returns-clause-went g c = elim c.match-next.branch [
   | in-None w ↦ absurd (let some = rw w.in-None.is at c.next.ensures.steps in cc)
   | in-Some+in_ok-turn+in-Done w ↦ rw (w.self-is, w.solver-is, w.alone-is, w.from-alone.ensures)
-      (turned_last g.P.Port c.args.n c.args.cut.now c.args.self.now.lanes.now c.loop.self.lanes.now w.step_once.new.self.lanes.now c.loop.solver w.step_once.new.solver w.in_ok-turn.turn c.loop.alone w.in_ok-turn.scanned c.requires.can.ends
+      (turned_last g.P.Port c.args.n c.args.cut.now c.args.self.now.lanes.now c.loop.self.lanes.now w.step_once.new.self.lanes.now c.loop.solver
+      w.step_once.new.solver w.in_ok-turn.turn c.loop.alone w.in_ok-turn.scanned c.requires.can.ends
       c.loop.invariant.so_far w.in_ok-turn.ensures.went w.in-Done.is)
 ]
 
@@ -41,5 +46,6 @@ pub returns-clause-ports : goal.returns-clause-ports
 returns-clause-ports g c = elim c.match-next.branch [
   | in-None w ↦ absurd (let some = rw w.in-None.is at c.next.ensures.steps in cc)
   | in-Some+in_ok-turn+in-Done w ↦ rw w.self-is
-      (asked_then g.P.Port c.args.n c.args.cut.now c.args.self.now.lanes.now c.loop.self.lanes.now w.step_once.new.self.lanes.now c.loop.solver c.loop.alone c.loop.invariant.so_far w.step_once.ensures.ports)
+      (asked_then g.P.Port c.args.n c.args.cut.now c.args.self.now.lanes.now c.loop.self.lanes.now w.step_once.new.self.lanes.now c.loop.solver c.loop.alone
+      c.loop.invariant.so_far w.step_once.ensures.ports)
 ]

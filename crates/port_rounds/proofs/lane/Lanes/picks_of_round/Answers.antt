@@ -20,19 +20,22 @@ run_round-requires-clause-wide g c κs within = rw (c.in_ok-book.ensures.opened,
 pub returns-in_err-book-clause-asked : goal.returns-in_err-book-clause-asked
 returns-in_err-book-clause-asked g c =
     let value = opened c.round.result c.args.cut.now c.labels.result.now in
-    turn_asked g.P.Port c.round.result c.args.cut.now c.labels.result.now c.args.solver.now value c.args.self.now.lanes.now c.args.self.now.lanes.now c.round.ensures.round c.labels.ensures.labels c.round.ensures.progress c.requires.can.ends c.requires.can.few_shards
+    turn_asked g.P.Port c.round.result c.args.cut.now c.labels.result.now c.args.solver.now value c.args.self.now.lanes.now c.args.self.now.lanes.now
+    c.round.ensures.round c.labels.ensures.labels c.round.ensures.progress c.requires.can.ends c.requires.can.few_shards
     (passed_none g.P.Port value c.args.self.now.lanes.now c.args.self.now.lanes.now (each_refl SamePort c.args.self.now.lanes.now (λ x. record { port = refl })))
 
 pub returns-in_err-alone-clause-asked : goal.returns-in_err-alone-clause-asked
 returns-in_err-alone-clause-asked g c =
     let (middle, asked) = c.run_round.ensures.asked in
-    turn_asked g.P.Port c.round.result c.args.cut.now c.labels.result.now c.args.solver.now middle c.args.self.now.lanes.now c.run_round.new.self.lanes.now c.round.ensures.round c.labels.ensures.labels c.round.ensures.progress c.requires.can.ends c.requires.can.few_shards
+    turn_asked g.P.Port c.round.result c.args.cut.now c.labels.result.now c.args.solver.now middle c.args.self.now.lanes.now c.run_round.new.self.lanes.now
+    c.round.ensures.round c.labels.ensures.labels c.round.ensures.progress c.requires.can.ends c.requires.can.few_shards
     (rw c.in_ok-book.ensures.opened at asked)
 
 pub returns-clause-asked : goal.returns-clause-asked
 returns-clause-asked g c =
     let (middle, asked) = c.run_round.ensures.asked in
-    turn_asked g.P.Port c.round.result c.args.cut.now c.labels.result.now c.args.solver.now middle c.args.self.now.lanes.now c.run_round.new.self.lanes.now c.round.ensures.round c.labels.ensures.labels c.round.ensures.progress c.requires.can.ends c.requires.can.few_shards
+    turn_asked g.P.Port c.round.result c.args.cut.now c.labels.result.now c.args.solver.now middle c.args.self.now.lanes.now c.run_round.new.self.lanes.now
+    c.round.ensures.round c.labels.ensures.labels c.round.ensures.progress c.requires.can.ends c.requires.can.few_shards
     (rw c.in_ok-book.ensures.opened at asked)
 
 -- ---- its picks

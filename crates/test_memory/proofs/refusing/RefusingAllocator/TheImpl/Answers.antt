@@ -21,10 +21,12 @@ allocate-meets g x c =
     let 𝓤 = g.world.𝓤 in
     let κs : Lfts 2 = (c.lifetimes.0, (c.lifetimes.1.0, tt)) in
     let held = own.clauses g.row.B g.B.Allocator g.B.Allocator-dict g.B.Destruct-dict g.world.𝓛 g.world.𝓜.mem g.world.𝓡.returns κs (c.args.self, (c.args.size, (c.args.align, tt))) in
-    let wanted = trait.clauses (the_row (param 0 g.row.B)) (ghosts g.row.B g.B.Allocator g.B.Allocator-dict g.B.Destruct-dict) (dict g.row.B g.B.Allocator g.B.Allocator-dict g.B.Destruct-dict) x g.world.𝓛 g.world.𝓜.mem g.world.𝓡.returns c.lifetimes (c.args.self, (c.args.size, (c.args.align, tt))) in
+    let wanted = trait.clauses (the_row (param 0 g.row.B)) (ghosts g.row.B g.B.Allocator g.B.Allocator-dict g.B.Destruct-dict)
+    (dict g.row.B g.B.Allocator g.B.Allocator-dict g.B.Destruct-dict) x g.world.𝓛 g.world.𝓜.mem g.world.𝓡.returns c.lifetimes (c.args.self, (c.args.size, (c.args.align, tt))) in
     let R : Type 0 = Res (own.signature g.row.B) κs in
     let X : Type 0 = AtExit (own.ended g.row.B g.B.Allocator g.B.Allocator-dict g.B.Destruct-dict) κs in
     let D' : R → X → SProp 𝓤 = λ r e. wanted.ensures c.ghost r (e.0, (e.1.0, (e.1.1.0, tt))) in
     let P : SProp 𝓤 = fact 𝓤 (HasLayout c.ghost c.args.size c.args.align) in
-    says_more 𝓤 P held.ghost (own.requires-1 g.row.B g.B.Allocator g.B.Allocator-dict g.B.Destruct-dict g.world.𝓛 κs g.world.𝓜.mem g.world.𝓡.returns c.args.self c.args.size c.args.align) R X held.ensures D' c.ghost (id⊢ 𝓤 P)
+    says_more 𝓤 P held.ghost (own.requires-1 g.row.B g.B.Allocator g.B.Allocator-dict g.B.Destruct-dict g.world.𝓛 κs g.world.𝓜.mem g.world.𝓡.returns
+    c.args.self c.args.size c.args.align) R X held.ensures D' c.ghost (id⊢ 𝓤 P)
     (λ r e. fst∗ 𝓤 (D' r e) (fact 𝓤 (OnOk r (IsLetPass c.args.self.now.gate.refusals))))

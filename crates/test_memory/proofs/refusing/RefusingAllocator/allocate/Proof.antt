@@ -15,7 +15,8 @@ use contract.BorrowLft.{◌⊑◌, ⊑_trans}
 use contract.Monad.{Fun, fact}
 use contract.Running.{tables, tables_of}
 use sound.WpLaws.{fm_of, WpFn-mono}
-use types.Kit.{‵, raw, ◌⊛◌, ⋆, some, later, given, at_ret, any_q, Post as After, ◌$◌, ◌∵◌, !, qed, by, move, keep, use0, use1, use2, split, join, pick, learn, fsplit, fjoin, frame, suffices, await, done}
+use types.Kit.{‵, raw, ◌⊛◌, ⋆, some, later, given, at_ret, any_q, Post as After, ◌$◌, ◌∵◌, !, qed, by, move, keep, use0, use1, use2, split, join, pick, learn, fsplit, fjoin, frame, suffices}
+use types.Kit.{await, done}
 use types.Run.{stop, fld, addr, lit, no_more, and_then, of_opd, first, branches, skips, switches_on, exec, returns, returns_within, enter}
 use types.Part.{whole, agg}
 use types.Match.{vrt, in_variant}
@@ -85,7 +86,8 @@ module _ (Z : Al) {M : Type 1} {𝓤 : Ura M} (𝓛 : Logic 𝓤) (at_mem : Memo
     abbrev Post : Val → SProp 𝓤
     Post = (walk_of 𝓛 (ended Z) (stayed Z) held).post bound
 
-    exits : (v : Val) (res : Answer.Denot) → OnOk res (IsLetPass r.now.gate.refusals) → ent 𝓤 (⋆ 𝓛 (‵ (Answer.own_val res (v ∷ [])) ∷ ‵ (block_if_ok (token Z r.now.inner) τ res) ∷ ‵ (flft κ₁ q₁) ∷ (‵ (flft κ₂ q₂) ⊛ ‵ ftrue) ∷ [])) (Post v)
+    exits : (v : Val) (res : Answer.Denot) → OnOk res (IsLetPass r.now.gate.refusals)
+        → ent 𝓤 (⋆ 𝓛 (‵ (Answer.own_val res (v ∷ [])) ∷ ‵ (block_if_ok (token Z r.now.inner) τ res) ∷ ‵ (flft κ₁ q₁) ∷ (‵ (flft κ₂ q₂) ⊛ ‵ ftrue) ∷ [])) (Post v)
     exits v res passed = qed 𝓛 (‵ (Answer.own_val res (v ∷ [])) ∷ ‵ (block_if_ok (token Z r.now.inner) τ res) ∷ ‵ (flft κ₁ q₁) ∷ (‵ (flft κ₂ q₂) ⊛ ‵ ftrue) ∷ []) ∵
         suffices ! _ (ends_at 𝓛 (ended Z) (stayed Z) held bound v res (tt, (tt, (tt, tt))) (tt, (tt, (tt, tt)))) $
         nothing ! $ nothing ! $ fjoin ! $ nothing ! $ fjoin ! $ nothing ! $ fjoin ! $ join ! $ move ! (2 ∷ 3 ∷ []) $ join ! $ join ! $ frame ! $ says ! passed $ done !
@@ -100,7 +102,8 @@ module _ (Z : Al) {M : Type 1} {𝓤 : Ura M} (𝓛 : Logic 𝓤) (at_mem : Memo
         let y : (Takes Z 𝓛 at_mem run).Ghost = at_takes Z 𝓛 at_mem run κ₁ q₁ p h n a τ in
         let z : (Counts 𝓛 at_mem run).Ghost = at_counts 𝓛 at_mem run κ₁ q₁ r.now.blocks c n in
         let Said : Type 0 = (capped (size τ) ≡ n) × (capped (align τ) ≡ a) in
-        qed 𝓛 (((‵ (flft κ₁ q₁) ⊛ ‵ (flft κ₂ q₂) ⊛ ‵ ftrue) ⊛ ‵ (owns (types_at (ended Z).signature.params bound.0.0) bound.0.3 bound.0.4)) ∷ (raw (fact 𝓤 (κ₂ ⊑ Z.row.lives)) ⊛ raw (fact 𝓤 Said)) ∷ []) ∵
+        qed 𝓛 (((‵ (flft κ₁ q₁) ⊛ ‵ (flft κ₂ q₂) ⊛ ‵ ftrue) ⊛ ‵ (owns (types_at (ended Z).signature.params bound.0.0) bound.0.3 bound.0.4)) ∷
+        (raw (fact 𝓤 (κ₂ ⊑ Z.row.lives)) ⊛ raw (fact 𝓤 Said)) ∷ []) ∵
         move ! (1 ∷ []) $ split ! $ heard ! (κ₂ ⊑ Z.row.lives) (λ le. heard ! Said (λ said.
         split ! $ split ! $ move ! (2 ∷ []) $ fsplit ! $ fsplit ! $ move ! (1 ∷ []) $ unhide ! $ fsplit ! $ fsplit ! $ use1 𝓛 (‵ (seen Z κ₁ p h)) (id⊢ 𝓤 _) $ move ! (1 ∷ []) $
         fsplit ! $ move ! (1 ∷ []) $ fsplit ! $ keep ! (2 ∷ 7 ∷ 3 ∷ 0 ∷ 8 ∷ []) $
@@ -112,7 +115,8 @@ module _ (Z : Al) {M : Type 1} {𝓤 : Ura M} (𝓛 : Logic 𝓤) (at_mem : Memo
         sets ! (addr ! (through ! refl (fld ! refl (stop !)))) refl (tt, tt) $
         use2 𝓛 (raw ((Asks 𝓛 at_mem run).pre x)) (Asks-goes 𝓛 at_mem run κ₁ q₁ g r.now.gate) $
         calls_at ! (fm_of 𝓤 H 𝓛.laws 𝓣) (Asks 𝓛 at_mem run) ga x (and_then ! (get ! refl) (no_more !)) (λ u.
-        use1 𝓛 (later (some (λ (t : Ruling r.now.gate.refusals). given (u ≡ vbool t.0) (‵ (flft κ₁ q₁))))) (Asks-gives 𝓛 at_mem run κ₁ q₁ g r.now.gate u) $ await ! tt $ pick ! (λ t. learn ! (λ eu. lands_as ! eu refl (tt, tt) $
+        use1 𝓛 (later (some (λ (t : Ruling r.now.gate.refusals). given (u ≡ vbool t.0) (‵ (flft κ₁ q₁))))) (Asks-gives 𝓛 at_mem run κ₁ q₁ g r.now.gate u)
+        $ await ! tt $ pick ! (λ t. learn ! (λ eu. lands_as ! eu refl (tt, tt) $
         first ! $ branches ! (get ! refl)
         (λ refused. sets ! (agg ! (no_more !)) refl (tt, tt) $
         sets ! (agg ! (and_then ! (lit ! tt) (and_then ! (get ! refl) (no_more !)))) refl (Answer-typed false 0 0) $
@@ -134,12 +138,14 @@ module _ (Z : Al) {M : Type 1} {𝓤 : Ura M} (𝓛 : Logic 𝓤) (at_mem : Memo
         use1 𝓛 (later (given (w ≡ vunit) (‵ (flft κ₁ q₁)))) (Counts-gives 𝓛 at_mem run κ₁ q₁ c r.now.blocks n w) $ await ! tt $ learn ! (λ ew. lands_as ! ew refl (tt, tt) $
         sets_last ! (agg ! (and_then ! (lit ! tt) (and_then ! (get ! refl) (no_more !)))) refl (Answer-typed true b o) $
         exec ! 𝓣.C 𝓣.Λ En (after 6 (here Z).body) (at_ret En Post) $ sets ! (of_opd ! (get ! refl)) refl (Answer-typed true b o) $ returns ! (look_at ! 0 refl) $ free_all ! refl $
-        keep ! (1 ∷ 0 ∷ 2 ∷ []) $ use0 𝓛 (‵ (Answer.own_val (Ok (block_ptr b o)) (answer_val true b o ∷ []))) (Answer-Ok 𝓛 b o) $ by ! (exits (answer_val true b o) (Ok (block_ptr b o)) (let_pass r.now.gate.refusals t.0 t.1 passed)))))
+        keep ! (1 ∷ 0 ∷ 2 ∷ []) $ use0 𝓛 (‵ (Answer.own_val (Ok (block_ptr b o)) (answer_val true b o ∷ []))) (Answer-Ok 𝓛 b o)
+        $ by ! (exits (answer_val true b o) (Ok (block_ptr b o)) (let_pass r.now.gate.refusals t.0 t.1 passed)))))
         (λ e. lands_as ! e refl (Answer-typed false 0 0) $
         first ! $ switches_on ! (get_tag ! (vrt ! refl (fld ! refl (stop !))) (whole !)) $ exec ! 𝓣.C 𝓣.Λ En (arm_body 1 both) Then $
         sets ! (of_opd ! (get_in ! (vrt ! refl (fld ! refl (stop !))) (in_variant ! 1 0 refl refl (whole !)))) refl (tt, tt) $
         sets_last ! (agg ! (and_then ! (lit ! tt) (and_then ! (get ! refl) (no_more !)))) refl (Answer-typed false 0 0) $
-        exec ! 𝓣.C 𝓣.Λ En (after 6 (here Z).body) (at_ret En Post) $ sets ! (of_opd ! (get ! refl)) refl (Answer-typed false 0 0) $ returns ! (look_at ! 0 refl) $ free_all ! refl $ keep ! (0 ∷ 2 ∷ []) $
+        exec ! 𝓣.C 𝓣.Λ En (after 6 (here Z).body) (at_ret En Post) $ sets ! (of_opd ! (get ! refl)) refl (Answer-typed false 0 0)
+        $ returns ! (look_at ! 0 refl) $ free_all ! refl $ keep ! (0 ∷ 2 ∷ []) $
         nothing ! $ use0 𝓛 (‵ (Answer.own_val (Err (record {})) (answer_val false 0 0 ∷ []))) (Answer-err 𝓛) $ by ! (exits (answer_val false 0 0) (Err (record {})) tt))))))))))
 
 pub allocate_spec : {M : Type 1} → stated.statement M
