@@ -72,8 +72,8 @@ where
 /// the second, only the allocation with that number fails. Then the work may succeed: a collection that can't get
 /// memory for many items may request less. After each run, no block may be left.
 ///
-/// This takes two runs for each allocation, and one more. Write the result's type on the last closure, as in `|memory:
-/// &Refusing<Global>| -> Result<(), AllocError> { .. }`.
+/// This takes two runs for each allocation, and one more. Write the result's type on the last closure, as in
+/// `|memory: &Refusing<Global>| -> Result<(), AllocError> { .. }`.
 pub fn refuse_each<B, E, F>(inner: B, most: u64, work: F) -> Found
 where
     B: Allocator + Copy,
