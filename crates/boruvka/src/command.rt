@@ -337,10 +337,10 @@ fn print_usage<O: Sink, E: Sink>(
 
 /// Does everything that the program does, and returns its exit status.
 ///
-/// The first of `words` is the program's name. [`options`] checks the arguments, and then [`obey`] carries them out, or
-/// the user is told what is wrong with them. Messages are written to the errors, and only the help and the version to
-/// the output. A failed write to the errors is ignored. If the arguments ask for it, the writer next to the input gets
-/// how much was read; it may be another handle of the errors' stream.
+/// The first of `words` is the program's name. [`options`] checks the arguments. Then [`obey`] carries them out, or the
+/// program prints what is wrong with them. Messages are written to the errors, and only the help and the version to the
+/// output. A failed write to the errors is ignored. If the arguments ask for it, the writer next to the input gets how
+/// much was read; it may be another handle of the errors' stream.
 ///
 /// The exit statuses:
 /// - 0: success.

@@ -34,7 +34,7 @@ fn hold_closed<R: Files<File = File>>(rt: &R) -> Option<ReservedDescriptors> {
     Some(ReservedDescriptors { _files: files })
 }
 
-/// How many of this many workers may be started, as long as the first part of the result is kept.
+/// Returns how many of `workers` workers may be started while the first part of the result is kept.
 ///
 /// It reserves each of the three standard descriptors that isn't open, so that no file or socket opened later gets its
 /// number. The descriptor gets a directory, which can be neither read nor written, so the stream fails like a closed
