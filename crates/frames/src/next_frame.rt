@@ -240,9 +240,9 @@ fn are_coarser_behind(numbers: &[u32], last: &[u32], from: usize) -> bool
     true
 }
 
-// Whether vertex `v` is labelled, by the same label as the vertex that labelled it before, if the vertices below `v` are
-// labelled. If it labelled itself before, its new label has to label itself. Otherwise its new label has to be that of
-// the vertex that labelled it before, which is lower and was checked.
+// Whether vertex `v` is labelled, by the same label as the vertex that labelled it before, if the vertices below `v`
+// are labelled. If it labelled itself before, its new label has to label itself. Otherwise its new label has to be that
+// of the vertex that labelled it before, which is lower and was checked.
 #[inline]
 fn is_coarser(numbers: &[u32], last: &[u32], v: usize) -> bool
     requires last { AreLabels last.now }

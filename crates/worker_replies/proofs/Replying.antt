@@ -60,7 +60,7 @@ pub last_reply : (shelf : Shelf) (fs : List FrameValue) (round shard : ℕ) (lab
     → MayReply (shelf_after shelf fs shard) round shard labels v
 last_reply shelf fs round shard labels came v more are count = search (arith, replies_split, parts_same, replies_count)
 
--- what may be written for a prefix of a stream is a prefix of what is written for the stream
+-- what is written for a stream begins with something that may be written for a prefix of it
 pub prefix_has_prefix_replies : (version worker : ℕ) (prefix rest out : List ℕ) → Serves version worker (prefix ++ rest) out
     → (early : List ℕ) × (late : List ℕ) × (out ≡ early ++ late) × Serves version worker prefix early
 prefix_has_prefix_replies version worker prefix rest out serves =
