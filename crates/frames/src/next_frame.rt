@@ -295,7 +295,6 @@ fn hear_piece<A: Allocator>(
     }
 }
 
-// Appends the numbers that these bytes encode.
 pub(crate) fn push_numbers<A: Allocator>(
     numbers: &mut Vec<u32, A>,
     piece: &[u8],
