@@ -51,7 +51,6 @@ few_enough n m less few = omega (arith, less, few)
 
 -- ---- the forest and the report
 
--- all new wires are open
 open_all : {L : Type 0} → (lanes : List (LaneState (WireState L))) → ((i : ℕ) (d : LaneState (WireState L)) → i < length lanes
     → (get_or lanes i d).port.is_open ≡ true) → open_count port_of lanes ≡ length lanes
 open_all [] opened = refl

@@ -163,8 +163,9 @@ pub fn run_lines<
     requires room { All (λ line. HasRoom (L.state line)) lines.items }
 
     // Whatever the workers answer: the source was read to its end and exactly the text of a spanning forest was
-    // written, or the error says what was done. Take a run that succeeds, fails on a write, or fails because what came
-    // over the lines makes no forest. In it each line was asked as its worker, and it is known why a line was given up.
+    // written, or the error says what was done. A run may succeed, fail on a write, or fail because what came over the
+    // lines makes no forest. In these cases, each line was asked as its worker, and it is known why a line was given
+    // up.
     ensures ran { RanLines L.Line cutting.entry lines.items result
         (known S.state W.state source.old sink.old) (known S.state W.state source.new sink.new) }
 

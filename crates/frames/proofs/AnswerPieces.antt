@@ -62,7 +62,6 @@ module _ (r s c k : ℕ) (x y z : SourceState) (came : Gave 0 0 (u32_text r ++ (
     answer_late fault = list_late 4 (12 + 8 * k) (8 * k) (u32_text r ++ (u32_text s ++ u32_text c)) long x y z came fault begun
 
     module _ (wide_r : IsU32 r) (wide_s : IsU32 s) (pairs : List Offer) (bytes : List ℕ) (count : length bytes ≡ 8 * k) (behind : Gave 0 0 bytes y z) (are : SpellOffers pairs bytes) where
-      -- offers came
       pub answer_came : k ≤ 2 * MAX_SHARD_LINKS → (os : List Offer) → os ≡ pairs → AreOffers os → BodyCame (AnswerFrame (record { round = r; shard = s; offers = os })) 4 (12 + 8 * k) x z
       unfolding u32_text
       answer_came few os same ascending =
@@ -76,7 +75,6 @@ module _ (r s c k : ℕ) (x y z : SourceState) (came : Gave 0 0 (u32_text r ++ (
             counted,
           )) spelled (subst (All FitsOffer) (sym same) are.fit) ascending)
 
-      -- pairs came that aren't offers
       pub no_answer_came : IsU32 c → (AreOffers pairs → ⊥) → IsBodyRefused BadField 4 (12 + 8 * k) x z
       unfolding u32_text
       no_answer_came wide_c never = search (arith, list_refused, long, answer_unsorted)

@@ -35,7 +35,6 @@ pub came_more : {A : Type 0} (last : List ℕ) (came k : ℕ) (piece : List ℕ)
 came_more last came k piece before after count within counted heard = search (arith, length-append, bytes_of)
 
 module _ (last : List ℕ) (are : AreLabels last) where
-  -- the same labels coarsen themselves
   pub same_coarser : (to : ℕ) → to ≤ length last → AreCoarserUpTo last last to
   same_coarser to within = search arith
 
@@ -64,7 +63,6 @@ module _ (last : List ℕ) (are : AreLabels last) where
       → AskFrame rd sh numbers ≡ AskFrame r s labels → ¬ Coarsens labels last
   others_dont numbers of never rd sh r s labels is coarsens = search (arith, coarser_of)
 
-  -- the first of the same labels
   same_front : (to : ℕ) → to ≤ length last → AreCoarserUpTo last (take to last) to
   same_front to within =
       let long : length (take to last) ≡ to = length-take-le to last within in

@@ -75,7 +75,6 @@ module _ (s : Spelling) (n c : ℕ) (links : List ℕ) where
         other (ap spelling_of (spelled_same s ls ls' spelled.fit (fit_of s ls' spelling) (spelled.bytes_are ∙ sym same)) ∙ spelling),
   )
 
-  -- a shard's body, with these fields before its links
   pub shard_begun : n < MAX_SHARDS → length links ≡ size_in s * c → IsListBegun (kind_in s) (u32_text n ++ (u32_text c ++ links))
   shard_begun low long = list_begun s (u32_text n ++ (u32_text c ++ links)) (record { number = n; count = c; links = links; split = refl; in_range = low; counted = long })
 
@@ -90,7 +89,6 @@ module _ (r s c : ℕ) (labels : List ℕ) where
       → (ls : List ℕ) × AreLabels ls × (length ls ≡ c) × (s < MAX_SHARDS) × (flat_map u32_text ls ≡ labels)
   ask_parts a1 a2 a3 a4 a5 = search (arith, two_prefix, u32_prefix, shard_kind)
 
-  -- an ask's body, with these fields before its labels
   pub ask_begun : s < MAX_SHARDS → length labels ≡ 4 * c → IsListBegun 3 (u32_text r ++ (u32_text s ++ (u32_text c ++ labels)))
   ask_begun low long = inr (inr (inl (refl, record { round = r; shard = s; count = c; labels = labels; split = refl; in_range = low; counted = long })))
 
@@ -118,7 +116,6 @@ module _ (r s c : ℕ) (offers : List ℕ) where
       → (os : List Offer) × AreOffers os × AllByRecursion FitsOffer os × (length os ≡ c) × (flat_map offer_text os ≡ offers)
   answer_parts a1 a2 a3 a4 a5 = search (arith, two_prefix, u32_prefix, recursion_from_All, shard_kind)
 
-  -- an answer's body, with these fields before its offers
   pub answer_begun : length offers ≡ 8 * c → IsListBegun 4 (u32_text r ++ (u32_text s ++ (u32_text c ++ offers)))
   answer_begun long = inr (inr (inr (refl, record { round = r; shard = s; count = c; offers = offers; split = refl; counted = long })))
 

@@ -46,7 +46,6 @@ each_fits : (numbers : List ℕ) → ((i : ℕ) → get_or numbers i 0 < 2 ^ 32)
 each_fits [] fit = tt
 each_fits (n ∷ numbers) fit = (fit 0, each_fits numbers (λ i. fit (suc i)))
 
--- numbers are found in their bytes
 pub numbers_found : (bytes numbers : List ℕ) → length bytes % 4 ≡ 0 → IsBytes bytes → ((i : ℕ) → get_or numbers i 0 < 2 ^ 32) → flat_map u32_text numbers ≡ bytes
     → numbers ≡ map (from_be_bytes w32) (first_chunks 4 (length bytes / 4) bytes)
 numbers_found bytes numbers whole fits fit spelled =
@@ -58,7 +57,6 @@ numbers_found bytes numbers whole fits fit spelled =
 pub three_joined : (all a b c x y z : List ℕ) → all ≡ a ++ (b ++ (c ++ [])) → a ≡ x → b ≡ y → c ≡ z → all ≡ x ++ (y ++ z)
 three_joined all a b c x y z is first second third = search (arith, append-nil)
 
--- texts of three fields, one after the other
 pub three_put : (t0 t1 t2 t3 a b c x y z : List ℕ) → t1 ≡ t0 ++ a → t2 ≡ t1 ++ b → t3 ≡ t2 ++ c → a ≡ x → b ≡ y → c ≡ z → t3 ≡ t0 ++ (x ++ (y ++ z))
 three_put t0 t1 t2 t3 a b c x y z e1 e2 e3 first second third = search (arith, append_assoc)
 

@@ -46,7 +46,6 @@ pub others_here : (last more new piece : List ℕ) (came k : ℕ) → flat_map u
     → new ≡ take came last ++ more → new ≢ take (came + k) last
 others_here last more new piece came k spelled other is same = search (arith, append_cancel_left, same_more)
 
--- the text of numbers and more of them
 pub more_text : (before more after piece : List ℕ) → after ≡ before ++ more → flat_map u32_text more ≡ piece → flat_map u32_text after ≡ flat_map u32_text before ++ piece
 more_text before more after piece is spelled = search (arith, flat_map-append)
 
@@ -56,7 +55,6 @@ all_fit numbers fit = λ k d within. subst IsU32 (get_or_default numbers k 0 d w
 pub first_fit : (numbers : List ℕ) (n : ℕ) → ((i : ℕ) → get_or numbers i 0 < 2 ^ 32) → All IsU32 (take n numbers)
 first_fit numbers n fit = All-take IsU32 n numbers (all_fit numbers fit)
 
--- numbers and more of them
 pub other_fit : (new old more : List ℕ) → new ≡ old ++ more → All IsU32 more → All IsU32 old → All IsU32 new
 other_fit new old more is fits before = subst (All IsU32) (sym is) (All-append IsU32 old more before fits)
 

@@ -23,7 +23,6 @@ hello_same v w v' w' fits fits' wide wide' same =
     let worker = u32_prefix w w' [] [] wide wide' (ap (λ (t : List ℕ). t ++ []) version.1) in
     (version.0, worker.0)
 
--- two numbers, and what follows them
 pub two_prefix : (a b c d : ℕ) (x y : List ℕ) → IsU32 a → IsU32 b → IsU32 c → IsU32 d
     → u32_text a ++ (u32_text b ++ x) ≡ u32_text c ++ (u32_text d ++ y) → (a ≡ c) × (b ≡ d) × (x ≡ y)
 two_prefix a b c d x y fits_a fits_b fits_c fits_d same = search (arith, u32_prefix)

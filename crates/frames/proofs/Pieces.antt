@@ -36,7 +36,6 @@ stopped_so_many fault m n x y is stopped = subst (λ (k : ℕ). IsStopped fault 
 
 -- ---- fields, and the bytes of a list after them
 
--- two numbers that fill the bytes
 two_filled : (bytes rest none : List ℕ) (a b : ℕ) → length bytes ≡ 8 → bytes ≡ u32_text a ++ rest → rest ≡ u32_text b ++ none → bytes ≡ u32_text a ++ u32_text b
 two_filled bytes rest none a b eight first second = search (arith, nil_from_length, length-append, u32_length, append-nil)
 
@@ -49,12 +48,10 @@ pub three_came : (bytes rest rest' none : List ℕ) (a b c : ℕ) (x y : SourceS
 three_came bytes rest rest' none a b c x y twelve first second third came = search (arith, length-append, u32_length, two_filled)
 
 module _ (kind len m : ℕ) (fields : List ℕ) (long : length fields + m ≡ len) (x y z : SourceState) (came : Gave 0 0 fields x y) where
-  -- the list came, and the body is a frame's
   pub list_came : (v : FrameValue) (list : List ℕ) → length list ≡ m → Gave 0 0 list y z → IsFrameOf v kind (fields ++ list) → BodyCame v kind len x z
   list_came v list count behind is =
       whole_came v kind len (fields ++ list) x z (omega (arith, length-append fields list, count, long)) (gave_more 0 0 fields list x y z came behind) is
 
-  -- the list came, and the body is rejected
   pub list_refused : (fault : FrameFault) (list : List ℕ) → length list ≡ m → Gave 0 0 list y z → BodyRefused fault kind (fields ++ list) → IsBodyRefused fault kind len x z
   list_refused fault list count behind refused =
       whole_refused fault kind len (fields ++ list) x z (omega (arith, length-append fields list, count, long)) (gave_more 0 0 fields list x y z came behind) refused

@@ -97,7 +97,6 @@ module _ (s : Spelling) (n c k : ℕ) (x y z : SourceState) (came : Gave 0 0 (u3
     shard_late fault = list_late (kind_in s) (8 + size_in s * k) (size_in s * k) (u32_text n ++ u32_text c) long x y z came fault begun
 
     module _ {A : Type 0} (links : Option (Vec Link A)) (bytes : List ℕ) (long_enough : length bytes ≡ size_in s * k) (behind : Gave 0 0 bytes y z) (heard : HeardLinks s bytes links) where
-      -- links came, in their spelling
       pub shard_came : k ≤ MAX_SHARD_LINKS → (list : Vec Link A) (v : FrameValue) → links ≡ Some list → (v ≡ ShardFrame n list.items) × (spelling_of list.items ≡ s)
           → BodyCame v (kind_in s) (8 + size_in s * k) x z
       unfolding u32_text
@@ -117,7 +116,6 @@ module _ (s : Spelling) (n c k : ℕ) (x y z : SourceState) (came : Gave 0 0 (u3
             (list_refused (kind_in s) (8 + size_in s * k) (size_in s * k) (u32_text n ++ u32_text c) long x y z came BadField bytes long_enough behind
             (shard_of_another_kind s n c bytes list.items wide_n wide_c are other))
 
-        -- bytes came that encode no links
         pub no_links_came : links ≡ None → IsBodyRefused BadField (kind_in s) (8 + size_in s * k) x z
         unfolding u32_text
         no_links_came is =

@@ -35,7 +35,6 @@ pub u32_length : (n : ℕ) → length (u32_text n) ≡ 4
 unfolding u32_text
 u32_length n = refl
 
--- three numbers, and what follows them
 pub three_length : (a b c : ℕ) (list : List ℕ) → length (u32_text a ++ (u32_text b ++ (u32_text c ++ list))) ≡ 12 + length list
 three_length a b c list = omega (
   arith,
@@ -151,7 +150,6 @@ wide_link_length l = omega (
 pub offer_length : (o : Offer) → length (offer_text o) ≡ 8
 offer_length o = omega (arith, length-append (u32_text o.0) (u32_text o.1), u32_length o.0, u32_length o.1)
 
--- a list of texts of the same length
 pub items_length : {X : Type 0} (text : X → List ℕ) (n : ℕ) → ((x : X) → length (text x) ≡ n) → (xs : List X) → length (flat_map text xs) ≡ n * length xs
 items_length text n each [] = omega arith
 items_length text n each (x ∷ xs) = omega (arith, length-append (text x) (flat_map text xs), each x, items_length text n each xs)

@@ -11,13 +11,11 @@ use Rattle.frames.specs.declared.spelling.Spelling.{Spelling}
 use Rattle.frames.proofs.Texts.{u32_length, offer_length, items_length}
 use Rattle.frames.proofs.Spelled.{length_in, text_in, kind_by_spelling}
 
--- a head, two fields, and what follows them
 two_fields : (kind len a b : ℕ) (list : List ℕ) → len ≡ 8 + length list
     → (((kind ∷ u32_text len) ++ u32_text a) ++ u32_text b) ++ list ≡ kind ∷ (u32_text (length (u32_text a ++ (u32_text b ++ list))) ++ (u32_text a ++ (u32_text b ++ list)))
 unfolding u32_text
 two_fields kind len a b list long = ap (λ (n : ℕ). kind ∷ (u32_text n ++ (u32_text a ++ (u32_text b ++ list)))) (omega (arith, long))
 
--- a head, three fields, and what follows them
 three_fields : (kind len a b c : ℕ) (list : List ℕ) → len ≡ 12 + length list
     → ((((kind ∷ u32_text len) ++ u32_text a) ++ u32_text b) ++ u32_text c) ++ list
     ≡ kind ∷ (u32_text (length (u32_text a ++ (u32_text b ++ (u32_text c ++ list)))) ++ (u32_text a ++ (u32_text b ++ (u32_text c ++ list))))

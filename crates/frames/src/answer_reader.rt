@@ -17,7 +17,7 @@ use links::{Answer, Offers};
 use std::alloc::{AllocError, Allocator};
 
 // Reads the body of an answer, whose length is that of `most` offers. If the count is wrong, the rest of the body is
-// read and dropped, since the stream may end within it. Whether the components ascend is checked once all of them have
+// read and dropped, since the stream may end within it. Whether the components ascend is checked after all of them have
 // arrived.
 pub(crate) fn read_answer<A: Allocator, S: Source>(
     alloc: A,

@@ -14,8 +14,8 @@ use std::alloc::Allocator;
 /// Decodes the body that follows a head.
 ///
 /// It returns `BadVersion` if the body is a hello of a version other than 1 and 2, and otherwise `BadField` if no
-/// lawful frame has this body. A shard of kind 6 whose weights all fit 32 bits is such a `BadField`, since it has kind
-/// 2.
+/// lawful frame has this body. It also returns `BadField` for a shard of kind 6 whose weights all fit 32 bits, since
+/// such a shard has kind 2.
 ///
 /// It allocates one list in addition to the body's bytes, as [`read_frame`](crate::read_frame) does; a hello and a
 /// fault need no memory. It returns `Memory` if that list can't grow, and only after the fields before the list were

@@ -120,7 +120,7 @@ pub fn encode_ask<A: Allocator, B: Allocator>(
     Ok(text)
 }
 
-/// Returns the text that [`encode_ask`] encodes in two parts: the bytes before the labels, and those of the labels,
+/// Returns, in two parts, the text that [`encode_ask`] returns: the bytes before the labels, and those of the labels,
 /// which are borrowed. It returns `None` if the labels don't store their bytes ([`Labels::spell`]). It allocates
 /// nothing and reads no label.
 pub fn ask_parts<'a, B: Allocator>(

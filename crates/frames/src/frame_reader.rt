@@ -118,7 +118,6 @@ pub(crate) fn read_listed<A: Allocator, S: Source>(
     }
 }
 
-// Reads the next head.
 pub(crate) fn read_head<S: Source>(source: &mut S) -> Result<Head, FrameFault>
     requires { S.can_read source.old }
     ensures possible { IfOk result (λ head. IsPossible head.kind head.length) }

@@ -14,7 +14,6 @@ use limits::MAX_VERTICES;
 use links::Link;
 use std::alloc::{AllocError, Allocator};
 
-// Appends the bytes of numbers to a text that has the capacity for them.
 #[tactic(auto, unfolding(crate::specs::FrameText::u32_text))]
 pub(crate) fn put_numbers<A: Allocator>(text: &mut Vec<u8, A>, numbers: &[u32])
     requires { vec_len text.old + 4 * length numbers.now ≤ vec_capacity text.old }
@@ -107,7 +106,6 @@ fn put_wide_link<A: Allocator>(text: &mut Vec<u8, A>, link: &Link)
     put_bytes(text, &link.weight.cast_unsigned().to_be_bytes());
 }
 
-// Appends bytes to a text that has the capacity for them.
 fn put_bytes<A: Allocator>(text: &mut Vec<u8, A>, bytes: &[u8])
     requires room { vec_len text.old + length bytes.now ≤ vec_capacity text.old }
     ensures put { text.new.items ≡ text.old.items ++ bytes.now }
@@ -165,7 +163,6 @@ fn are_cells_of(cells: &[[u8; 4]], numbers: &[u32]) -> bool
     same
 }
 
-// Appends the offers that these bytes encode.
 pub(crate) fn push_offers<A: Allocator>(
     offers: &mut Vec<(u32, u32), A>,
     bytes: &[u8],
@@ -226,7 +223,6 @@ fn are_ends(low: u32, high: u32) -> bool
     1 <= low && low < high && high <= MAX_VERTICES
 }
 
-// Decodes a link with a weight of 32 bits.
 fn narrow_link_of(bytes: &[u8]) -> Option<Link>
     requires { length bytes.now ≡ 12 }
     ensures found { IfSome result (λ link. link_text link ≡ bytes.now) }
@@ -243,7 +239,6 @@ fn narrow_link_of(bytes: &[u8]) -> Option<Link>
     Some(Link { weight, low, high })
 }
 
-// Decodes a link with a weight of 64 bits.
 fn wide_link_of(bytes: &[u8]) -> Option<Link>
     requires { length bytes.now ≡ 16 }
     ensures found { IfSome result (λ link. wide_link_text link ≡ bytes.now) }

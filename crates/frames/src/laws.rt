@@ -16,15 +16,15 @@ pub fn each_has_one_text()
     ensures { EachHasOneText }
 {}
 
-/// A stream that begins with a lawful frame's text is rejected for no reason of its own. So [`crate::read_frame`]
-/// returns that frame, unless a read fails or memory runs out.
+/// No error that depends on the stream alone applies to a stream that begins with a lawful frame's text. So
+/// [`crate::read_frame`] returns that frame, unless a read fails or memory runs out.
 #[tactic(auto, using(crate::proofs::NeverRefused::never_refused))]
 pub fn lawful_text_is_never_refused()
     ensures { IsNeverRefused }
 {}
 
-/// An error of [`crate::read_frame`] about the bytes that it read applies to the whole stream too. The stream's bytes
-/// have to be known, and the error isn't a failed read or a lack of memory.
+/// An error of [`crate::read_frame`] applies to the whole stream too, and not only to the bytes that were read. This
+/// holds if the stream's bytes are known, and the error isn't a failed read or a lack of memory.
 pub fn refusal_is_of_the_stream()
     ensures { RefusalIsOfTheStream }
 {}

@@ -2,7 +2,8 @@
 //! kind, the length of the body, and the body.
 //!
 //! Version 1 has the kinds 1 to 5. Version 2 also has kind 6: a shard with a weight that doesn't fit 32 bits. This
-//! crate doesn't know the version of a peer, so a sender has to keep kind 6 from a worker of version 1.
+//! crate doesn't know the version of a peer, so a sender has to make sure that it sends no kind 6 to a worker of
+//! version 1.
 //!
 //! ```text
 //!   Frame, Shard, Labels --encode, encode_shard, encode_ask-->  bytes  <--fault_bytes-- round, shard, code

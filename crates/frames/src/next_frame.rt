@@ -240,9 +240,9 @@ fn are_coarser_behind(numbers: &[u32], last: &[u32], from: usize) -> bool
     true
 }
 
-// Whether vertex `v` has a label that the vertex with its last label has too, if the vertices below it are labelled. If
-// it labelled itself before, its new label has to label itself. Otherwise it has to be the label of its last label,
-// which is lower and was checked.
+// Whether vertex `v` is labelled, by the same label as the vertex that labelled it before, if the vertices below `v`
+// are labelled. If it labelled itself before, its new label has to label itself. Otherwise its new label has to be that
+// of the vertex that labelled it before, which is lower and was checked.
 #[inline]
 fn is_coarser(numbers: &[u32], last: &[u32], v: usize) -> bool
     requires last { AreLabels last.now }
@@ -295,7 +295,6 @@ fn hear_piece<A: Allocator>(
     }
 }
 
-// Appends the numbers that these bytes encode.
 pub(crate) fn push_numbers<A: Allocator>(
     numbers: &mut Vec<u32, A>,
     piece: &[u8],

@@ -39,7 +39,6 @@ impl Spelling {
         }
     }
 
-    // How many bytes a link takes.
     pub(crate) fn size(self) -> usize
         ensures { result ≡ size_in self }
     {

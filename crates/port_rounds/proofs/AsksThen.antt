@@ -35,12 +35,10 @@ in_rounds_then (x ∷ xs) ys p q first =
 both_parts : (others xs ys : List Exchange) (last last' : Option Exchange) → last ≡ None → (others ++ answered xs last) ++ answered ys last' ≡ others ++ answered (xs ++ ys) last'
 both_parts others xs ys last last' none = search (arith, append-nil, append_assoc)
 
--- exchanges of a first part alone
 first_part : (others xs ys : List Exchange) (last last' : Option Exchange) → ys ≡ [] → last' ≡ None → (others ++ answered xs last) ++ answered ys last' ≡ others ++ answered xs last
 first_part others xs ys last last' no_more none = search (arith, append-nil)
 
 module _ {P A : Type 0} (port : Port.Ghosts P A) (keeping : Exchange → Type 0) (closing : ℕ × ℕ → Option Exchange → Type 0) where
-  -- nothing was done
   pub stayed : (a : P) → AnswersAsks port keeping closing a a []
   stayed a = record {
     cut = refl;
@@ -106,6 +104,5 @@ module _ {P A : Type 0} (port : Port.Ghosts P A) (keeping : Exchange → Type 0)
     pub asks_then : ComeFirst p.exchanges q.exchanges → AnswersAsks port keeping closing a c (xs ++ ys)
     asks_then first = elim (either (port.state b).is_open) [ inl e ↦ then_open first e | inr e ↦ then_closed e ]
 
--- no port was asked
 pub none_asked : {P A : Type 0} (port : Port.Ghosts P A) (value : BookValue) (shard : ℕ) (a : P) → AsksFor port value shard a a None
 none_asked port value shard a = search (arith, stayed)

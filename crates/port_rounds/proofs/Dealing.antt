@@ -30,7 +30,6 @@ module _ {P : Type 0} where
   pub no_seat_head : (zs : List (LaneState P)) (x : LaneState P) (xs : List (LaneState P)) → zs ≡ x ∷ xs → All (λ l. l.seat ≡ None) zs → x.seat ≡ None
   no_seat_head zs x xs e a = All-head (λ l. l.seat ≡ None) x xs (rw e at a)
 
-  -- no lanes have no seats, and no open ports
   pub none_dealt : (state : P → PortState) (zs : List (LaneState P)) → length zs ≡ 0 → (seats_of zs ≡ []) × (open_count state zs ≡ 0)
   none_dealt state [] none = (refl, refl)
   none_dealt state (x ∷ zs) none = absurd (omega arith)

@@ -174,7 +174,6 @@ module _ {P A : Type 0} (port : Port.Ghosts P A) where
   ends_of : (n : ℕ) (cut : List (List Link)) (solver : Progress) → vertices solver ≡ n → All (EndsUpTo n) cut → EndsUpTo (vertices solver) (joined cut)
   ends_of n cut solver same ends = subst (λ (m : ℕ). EndsUpTo m (joined cut)) (sym same) (joined_ends n cut ends)
 
-  -- another merging round
   pub merged_more : (n : ℕ) (cut : List (List Link)) (xs ys zs : List (LaneState P)) (old new : Progress) (picks : List (Option Link)) (count alone k : ℕ) → All (EndsUpTo n) cut
       → SoFar n cut xs ys old alone → IsProgress old → PicksInRound port (old.rounds + 1) cut old.labels ys zs picks k → IsMerged picks count old new → SoFar n cut xs zs new (alone + k)
   unfolding picked_after
@@ -236,7 +235,6 @@ module _ {P A : Type 0} (port : Port.Ghosts P A) where
       let last : IsTurn t.picks old new Done = subst (IsTurn t.picks old new) is t.stepped in
       subst (λ (s : Progress). (answered : ℕ) × MergesAll port n cut xs zs s answered (alone + k)) (sym last.1) (ended n cut xs ys zs old t.picks alone k ends u t.progress t.picked last.0)
 
-  -- a round that failed
   pub turn_fault : (n : ℕ) (cut : List (List Link)) (xs ys zs : List (LaneState P)) (solver : Progress) (alone : ℕ) (fault : SolveFault) → All (EndsUpTo n) cut
       → SoFar n cut xs ys solver alone → IsTurnFault port cut solver ys zs fault → IsSolveFault port n cut xs zs fault
   unfolding picked_after
@@ -254,7 +252,6 @@ module _ {P A : Type 0} (port : Port.Ghosts P A) where
         (least_picks n cut xs zs solver t.picks _ _ (picked_after n cut xs ys zs solver t.picks alone t.alone u t.picked) light) fault t.refused);
   })
 
-  -- a solver that can't be finished
   pub finish_fault : (n : ℕ) (cut : List (List Link)) (xs ys : List (LaneState P)) (solver : Progress) (answered alone : ℕ) (fault : SolveFault) → All (EndsUpTo n) cut
       → MergesAll port n cut xs ys solver answered alone → IsFinishFault solver (joined cut) fault → IsSolveFault port n cut xs ys fault
   finish_fault n cut xs ys solver answered alone fault ends u f = inr (record {
@@ -273,7 +270,6 @@ module _ {P A : Type 0} (port : Port.Ghosts P A) where
   pub honest_fault : (n : ℕ) (cut : List (List Link)) (xs ys : List (LaneState P)) (fault : SolveFault) → IsSolveFault port n cut xs ys fault → AreHonest port.honest xs → fault ≡ Memory
   honest_fault a1 a2 a3 a4 a5 a6 a7 = search arith
 
-  -- another round can be asked for
   pub can_more : (n : ℕ) (cut : List (List Link)) (xs ys : List (LaneState P)) (solver : Progress) (alone : ℕ) → SoFar n cut xs ys solver alone → 0 < length cut → length cut ≤ MAX_SHARDS
       → CanRun port.state n cut xs → CanAskRound port.state cut solver ys
   can_more n cut xs ys solver alone u some few can =

@@ -36,7 +36,6 @@ names_shard value shard t e = grind (arith, common_steps, nat_tests)
 pub is_taken_of : (value : BookValue) (shard : ℕ) (t : AnswerValue) → shard < length value.cut → refusal value shard t ≡ None → Takes value t
 is_taken_of value shard t within e = search (arith, names_shard)
 
--- what isn't missing is taken
 pub not_taken : (missing taken : Bool) → missing ≡ not taken → missing ≡ true → taken ≡ false
 not_taken a1 a2 a3 a4 = search arith
 
@@ -44,7 +43,6 @@ not_taken a1 a2 a3 a4 = search arith
 pub where_held : (r : Claim) (fact : Type 0) → ¬ (r ≡ Won) → IfHeld r (λ (by : ℕ). fact) → fact
 where_held a1 a2 a3 a4 = search arith
 
--- the book doesn't reject an honest answer
 pub honest_taken : (value : BookValue) (cut : List (List Link)) (round shard : ℕ) (labels : List ℕ) (t : AnswerValue) → LightOffersAreTaken → cut ≡ value.cut
     → round ≡ value.round → value.labels ≡ labels → is_taken value shard ≡ false
     → IsHonestAnswer cut round shard labels t → refusal value shard t ≡ None
@@ -67,7 +65,6 @@ module _ {P A : Type 0} (port : Port.Ghosts P A) (value : BookValue) (a : P) (ro
   exchange_is : (t : AnswerValue) → IsExchangeOf value (exchange_of round shard labels t)
   exchange_is t = record { ask = asked_of; labels = labels_are }
 
-  -- the answer is kept
   pub kept_one : (b : P) (t : AnswerValue) → refusal value shard t ≡ None → (port.state b).is_open ≡ true → CountsAsks 1 0 0 (port.state a) (port.state b)
       → ((before : List Exchange) → port.exchanged a before → port.exchanged b (before ++ exchange_of round shard labels t ∷ [])) → (port.honest a → port.honest b)
       → ((ends : ℕ) (before : List Exchange) → port.sound a ends before → port.sound b ends (before ++ exchange_of round shard labels t ∷ []))
@@ -93,7 +90,6 @@ module _ {P A : Type 0} (port : Port.Ghosts P A) (value : BookValue) (a : P) (ro
     why_honest = λ x e f. absurd (cc);
   }
 
-  -- the answer is rejected, and the port is shut
   pub refused_one : (m b : P) (t : AnswerValue) → IsSome (refusal value shard t) → (port.honest a → refusal value shard t ≡ None)
       → CountsAsks 1 0 0 (port.state a) (port.state m) → (port.state m).last ≡ (round, shard)
       → CountsAsks 0 0 0 (port.state m) (port.state b) → (port.state b).is_open ≡ false
@@ -152,7 +148,6 @@ module _ {P A : Type 0} (port : Port.Ghosts P A) (value : BookValue) (a : P) (ro
     why_honest = λ x e f. omega (arith, went.failures, went.wants, one);
   }
 
-  -- there is no answer
   pub failed_one : (b : P) (fault : PortFault) → AnswersAsk {T = AnswerValue} (Err fault) round shard (port.state a) (port.state b) → (port.honest a → port.honest b)
       → ((ends : ℕ) (others : List Exchange) → port.sound a ends others → port.sound b ends others) → AnswersAsks port (TakesExchange value) (ClosesPort value) a b []
   failed_one b TooOld went stays sounds = closed_one b 1 0 refl went.2 went.3 went.1 stays sounds

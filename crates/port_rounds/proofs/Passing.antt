@@ -119,7 +119,6 @@ module _ {P A : Type 0} (port : Port.Ghosts P A) where
             subst (λ ts. All (IsLight old) ts) (sym m) v);
       }
 
-  -- nothing was asked
   pub passed_none : (value : BookValue) (xs ys : List (LaneState P)) → AllZip SamePort xs ys → RunsPasses port value value xs ys
   passed_none value xs ys same = record {
     answers = [];

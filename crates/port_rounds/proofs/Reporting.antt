@@ -5,7 +5,6 @@ use Rattle.std.proofs.lemmas.List.{take_more, take_all}
 use Rattle.links.specs.declared.links.Link.{Link}
 use Rattle.links.specs.Cut.{joined, links_at}
 
--- another shard
 pub joined_more : (cut : List (List Link)) (i : ℕ) → i < length cut → length (joined (take (i + 1) cut)) ≡ length (joined (take i cut)) + length (links_at cut i)
 joined_more cut i within =
     ap (λ (shards : List (List Link)). length (joined shards)) (take_more cut i [] within)

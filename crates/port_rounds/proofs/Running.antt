@@ -36,7 +36,6 @@ opened_misses round cut labels = (let e = sum_by-replicate (λ x. cond (not x) 1
 pub opened_round : (round : ℕ) (cut : List (List Link)) (labels : List ℕ) → 0 < length cut → All (EndsUpTo (length labels)) cut → 1 ≤ round → IsAskable (opened round cut labels)
 opened_round round cut labels some ends first = search arith
 
--- answers are appended to those that the book has
 pub heard_answers : (p : BookValue) (ts : List AnswerValue) → (with_answers p ts).answers ≡ p.answers ++ ts
 heard_answers p [] = sym (append-nil p.answers)
 heard_answers p (t ∷ ts) = heard_answers (with_answer p t) ts ∙ append_assoc p.answers (t ∷ []) ts
@@ -62,7 +61,6 @@ module _ {P A : Type 0} (port : Port.Ghosts P A) where
       → RunsRound port (opened round cut labels) new xs ys k → SameRound (opened round cut labels) new
   same_still round cut labels new xs ys k r = search (arith, same_then, heard_same)
 
--- an element of a list that has one
 pub lane_at : {X : Type 0} (xs : List X) (i : ℕ) → i < length xs → X
 lane_at [] i b = absurd (omega arith)
 lane_at (x ∷ xs) i b = x
@@ -86,7 +84,6 @@ books_first books round xs ys earlier kept now i d b j e c =
     let (book, is_in, is) = kept i d b in
     omega (arith, is.asked.ask.round, All-contains (λ (book : BookValue). book.round < round) books book earlier is_in, now j e c)
 
--- nothing was kept
 pub kept_none : {P : Type 0} (honest : P → Type 0) (xs : List (LaneState P)) → MatchesBooks honest xs [] (λ i. [])
 kept_none honest xs = search arith
 

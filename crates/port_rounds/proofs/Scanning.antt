@@ -32,7 +32,6 @@ scanned_then p q r n m u v = record {
   light = All-append (IsLight p) u.answers v.answers u.light (λ i d b. light_before p u.answers (get_or v.answers i d) (subst (λ o. IsLight o (get_or v.answers i d)) u.value (v.light i d b)));
 }
 
--- what was taken stays taken
 pub stays_taken : (p q : BookValue) (n : ℕ) (k : ℕ) → ScansShards p q n → is_taken p k ≡ true → is_taken q k ≡ true
 stays_taken p q n k u t = search (arith, either, taken_before)
 

@@ -53,7 +53,6 @@ ready_all state board value xs ys bound idle room got fresh i d b =
 
 -- ---- the seats after the ferries
 
--- the same seat of the same board
 pub record SameSeat (s t : SeatState) : Type 0 where
   pub board_is : t.board ≡ s.board
   pub number : t.number ≡ s.number

@@ -54,7 +54,6 @@ within [] i e = absurd (cc)
 within (x ∷ xs) zero e = omega arith
 within (x ∷ xs) (suc i) e = omega (arith, within xs i e)
 
--- with each answer taken, one shard fewer is missing
 pub taken_one : (p : BookValue) (t : AnswerValue) → Takes p t → missing (with_answer p t) + 1 ≡ missing p
 taken_one p t k = search (arith, untaken, within, sum_by-set, cond)
 
@@ -68,7 +67,7 @@ all_kept_cons zs x xs e = rw e (flat_map-cons (λ l. l.kept) x xs)
 pub heard_append : (p : BookValue) (xs ys : List AnswerValue) → with_answers p (xs ++ ys) ≡ with_answers (with_answers p xs) ys
 heard_append p xs ys = fold-append with_answer p xs ys
 
--- and answers that are taken after others are taken with them
+-- answers that are taken after others are taken with them
 pub taken_both : (p : BookValue) (xs ys : List AnswerValue) → TakesAll p xs → TakesAll (with_answers p xs) ys → TakesAll p (xs ++ ys)
 taken_both p [] ys f g = g
 taken_both p (x ∷ xs) ys f g = (f.0, taken_both (with_answer p x) xs ys f.1 g)

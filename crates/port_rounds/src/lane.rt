@@ -67,7 +67,6 @@ pub(crate) struct Lanes<'a, 'b, R, P, A: Allocator> {
 }
 
 impl<'a, 'b, R, P, A: Allocator> Lanes<'a, 'b, R, P, A> {
-    // These lanes, between two passes.
     pub(crate) fn new(rt: &'b R, lanes: &'a mut [Lane<P, A>]) -> Self
         requires few { length lanes.old ≤ MAX_WORKERS }
         requires idle { All IsIdle lanes.old }

@@ -55,7 +55,6 @@ pub(crate) fn report_of<A: Allocator>(
     }
 }
 
-// How many links the shards of a cut have together.
 #[tactic(auto, using(crate::proofs::Reporting::joined_more, crate::proofs::Reporting::joined_all))]
 fn count_links<A: Allocator>(cut: &Cut<A>) -> u64
     ensures { result ≡ length (joined cut.now) }

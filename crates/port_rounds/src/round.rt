@@ -58,9 +58,10 @@ impl<
     // returns how many shards it scanned. After it the book misses none.
     //
     // In a pass, each lane with an open port has a thread that asks its port about one shard after another, and each
-    // begins at another shard. No shard is asked of two ports at once, nor again after it is answered. If no thread can
-    // be started, the lanes ask one after another. It waits for the ports' answers. It fails only if it is out of
-    // memory. Then the book may have some of the answers, and each lane is as its asks left it.
+    // begins at another shard. Two ports are never asked about the same shard at once, and none is asked about it after
+    // it was answered. If no thread can be started, the lanes ask one after another. It waits for the ports' answers.
+    // It fails only if it is out of memory. Then the book may have some of the answers, and each lane is as its asks
+    // left it.
     //
     // With s shards and k lanes, a pass takes 8 bytes per shard and about 500 per lane. From then on, each lane has
     // memory for s answers of about 40 bytes.

@@ -24,7 +24,6 @@ fn seat_lane<A: Allocator, P: Port<A>>(row: &mut Vec<Seat, A>, lane: &mut Lane<P
     }
 }
 
-// Takes the lane's seat back.
 fn unseat_lane<A: Allocator, P>(row: &mut Vec<Seat, A>, lane: &mut Lane<P, A>)
     requires room { vec_len row.old + length (option_to_list lane.old.seat) ≤ vec_capacity row.old }
     ensures lane { LosesSeat lane.old lane.new }
@@ -65,7 +64,6 @@ pub(crate) fn unseat_lanes<A: Allocator, P>(row: &mut Vec<Seat, A>, lanes: &mut 
     }
 }
 
-// Makes the lane's memory fit this many answers.
 fn reserve_lane<A: Allocator, P>(lane: &mut Lane<P, A>, shards: u32) -> Result<(), AllocError>
     ensures lane { GainsRoom lane.old lane.new }
     ensures room { OnOk result (shards ≤ lane.new.room) }

@@ -23,7 +23,6 @@ fn take_list<A: Allocator>(book: &mut RoundBook<A>, kept: &mut Vec<Answer<A>, A>
     }
 }
 
-// Moves a lane's kept answers into the book.
 fn take_answers_of<A: Allocator, P>(book: &mut RoundBook<A>, lane: &mut Lane<P, A>)
     requires taken { TakesAll book.old lane.old.kept }
     ensures value { book.new ≡ with_answers book.old lane.old.kept }

@@ -129,7 +129,6 @@ impl<L: Line> Line for FusedLine<L> {
     ghost serves = { λ s worker faithful. fused_serves worker (L.state s.line) s.stopped (L.serves s.line worker faithful) };
 }
 
-// Gets bytes from the line into the first `most` bytes of the buffer.
 fn get_some<L: Line>(line: &mut L, into: &mut [u8], most: usize) -> Result<usize, LineFault>
     requires can { HasRoom (L.state line.old) }
     requires some { 0 < most }

@@ -118,7 +118,6 @@ fn first_frame<A: Allocator + Copy>(alloc: A, bytes: &[u8]) -> Result<(Frame<A>,
     }
 }
 
-// Appends the text of a reply, if there is one.
 fn write_reply<A: Allocator + Copy>(
     alloc: A,
     out: &mut Vec<u8, A>,

@@ -26,7 +26,6 @@ use Rattle.round_core.specs.OwnPicks.{CanCountInto, AreLeastNumbers}
 use Rattle.round_core.proofs.Counts.{picks_are, picks_alike}
 use Rattle.round_core.specs.BookValue.{opened, is_leaving, is_offer, BookValue, hearing_of, hearings, named_links, all_named, CanCount, IsBookValue, IsBook}
 
--- all are missing at first
 all_missing : (k : ℕ) → count_by not (replicate k false) ≡ k
 all_missing zero = refl
 all_missing (suc k) = let n = sum_by-cons (λ (x : Bool). cond (not x) 1 0) false (replicate k false) in let m = all_missing k in omega (arith, n, m)
@@ -55,7 +54,6 @@ leaves_if labels c l test = search (arith, cases_eq, eq-eqb, ne_eqb)
 pub offered : (links : List Link) (labels : List ℕ) (o : Offer) → is_offer links labels o ≡ true → IsOffered links labels o.1
 offered links labels o test = search (arith, slice_get_cases, get_or_default, leaves_apart, leaves_if)
 
--- another offer names another link
 pub one_more_named : (links : List Link) (offers : List Offer) (i : ℕ) (o : Offer) (l : Link) → i < length offers → o ≡ get_or offers i o → o.1 < length links → l ≡ get_or links o.1 l
     → named_links links (take (i + 1) offers) ≡ named_links links (take i offers) ++ l ∷ []
 one_more_named links offers i o l lt at within here =
@@ -64,7 +62,6 @@ one_more_named links offers i o l lt at within here =
     let more = flat_map_more (λ (x : Offer). option_to_list (slice_get links x.1)) [] (take i offers) o in
     ap (named_links links) next ∙ sym more ∙ ap (λ x. named_links links (take i offers) ++ option_to_list x) read
 
--- another answer names the links of its offers
 pub one_more_answer : (cut : List (List Link)) (answers : List AnswerValue) (i : ℕ) (a : AnswerValue) → i < length answers → a ≡ get_or answers i a
     → all_named cut (take (i + 1) answers) ≡ all_named cut (take i answers) ++ named_links (links_at cut a.shard) a.offers
 one_more_answer cut answers i a lt at =
@@ -108,7 +105,6 @@ map_from f [] k y lt at = absurd (omega (arith, lt))
 map_from f (x ∷ xs) zero y lt at = (x, contains_head x xs, at)
 map_from f (x ∷ xs) (suc k) y lt at = let (z, z_in, is) = map_from f xs k y (omega (arith, lt)) at in (z, contains_tail x z xs z_in, is)
 
--- the answers name exactly what the hearings do
 pub same_named : (cut : List (List Link)) (answers : List AnswerValue) → SameLinks (Contains (all_named cut answers)) (IsNamed (map (hearing_of cut) answers))
 same_named cut answers l = (to, back)
   where

@@ -21,7 +21,6 @@ use Rattle.round_core.specs.BookValue.{hearings, IsAnswered, IsRight, IsBookValu
 use Rattle.round_core.specs.declared.refusals.Refusal.TheVariants.{Stale, Stranger, Double, NotALink}
 use Rattle.round_core.proofs.Books.{map_contains, map_from}
 
--- an answer that isn't rejected
 pub record IsAccepted (p : BookValue) (s : ℕ) (a : AnswerValue) : Type 0 where
   pub round : a.round ≡ p.round
   pub shard : a.shard ≡ s
@@ -42,7 +41,6 @@ module _ (p : BookValue) (s : ℕ) (a : AnswerValue) (is : IsBookValue p) (lt : 
   in_taken : s < length p.taken
   in_taken = omega (arith, lt, is.each_shard)
 
-  -- one fewer is missing
   fewer : missing (with_answer p a) + 1 ≡ missing p
   fewer = search (arith, sum_by-set, cond, not, in_taken, set)
 
@@ -94,7 +92,6 @@ pub book_heard : (p : BookValue) (looked_up : List ℕ) (room : ℕ) (best : Lis
     → IsBook (with_answer p a) looked_up room best
 book_heard p looked_up room best s a is lt none = search (arith, value_heard, accepted)
 
--- if none is missing, each is taken
 none_missing : (taken : List Bool) → count_by not taken ≡ 0 → (s : ℕ) → s < length taken → get_or taken s true ≡ true
 none_missing [] none s lt = refl
 none_missing (true ∷ taken) none zero lt = refl

@@ -6,7 +6,6 @@ use Rattle.links.specs.Labels.{label_of}
 use Rattle.round_theory.specs.LinkSet.{LinkSet, IsPartOf}
 use Rattle.round_theory.specs.Labelling.{IsWalkOver, JoinsOver}
 
--- vertices of one label are connected
 pub over_same : (labels : List ℕ) (S : LinkSet) (u v : ℕ) → label_of labels u ≡ label_of labels v → JoinsOver labels S u v
 over_same labels S u v same = ([], tt, same)
 
@@ -46,7 +45,6 @@ over_then labels S T part u v w joined rest =
 pub over_more : (labels : List ℕ) (S T : LinkSet) → IsPartOf S T → (u v : ℕ) → JoinsOver labels S u v → JoinsOver labels T u v
 over_more labels S T part u v joined = over_then labels S T part u v v joined (over_same labels T v v refl)
 
--- and the other way around
 pub over_back : (labels : List ℕ) (S : LinkSet) (u v : ℕ) → JoinsOver labels S u v → JoinsOver labels S v u
 over_back labels S =
     over_least labels S (λ u v. JoinsOver labels S v u) (λ u v same. over_same labels S v u (sym same)) (λ u v w first second. over_then labels S S (λ l is_in. is_in) w v u second first)

@@ -57,7 +57,6 @@ module _ (roots old : List ℕ) (c : ℕ) (c_in : Contains roots c) (pointers : 
       at_root : (f : ℕ → ℕ) → ((x : ℕ) → Contains roots x → f x ≡ f (up' x)) → f c ≡ f (up c)
       at_root f along = search (arith, cases_eq, at, off, parent_in)
 
-  -- what was settled stays so
   pub settled_on : (x : ℕ) → IsSettled old x → IsSettled new x
   settled_on x settled = search (arith, cases_eq, set, set-get_or, off, at)
 
@@ -76,13 +75,11 @@ module _ (roots old : List ℕ) (c : ℕ) (c_in : Contains roots c) (pointers : 
     fewer : ¬ (IsSettled old c) → sum_by rank new < sum_by rank old
     fewer moves = search (arith, parent_in, sums)
 
--- some roots have jumped
 pub record HaveJumped (roots old new : List ℕ) : Type 0 where
   pub pointers : ArePointers roots new
   pub parents : (labels : List ℕ) (picks : List (Option Link)) → AreParents labels roots picks old → AreParents labels roots picks new
   pub descend : (rank : ℕ → ℕ) → Descend roots rank old → Descend roots rank new × (sum_by rank new ≤ sum_by rank old)
 
--- and another one
 pub jumped_more : (roots old new : List ℕ) (c : ℕ) → Contains roots c → HaveJumped roots old new → HaveJumped roots old (jumped new c)
 jumped_more roots old new c c_in have = record {
   pointers = jump_points roots new c c_in have.pointers;

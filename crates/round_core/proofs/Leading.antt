@@ -35,7 +35,6 @@ other_end : (labels : List ℕ) (l : Link) (c : ℕ) → Leaves labels l c → (
 other_end labels l c (inl (low, other)) = (label_of labels l.high, inl (low, refl))
 other_end labels l c (inr (other, high)) = (label_of labels l.low, inr (refl, high))
 
--- labels of a link's endpoints are roots
 pub end_root : (labels : List ℕ) → AreLabels labels → (v : ℕ) → IsVertex (length labels) v → IsRoot labels (label_of labels v)
 end_root labels are v vertex = search arith
 
@@ -58,7 +57,6 @@ joins_ends : (labels : List ℕ) (picks : List (Option Link)) (l : Link) (c d : 
 joins_ends labels picks l c d picked c_root d_root (inl (low, high)) = (l ∷ [], (picked, tt), inl (c_root.1 ∙ sym low, high ∙ sym d_root.1))
 joins_ends labels picks l c d picked c_root d_root (inr (low, high)) = (l ∷ [], (picked, tt), inr (c_root.1 ∙ sym high, low ∙ sym d_root.1))
 
--- a link has one other endpoint
 same_other : (labels : List ℕ) (l : Link) (c d e : ℕ) → HasEndLabels labels l c d → HasEndLabels labels l c e → d ≡ e
 same_other labels l c d e (inl (low, high)) (inl (low', high')) = sym high ∙ high'
 same_other labels l c d e (inl (low, high)) (inr (low', high')) = sym high ∙ high' ∙ sym low ∙ low'

@@ -115,7 +115,6 @@ module _ (p q : Progress) (picks : List (Option Link)) (turn : Turn) (count : �
       let rest : kept ≡ filter (λ c. label_of q.labels c == c) roots = kept_is ∙ ap (λ (ls : List ℕ). filter (λ c. label_of ls c == c) roots) new in
       (goes_on p q picks count is (IsNamed heard.0) heard.1 to, subst (AreRoots q.labels) (sym rest) (roots_after p q picks count is (IsNamed heard.0) heard.1 to roots are_roots))
 
--- if there are picks, a link is taken
 pub some_taken : (picks : List (Option Link)) (links : List Link) → ¬ (AreNoPicks picks) → ArePickedOnce picks links → 0 < length links
 some_taken picks (l ∷ links) some once = omega arith
 some_taken picks [] some once = absurd (some none)
@@ -127,7 +126,6 @@ some_taken picks [] some once = absurd (some none)
         at None x_in = refl
         at (Some l) x_in = absurd (contains_none l ((once.exact l).1 x_in))
 
--- a round that isn't past the bound
 pub in_bound : (n m round : ℕ) (r : Bool) → (r ≡ true) ↔ IsPastBound m round → r ≡ false → m ≡ n → 2 ^ round ≤ max 1 n
 in_bound n m round r decides fails same = search (arith, cases_lt, max)
 

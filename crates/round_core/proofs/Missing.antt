@@ -25,7 +25,6 @@ not_apart labels (x ∷ links) l none l_in = search (arith, cond, contains_cases
 apart_is : (labels : List ℕ) (l : Link) → label_of labels l.low ≢ label_of labels l.high → is_apart labels l ≡ true
 apart_is labels l other = ap not (ne_eqb (label_of labels l.low) (label_of labels l.high) other)
 
--- so none leaves a label
 pub none_leave : (labels : List ℕ) (links : List Link) → missed labels links ≡ None → (l : Link) (c : ℕ) → Contains links l → ¬ (Leaves labels l c)
 none_leave labels links none l c l_in leaves =
     let wrong : false ≡ true = sym (not_apart labels links l none l_in) ∙ apart_is labels l (leaves_apart labels l c leaves) in

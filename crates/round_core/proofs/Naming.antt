@@ -36,7 +36,6 @@ vertex_is_contained vertices c own vertex =
     let within : c - 1 < length vertices = omega (arith, vertex.0, vertex.1) in
     (c - 1, within, get_or_default vertices (c - 1) c 0 within ∙ own (c - 1) within ∙ (let e : c - 1 + 1 ≡ c = omega (arith, vertex.0) in e))
 
--- the vertices that label themselves are the roots
 pub own_roots : (vertices labels : List ℕ) → length vertices ≡ length labels → ((k : ℕ) → k < length vertices → get_or vertices k 0 ≡ k + 1)
     → AreRoots labels (filter (λ c. label_of labels c == c) vertices)
 own_roots vertices labels long own = record {
@@ -262,11 +261,10 @@ roots_few labels roots are = elim (cases_lt 0 (length roots)) [
 pub roots_within : (labels roots : List ℕ) (n : ℕ) → n ≡ length labels → AreRoots labels roots → All (IsVertex n) roots
 roots_within labels roots n is are k d lt = subst (λ m. IsVertex m (get_or roots k d)) (sym is) ((are.exact (get_or roots k d)).0 (Contains-get_or roots k d lt)).0
 
--- so they are below any number above the number of vertices
+-- roots are below any number above the number of vertices
 pub roots_below : (labels roots : List ℕ) (n m : ℕ) → n ≡ length labels → n < m → AreRoots labels roots → All (λ c. c < m) roots
 roots_below labels roots n m is above are k d lt = let vertex = roots_within labels roots n is are k d lt in omega (arith, vertex.1, above)
 
--- the names of all roots relabel
 pub relabels : (labels roots names : List ℕ) (picks : List (Option Link)) → AreLabels labels → AreRoots labels roots
     → All (λ c. c < length names) roots → AreNames labels picks names → Relabels labels picks names
 relabels labels roots names picks are are_roots within named = record {

@@ -22,7 +22,6 @@ use Rattle.round_core.specs.PickNumbers.{IsKeyNumber, no_pick}
 use Rattle.round_core.specs.BookValue.{is_leaving, is_offer, named_links, all_named, IsRight, CanCount}
 use Rattle.round_core.specs.OwnPicks.{IsPlaced, IsOfferedBy, IsOfferedIn, AreTakenFrom, IsCountedIn, AreCountedIn, AreLeastNumbers}
 
--- an offer offers the link at its index
 pub offers_at : (links : List Link) (offers : List Offer) (i : ℕ) (l : Link) → i < length offers → (get_or offers i (0, 0)).1 < length links → l ≡ get_or links (get_or offers i (0, 0)).1 l
     → IsOfferedBy links offers (get_or offers i (0, 0)).0 l
 offers_at links offers i l lt within here =
@@ -78,7 +77,6 @@ offered_leaves links labels offers c l all (place, (i, lt, at), some) =
       leaves_if labels c l leaving,
     )
 
--- the same for the answers
 pub offered_leaves_in : (cut : List (List Link)) (labels : List ℕ) (answers : List AnswerValue) (c : ℕ) (l : Link)
     → CanCount cut labels answers → IsOfferedIn cut answers c l → Contains (all_named cut answers) l × Leaves labels l c
 offered_leaves_in cut labels answers c l can (i, a, lt, at, offered) =
@@ -165,7 +163,6 @@ all_answers_counted cut labels numbers answers false now xs are (k, x, lt, at, n
       not.1 (λ l l_in. counted l ((flat_map_contains named answers l).1 (any_from (λ a. Contains (named a) l) answers (now x) here l_in))),
 )
 
--- answers that can be counted name indices
 pub placed_of : (cut : List (List Link)) (labels : List ℕ) (answers : List AnswerValue) → CanCount cut labels answers → All (IsPlaced cut) answers
 placed_of cut labels answers can i a lt =
     let b : AnswerValue = get_or answers i a in

@@ -31,7 +31,6 @@ counted_weight : (w : ℤ) → FitsSigned w64 w → (above : ℕ) × (pos above 
 counted_weight (pos n) fits = (n + 2 ^ 63, omega (arith, ints))
 counted_weight (negsuc n) fits = (2 ^ 63 - 1 - n, omega (arith, ints, fits.sfits))
 
--- the fields in the number of a link
 has_fields : (l : Link) (k : ℕ) → IsKeyNumber l k → (pos (k / 2 ^ 64) ≡ l.weight +ℤ pos (2 ^ 63)) × (k / 2 ^ 32 % 2 ^ 32 ≡ l.low) × (k % 2 ^ 32 ≡ l.high)
 has_fields l k is = search (arith, counted_weight, ints)
 
@@ -67,7 +66,6 @@ has_number l = search (arith, to_number, negsuc, ints)
 pub key_below_no_pick : (l : Link) (k : ℕ) → IsKeyNumber l k → k < no_pick
 key_below_no_pick l k is = omega (arith, ints, is, l.ascending, l.in_limit, l.weight_fits)
 
--- the lesser of two links has the lesser number
 pub below_is_less : (l m : Link) (j k : ℕ) → IsKeyNumber l j → IsKeyNumber m k → IsBelow l m → j < k
 below_is_less l m j k l_is m_is below = let less = wide_below l m below in omega (arith, ints, less, l_is, m_is)
 

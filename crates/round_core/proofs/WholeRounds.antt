@@ -65,7 +65,6 @@ module _ (links : List Link) (p : Progress) (picks : List (Option Link)) (is : I
     earlier = so_far.earlier;
   }
 
-  -- a round that took links
   pub one_round : (new : Progress) (count : ℕ) → IsMerged picks count p new → IsOneRoundMore links p new
   one_round new count merged = record {
     same_vertices = merged.labelling.each_vertex;
@@ -119,7 +118,6 @@ module _ (links : List Link) (p : Progress) (picks : List (Option Link)) (is : I
           none_at : (i : ℕ) (d : Option Link) → i < length picks → get_or picks i d ≡ None
           none_at i d lt = none (get_or picks i d) (i, lt, get_or_default picks i (get_or picks i d) d lt)
 
--- before the first round
 pub at_first : (links : List Link) (n : ℕ) (p : Progress) → IsAtStart n p → HasRoundsOf links p
 at_first links n p start = search (arith, nothing_taken)
 

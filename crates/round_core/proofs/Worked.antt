@@ -25,7 +25,6 @@ use Rattle.round_theory.proofs.Labels.{labelling_is_labels}
 use Rattle.round_theory.proofs.OfferSteps.{left_label_is_vertex}
 use Rattle.round_theory.proofs.Lists.{set_ends}
 
--- a test for a link that leaves a label
 leaves_test : List ℕ → Link → ℕ → Bool
 leaves_test labels l c = cond (label_of labels l.low == c) (not (label_of labels l.high == c)) (label_of labels l.high == c)
 

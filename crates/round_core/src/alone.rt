@@ -61,7 +61,6 @@ fn go_round<A: Allocator + Copy>(
     solver.step(&picks)
 }
 
-// The picks among all of the links.
 fn picks_of_links<A: Allocator + Copy>(
     alloc: A,
     labels: &Labels<A>,

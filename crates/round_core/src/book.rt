@@ -246,7 +246,6 @@ fn are_offers(links: &[Link], labels: &EndLabels, pairs: &[(u32, u32)]) -> bool
     true
 }
 
-// Whether the pair has the index of a link with exactly one endpoint under the label.
 #[inline]
 fn is_offered(links: &[Link], labels: &EndLabels, pair: (u32, u32)) -> bool
     requires labels { AreLabels labels.now }
@@ -257,7 +256,6 @@ fn is_offered(links: &[Link], labels: &EndLabels, pair: (u32, u32)) -> bool
     place < links.len() && leaves(labels, links[place], pair.0)
 }
 
-// Whether exactly one endpoint of the link has the label.
 #[inline]
 fn leaves(labels: &EndLabels, link: Link, label: u32) -> bool
     requires ends { link.high ≤ length labels.now }

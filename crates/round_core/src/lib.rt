@@ -1,4 +1,4 @@
-//! The coordinator's side of a run. A book checks what workers answer in a round, and makes picks of it; a solver
+//! The coordinator's side of a run. A book checks what workers answer in a round, and makes picks from it; a solver
 //! merges components by these picks. [`solve_alone`] does all of it in one thread, over the whole cut.
 //!
 //! ```text

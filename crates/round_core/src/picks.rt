@@ -139,7 +139,6 @@ impl<A: Allocator> Picks<A> {
     }
 }
 
-// Extends a list of numbers of no pick to this length.
 fn fill_up<A: Allocator>(numbers: &mut Vec<u128, A>, count: usize) -> Result<(), AllocError>
     requires { All (λ k. k ≡ NO_PICK) numbers.old.items }
     ensures none { OnOk result (All (λ k. k ≡ NO_PICK) numbers.new.items) }
@@ -171,7 +170,6 @@ pub(crate) fn key_number(link: Link) -> u128
     wide(&link).abs_diff(i128::MIN)
 }
 
-// The pick with this number.
 #[inline]
 fn pick_of_number(number: u128) -> Option<Link>
     requires { IsPickNumber number }

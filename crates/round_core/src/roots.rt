@@ -103,7 +103,6 @@ impl<A: Allocator> Roots<A> {
         picks.clear_each(&self.roots);
     }
 
-    // Retains the roots that label themselves under these labels too.
     pub(crate) fn keep(&mut self, labels: &[u32])
         requires { All (IsVertex (length labels.now)) self.old }
         ensures { self.new ≡ filter (λ c. label_of labels.now c == c) self.old }

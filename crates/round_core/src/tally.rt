@@ -132,7 +132,6 @@ pub(crate) fn count_answers<A: Allocator>(
     }
 }
 
-// Counts each offered link of a shard for both of its components.
 fn count_all(labels: &EndLabels, links: &[Link], pairs: &[(u32, u32)], numbers: &mut [u128])
     requires can { CanCountOffers links.now labels.now pairs.now }
     requires each_vertex { length numbers.old ≡ length labels.now }

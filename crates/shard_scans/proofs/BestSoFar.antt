@@ -10,7 +10,6 @@ use Rattle.links.proofs.Keys.{key_cmp_total, trichotomy, below_irrefl, below_asy
 use Rattle.round_theory.specs.Offers.{Leaves, IsLightOffer}
 use Rattle.shard_scans.specs.Scanning.{ComesFirst, IsBestPlace, NoneLeavesIn, IsBest}
 
--- two reads at one index of a list
 pub one_read : (links : List Link) (i : ℕ) (l m : Link) → i < length links → l ≡ get_or links i l → m ≡ get_or links i m → l ≡ m
 one_read links i l m within l_read m_read = l_read ∙ get_or_default links i l m within ∙ sym m_read
 
@@ -38,7 +37,6 @@ first_then_first a1 a2 a3 a4 a5 a6 a7 a8 = search (arith, below_trans)
 pub first_from_le : (l x : Link) (p i : ℕ) → ¬ (IsBelow x l) → p ≤ i → ComesFirst l p x i
 first_from_le l x p i not_below le = search (arith, trichotomy)
 
--- the link at one index, alone
 pub best_alone : (links : List Link) (labels : List ℕ) (c i : ℕ) (x : Link) → i < length links → x ≡ get_or links i x → Leaves labels x c → IsBestPlace links labels i (i + 1) c i
 best_alone links labels c i x within read leaves = record {
   link = x;
@@ -142,6 +140,5 @@ best_is_light links labels c p is = (
   },
 )
 
--- there is none if no link leaves the label
 pub none_leaves : (links : List Link) (labels : List ℕ) (c : ℕ) → NoneLeavesIn links labels 0 (length links) c → (l : Link) → Contains links l → ¬ (Leaves labels l c)
 none_leaves links labels c none l (q, within, read) leaves = none q l (omega arith) within within (sym read) leaves

@@ -92,7 +92,6 @@ module _ (links : List Link) (labels marks names : List ℕ) (ends : EndsUpTo (l
         leaves_back marks labels names at.link (end_at (length labels) links place at.link ends at.in_list at.here) (has place at.link at.in_list at.here) p at.leaves in
         (c, c_is, named, number, best_from_own c place c_is (subst (λ k. IsBestPlace links own 0 (length links) k place) (sym number) at))
 
-    -- the labels that a link leaves have numbers
     left_has_number : (l : Link) (place c : ℕ) → place < length links → l ≡ get_or links place l → Leaves labels l c → IsMarked marks c × HasItsName marks names c
     left_has_number l place c in_list read leaves = search (arith, leaves_apart, leaves_end)
 

@@ -14,11 +14,9 @@ quiet_coarser labels finer l coarsens quiet = search arith
 pub one_label_coarser : (labels finer : List ℕ) (u v : ℕ) → Coarsens labels finer → HaveOneLabel finer u v → HaveOneLabel labels u v
 one_label_coarser labels finer u v coarsens (at_u, at_v, same) = search arith
 
--- so parallel links stay parallel
 parallel_coarser : (labels finer : List ℕ) (l m : Link) → Coarsens labels finer → AreParallel finer l m → AreParallel labels l m
 parallel_coarser a1 a2 a3 a4 a5 a6 = search (arith, one_label_coarser)
 
--- and links that needn't be listed still needn't
 aside_coarser : (links : List Link) (labels finer : List ℕ) (from to : ℕ) → Coarsens labels finer → AreAside links finer from to → AreAside links labels from to
 aside_coarser links labels finer from to coarsens aside q l from_start before_end read = elim (aside q l from_start before_end read) [
   | inl quiet ↦ inl (quiet_coarser labels finer l coarsens quiet)
@@ -65,7 +63,6 @@ module _ (links : List Link) (labels : List ℕ) where
       let next : suc k ≡ k + 1 = omega arith in
       subst (λ j. (get_or places k d + 1 ≤ get_or places j to) × AreAside links labels (get_or places k d + 1) (get_or places j to)) next (live_behind from to places k d live lt)
 
-  -- each index is in the range
   pub live_within : (from to : ℕ) (places : List ℕ) (k d : ℕ) → AreLive links labels from to places → k < length places → (from ≤ get_or places k d) × (get_or places k d < to)
   live_within from to [] k d live lt = absurd (omega (arith, lt))
   live_within from to (p ∷ places) zero d (le, quiet, rest) lt = (le, omega (arith, live_range (p + 1) to places rest))
@@ -80,7 +77,6 @@ module _ (links : List Link) (labels : List ℕ) where
   pub front_is_quiet : (to : ℕ) → AreAside links labels 0 to → (q : ℕ) (l : Link) → q < to → l ≡ get_or links q l → IsInside labels l
   front_is_quiet to aside q l before_end read = search arith
 
-  -- another link needn't be listed
   aside_more : (from at : ℕ) → AreAside links labels from at → ((l : Link) → l ≡ get_or links at l → IsAside links labels from at l) → AreAside links labels from (at + 1)
   aside_more from at aside here q l from_start before_end read = search (arith, cases_lt)
 
@@ -99,7 +95,6 @@ module _ (links : List Link) (labels : List ℕ) where
   live_outdone from at p (x ∷ y ∷ places) zero live size last by = absurd (omega (arith, size))
   live_outdone from at p (x ∷ y ∷ places) (suc k) (le, aside, rest) size last by = (le, aside, live_outdone (x + 1) at p (y ∷ places) k rest (omega (arith, size)) last by)
 
-  -- another index
   pub live_push : (from at : ℕ) (places : List ℕ) → AreLive links labels from at places → AreLive links labels from (at + 1) (places ++ at ∷ [])
   live_push from at [] (le, quiet) = (le, quiet, (omega arith, λ q l from_start before_end read. absurd (omega (arith, from_start, before_end))))
   live_push from at (p ∷ places) (le, quiet, rest) = (le, quiet, live_push (p + 1) at places rest)

@@ -55,7 +55,6 @@ module _ (links : List Link) (labels : List ℕ) (from at to : ℕ) where
     pub merged_skip : next.place ≡ no_best.place → AreMerged links labels from at to (i + 1) table
     merged_skip none = search (arith, cases_eq, keeps_out, kept_none, next_keeps, vertex)
 
-    -- the lesser one is stored
     pub merged_next : from ≤ at → (after : Best) → KeepsLesser links next (get_or table i d) after → next.place ≢ no_best.place → AreMerged links labels from at to (i + 1) (set table i after)
     merged_next from_le after lesser some = record {
       each_vertex = length-set table i after ∙ are.each_vertex;

@@ -85,7 +85,6 @@ module _ (links : List Link) (labels : List ℕ) (words : List MarkWord) (names 
 
   -- over a table of empty entries
   module _ (table : List Best) (none : table ≡ replicate (length names) no_best) where
-    -- each can be taken
     pub next_can_be_taken_in : (k : ℕ) (d : LiveLink) → k < length live → CanBeTakenIn links (length table) (get_or live k d)
     next_can_be_taken_in k d lt =
         let in_labels : k < length by_labels = omega (arith, lt, by_numbers_long marks names within by_labels live listed.by_numbers) in

@@ -22,12 +22,10 @@ one_one : count_ones 1 ≡ 1
 unfolding lib.Count.ones
 one_one = refl
 
--- one more bit of a word
 ones_next : (w k : ℕ) → count_ones (w % 2 ^ (1 + k)) ≡ bit_at w k + count_ones (w % 2 ^ k)
 ones_next w k = search (arith, count_ones, ones_cat, mod_below, pow_pos, cases_eq, no_ones, one_one, mod-pow-add)
 
 module _ (marks : List ℕ) where
-  -- more labels have at least as many marks
   marked_more : (a k : ℕ) → marked_to marks a ≤ marked_to marks (k + a)
   marked_more a zero = let same : zero + a ≡ a = omega arith in subst (λ n. marked_to marks a ≤ marked_to marks n) (sym same) (omega arith)
   marked_more a (suc k) =
@@ -79,7 +77,6 @@ module _ (marks : List ℕ) where
   pub ascends_back : (c d : ℕ) → IsMarked marks c → IsMarked marks d → number_of marks c < number_of marks d → c < d
   ascends_back c d c_is d_is lt = search (arith, cases_lt, cases_eq, numbers_ascend)
 
--- a word after a bit is set
 abbrev pub with_bit : ℕ → ℕ → ℕ
 with_bit word at = bit_or word (1 * 2 ^ at % 18446744073709551616)
 
@@ -109,7 +106,6 @@ module _ (marks : List ℕ) (label : ℕ) (from_one : 1 ≤ label) (within : (la
     bit = ap (λ w. bit_at w bit) here ∙ bit_at_set_same w64 (get_or marks at 0) bit (small (label - 1));
   }
 
-  -- the bits of other labels stay
   other_bit : (c : ℕ) → 1 ≤ c → c ≢ label → bit_at (get_or new ((c - 1) / 64) 0) ((c - 1) % 64) ≡ bit_at (get_or marks ((c - 1) / 64) 0) ((c - 1) % 64)
   other_bit c c_from_one other = elim (cases_eq ((c - 1) / 64) at) [
     | inl one ↦
@@ -125,7 +121,6 @@ module _ (marks : List ℕ) (label : ℕ) (from_one : 1 ≤ label) (within : (la
 abbrev marks_in : MarkWord → ℕ
 marks_in w = w.marks
 
--- a bit of a word is set
 marks_set : (words : List MarkWord) (i bit : ℕ) (w new : MarkWord) → i < length words → w ≡ get_or words i w → new.marks ≡ with_bit w.marks bit
     → marks_of (set words i new) ≡ set (marks_of words) i (with_bit (get_or (marks_of words) i 0) bit)
 marks_set words i bit w new within read new_is = search (arith, map-set, set, get_or-map)
@@ -141,7 +136,6 @@ module _ (words : List MarkWord) (label : ℕ) (from_one : 1 ≤ label) (within 
       subst (λ m. IsMarked m d ↔ ((d ≡ label) ⊎ IsMarked (marks_of words) d)) (sym (marks_set words ((label - 1) / 64) ((label - 1) % 64) w new within read new_is))
       (mark_more (marks_of words) label from_one in_marks d)
 
--- the number of a label from its word
 pub number_is : (inside words : List MarkWord) (c : ℕ) (w : MarkWord) → inside ≡ words → AreCounted words → (c - 1) / 64 < length words → w ≡ get_or inside ((c - 1) / 64) w
     → (w.before + count_ones (w.marks % (1 * 2 ^ ((c - 1) % 64) % 18446744073709551616)) + 1 ≡ number_of (marks_of words) c) × (number_of (marks_of words) c ≤ 2 ^ 28 + 65)
 number_is inside words c w same counted within inside_read =

@@ -9,7 +9,6 @@ use Rattle.shard_scans.specs.Scanning.{ComesFirst, IsBest, AreBestUpTo}
 use Rattle.shard_scans.specs.Live.{AreParallel, AreAside}
 use Rattle.shard_scans.proofs.BestSoFar.{first_then_first, best_longer}
 
--- parallel links leave the same labels
 parallel_leaves : (labels : List ℕ) (l m : Link) (c : ℕ) → AreParallel labels l m → Leaves labels m c → Leaves labels l c
 parallel_leaves a1 a2 a3 a4 a5 a6 = search arith
 

@@ -47,14 +47,13 @@ module _ (links : List Link) (labels : List ℕ) where
         | inr (test, apart) ↦ subst (λ t. AreLive links labels from to (places_of t)) (sym (packed_apart labels e live apart)) (le, aside, later)
       ]
 
-  -- those that stay are the live links
   pub packed_live : (live : List LiveLink) → AreLabels labels → AreLiveLinks links labels live → AreLiveLinks links labels (packed labels live)
   packed_live live labelled are = record {
     places = packed_places 0 (length links) live are.written are.places;
     written = packed_all labels Written live (λ k d lt l read. relabelled_written labels labelled l (get_or live k d) (are.written k d lt l read));
   }
 
-  -- and their labels label themselves
+  -- the labels of the links that stay label themselves
   pub packed_own : (live : List LiveLink) → AreLabels labels → AreLiveLinks links labels live → All (λ e. relabelled labels e ≡ e) (packed labels live)
   packed_own live labelled are = packed_all labels (λ e. relabelled labels e ≡ e) live (λ k d lt.
       let at = live_ends links labels live are k d lt in

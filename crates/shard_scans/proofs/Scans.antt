@@ -95,7 +95,7 @@ pub bests_stay : (count : ℕ) (links : List Link) (labels : List ℕ) (from at 
 bests_stay count links labels from at to table le same are = search (arith, keeps_out, leaves_apart)
 
 module _ (count : ℕ) (links : List Link) (labels : List ℕ) (from i : ℕ) (within : i < length links) where
-  -- another one leaves the labels of its two endpoints, and no others
+  -- another link leaves the labels of its two endpoints, and no others
   pub bests_change : (table : List Best) (l : Link) (low high : ℕ) (at_low at_high : Best) → l ≡ get_or links i l
       → low ≡ label_of labels l.low → high ≡ label_of labels l.high → low ≢ high → IsVertex count low → IsVertex count high
       → Keeps links labels from (i + 1) low at_low → Keeps links labels from (i + 1) high at_high
@@ -136,7 +136,6 @@ module _ (count : ℕ) (links : List Link) (labels : List ℕ) (from i : ℕ) (w
 pub end_at : (n : ℕ) (links : List Link) (i : ℕ) (l : Link) → EndsUpTo n links → i < length links → l ≡ get_or links i l → l.high ≤ n
 end_at n links i l ends within read = subst (λ (k : Link). k.high ≤ n) (sym read) (ends i l within)
 
--- the entry of a label, read with any default
 pub kept_at : (count : ℕ) (links : List Link) (labels : List ℕ) (from to : ℕ) (table : List Best) (c k : ℕ) (d : Best)
     → AreBestUpTo count links labels from to table → IsVertex count c → k ≡ c - 1 → Keeps links labels from to c (get_or table k d)
 kept_at count links labels from to table c k d are vertex at = search (arith, get_or_default)

@@ -49,12 +49,10 @@ module _ (labels : List ℕ) (are : AreLabels labels) where
 places_count : (live : List LiveLink) → length (places_of live) ≡ length live
 places_count live = length-map live (λ (l : LiveLink). l.place)
 
--- the link at an index of the list
 pub link_at : (links : List Link) (p : ℕ) → p < length links → (l : Link) × (l ≡ get_or links p l)
 link_at [] p within = absurd (omega (arith, within))
 link_at (x ∷ links) p within = (get_or (x ∷ links) p x, get_or_default (x ∷ links) p x (get_or (x ∷ links) p x) within)
 
--- it can be taken by its labels
 pub link_can_be_taken_in : (links : List Link) (labels : List ℕ) (n place : ℕ) (l : Link) → n ≡ length labels → AreLabels labels → EndsUpTo (length labels) links → place < length links
     → l ≡ get_or links place l → CanBeTakenIn links n (written_at labels l place)
 link_can_be_taken_in links labels n place l size labelled ends within read = search (arith, end_at, label_vertex)
@@ -108,7 +106,6 @@ module _ (links : List Link) (labels : List ℕ) where
             bests_over links labels from (get_or (places_of old) i 0 + 1) (get_or (places_of old) (i + 1) (length links)) seen le' aside count table'
             (subst (λ k. AreBestUpTo count links labels from (k + 1) table') (at ∙ sym place_is) taken)
 
-  -- what is written of their endpoints are vertices
   pub live_ends : (live : List LiveLink) → AreLiveLinks links labels live → All (λ l. IsVertex (length labels) l.low × IsVertex (length labels) l.high) live
   live_ends live are = λ i d within. (low_is_vertex live are i within d, high_is_vertex live are i within d)
 

@@ -37,7 +37,6 @@ pub(crate) fn offers_of_listed<A: Allocator + Copy>(
     Ok(Offers::of_known(pairs))
 }
 
-// Replaces each number by its name.
 fn name_each(pairs: &mut [(u32, u32)], names: &[u32])
     requires { (k : ℕ) (d : Offer) → k < length pairs.old → IsVertex (length names.now) (slice_index_or pairs.old k d).0 }
     ensures { pairs.new ≡ map (offered names.now) pairs.old }

@@ -148,7 +148,6 @@ impl<A: Allocator> KeptShard<A> {
     }
 }
 
-// The greatest endpoint of a link, or 0 if there are no links.
 fn greatest_end(links: &[Link]) -> u32
     ensures { IsGreatestEnd links.now result }
 {

@@ -110,8 +110,8 @@ fn are_parallel(labels: &[u32], earlier: Link, link: Link) -> bool
     low == other_high && high == other_low
 }
 
-// Whether to list the link at `place`: its endpoints have different labels, and the last listed link isn't parallel to
-// it and no greater.
+// Whether to list the link at `place`. It isn't listed if its endpoints have one label, or if the last listed link is
+// parallel to it and no greater.
 #[inline]
 pub(crate) fn is_live(links: &[Link], labels: &[u32], live: &[LiveLink], place: usize) -> bool
     requires ends { EndsUpTo (length labels.now) links.now }

@@ -130,7 +130,6 @@ impl<A: Allocator + Copy> Numbers<A> {
     }
 }
 
-// Marks the labels of all live links.
 pub(crate) fn mark_each<A: Allocator + Copy>(live: &[LiveLink], numbers: &mut Numbers<A>)
     requires ends { All (λ e. IsVertex (64 * length numbers.old) e.low × IsVertex (64 * length numbers.old) e.high) live.now }
     ensures words { length numbers.new ≡ length numbers.old }

@@ -37,7 +37,7 @@ pub(crate) const NO_PLACE: u32 = u32::MAX;
 /// It lists the links that leave a label, and numbers the labels that they leave. With m such links and n vertices, it
 /// takes O(m + n) time. It takes 12 bytes per link of the shard, 12 per numbered label, and a quarter of a byte per
 /// vertex. An offer takes 8 bytes in a list that doubles as it grows, and up to 24 while the list moves. To reuse what
-/// grows with the number of labels, call a [`Scanner`]. It fails only if it is out of memory.
+/// grows with the number of labels, use a [`Scanner`]. It fails only if it is out of memory.
 pub fn scan<A: Allocator + Copy, B: Allocator>(
     alloc: A,
     links: &[Link],

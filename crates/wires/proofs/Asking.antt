@@ -51,7 +51,6 @@ of_cut_put : (sent : Bool) (cut : List (List Link)) (round shard : ℕ) (labels 
     → All (IsOfCut cut) (shard_due sent shard (links_at cut shard) ++ AskFrame round shard labels ∷ [])
 of_cut_put a1 a2 a3 a4 a5 a6 = search (arith, of_cut_ask)
 
--- the one ask that an ask puts
 among_put : (sent : Bool) (shard : ℕ) (links : List Link) (round : ℕ) (labels : List ℕ) → asks_among (shard_due sent shard links ++ AskFrame round shard labels ∷ []) ≡ AskFrame round shard labels ∷ []
 among_put a1 a2 a3 a4 a5 = search arith
 
@@ -271,7 +270,6 @@ module _ {L : Type 0} (state : L → LineState) (round shard : ℕ) (labels : Li
             (subst (AreReplies empty_shelf (heard_by served serves.frames)) replies serves.answered);
       }
 
-  -- the first bytes that came begin with the hello
   first_of : (bytes : List ℕ) → before.version ≡ None → Receives bytes before.line after.line
       → (version : ℕ) × (rest : List ℕ) × (replies : List FrameValue) × (bytes ++ rest ≡ texts_of (HelloFrame version before.worker ∷ replies)) × AreLawful (HelloFrame version before.worker ∷ replies)
   first_of bytes quiet came =
@@ -317,7 +315,6 @@ module _ {L : Type 0} (state : L → LineState) (round shard : ℕ) (labels : Li
     code_of : (r s r' s' c c' : ℕ) → FaultFrame r s c ≡ FaultFrame r' s' c' → c ≡ c'
     code_of r s r' s' c c' same = cc
 
-    -- nobody is to blame for the error
     pub blameless : (fault : PortFault) → EndsUpTo (length labels) (links_at before.cut shard) → Cause state fault round shard labels old new → IsBlameless fault
     blameless Down ends cause = tt
     blameless Memory ends cause = tt

@@ -7,7 +7,6 @@ use Rattle.round_theory.specs.declared.fault.PortFault.TheVariants.{Down}
 use Rattle.wires.specs.Lines.{LineState, HasRoom, Transfers}
 use Rattle.wires.specs.Causes.{LineFailed, Transmits, Receives, SendingFault}
 
--- calls, and then more calls
 pub went_then : (f e f' e' : ℕ) (said came said' came' : List ℕ) (a b c : LineState)
     → Transfers f e said came a b → Transfers f' e' said' came' b c → Transfers (f + f') (e + e') (said ++ said') (came ++ came') a c
 went_then f e f' e' said came said' came' a b c first second = record {
@@ -26,7 +25,6 @@ then_came a b c said came bytes first second =
 pub room_kept : (a b : LineState) (said came : List ℕ) → HasRoom a → Transfers 0 0 said came a b → HasRoom b
 room_kept a b said came room went = record { failures = omega (arith, room.failures, went.failures); ends = omega (arith, room.ends, went.ends) }
 
--- one failed call, whatever came before it
 pub failed_of : (a b : LineState) (said came : List ℕ) → Transfers 1 0 said came a b → LineFailed a b
 failed_of a b said came went = record { sent = λ no_failure. cc; got = λ no_failure. cc; failures = went.failures; ends = went.ends }
 

@@ -13,13 +13,11 @@ use Rattle.wires.specs.Causes.{Transmits}
 use Rattle.wires.specs.Sending.{AwaitsLinks, PutsSome}
 use Rattle.wires.proofs.Going.{went_then}
 
--- links that fit, in two parts
 pub parts_fit : (s : Spelling) (links front back : List Link) (n : ℕ) → front ≡ take n links → back ≡ drop n links → FitIn s links → FitIn s front × FitIn s back
 parts_fit s links front back n first second fit =
     let whole : links ≡ front ++ back = sym (take-append-drop n links) ∙ ap (λ (t : List Link). t ++ drop n links) (sym first) ∙ ap (λ (t : List Link). front ++ t) (sym second) in
     fit_parts s front back (subst (FitIn s) whole fit)
 
--- the emptied text awaits the links that are left
 pub awaits_rest : {A : Type 0} (s : Spelling) (links rest : List Link) (before after : Vec ℕ A) → AwaitsLinks s links before → FitIn s rest → length rest ≤ length links
     → vec_len after ≡ 0 → vec_capacity before ≤ vec_capacity after → AwaitsLinks s rest after
 awaits_rest s links rest before after awaits fit fewer emptied kept = search (arith)

@@ -21,7 +21,6 @@ use Rattle.wires.specs.Clients.{ClientState, seen_client, shard_due, frames_put,
 use Rattle.wires.specs.Wires.{WireState, last_ask, IsQuiet, IsCountedWire, IsFaultless, IsTrueSoFar, WireCause}
 use Rattle.wires.proofs.Asking.{all_brought, step_more, honest_answer, blameless}
 
--- the last ask of frames that end with one
 last_put : (last : ℕ × ℕ) (said : List FrameValue) (round shard : ℕ) (labels : List ℕ) → last_ask last (said ++ AskFrame round shard labels ∷ []) ≡ (round, shard)
 last_put last [] round shard labels = refl
 last_put last (AskFrame r s ls ∷ said) round shard labels = last_put (r, s) said round shard labels
@@ -54,16 +53,14 @@ module _ {L : Type 0} (state : L → LineState) (round shard : ℕ) (labels : Li
   wanting_counted : IsWanting state round shard labels before after → Counted 0 0 (state before.line) (state after.line)
   wanting_counted a1 = search (arith, brought_counted)
 
-  -- each cause of an error has its counts
   pub cause_counted : (fault : PortFault) → Cause state fault round shard labels before after → CountedFault fault (state before.line) (state after.line)
   cause_counted a1 a2 = search (arith, ended_counted, brought_counted, wanting_counted)
 
 module _ {L : Type 0} (state : L → LineState) (old new : WireState L) (start : LineState) (live : old.is_open ≡ true) where
-  -- an open wire has counted nothing
   quiet_open : IsCountedWire state old start → IsQuiet state old start
   quiet_open counted = search arith
 
-  -- an ask over it that was answered, and one that wasn't
+  -- an ask over an open wire that was answered, and one that wasn't
   pub quiet_more : Counted 0 0 (state old.client.line) (state new.client.line) → new.failures ≡ old.failures → new.wants ≡ old.wants → IsCountedWire state old start → IsCountedWire state new start
   quiet_more more failures wants counted = search (arith, quiet_open, quiet_first)
 
@@ -73,11 +70,9 @@ module _ {L : Type 0} (state : L → LineState) (old new : WireState L) (start :
   faulted_more fault more closed failures wants counted = search (arith, quiet_open, quiet_first)
 
 module _ {L : Type 0} (state : L → LineState) where
-  -- a wire that was never asked
   pub new_quiet : (wire : WireState L) → wire.failures ≡ 0 → wire.wants ≡ 0 → IsCountedWire state wire (state wire.client.line)
   new_quiet wire failures wants = inl (record { counted = (omega arith, omega arith); failures = failures; wants = wants })
 
-  -- a wire that is shut keeps its counts
   pub counted_shut : (wire : WireState L) (start : LineState) → IsCountedWire state wire start → IsCountedWire state (record wire { is_open = false }) start
   counted_shut wire start counted = search arith
 
@@ -88,7 +83,6 @@ module _ {L : Type 0} (state : L → LineState) where
       → wire.asks ≡ 0 → wire.failures ≡ 0 → wire.wants ≡ 0 → wire.last ≡ (0, 0) → IsFaultless state ends wire [] []
   fresh_faultless wire ends fresh known ends_are quiet none asks failures wants last = search (arith)
 
-  -- an open wire is faultless
   pub faultless_open : (kind : PortFault → Type 0) (wire : WireState L) (ends : ℕ) (exchanges : List Exchange) → wire.is_open ≡ true → IsTrueSoFar state kind wire ends exchanges
       → (said : List FrameValue) × IsFaultless state ends wire said exchanges
   faultless_open kind wire ends exchanges live went = search arith

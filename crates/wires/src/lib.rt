@@ -17,8 +17,8 @@
 //! - Over a fresh line with known bytes that is faithful for its worker, a wire is honest: each answer is light for its
 //!   ask. The only errors are the line's own, a lack of memory, and a worker too old for wide weights.
 //! - Over any line, an error has its cause: the bytes that came, what the line counted, or a lack of memory.
-//! - Take an open wire over a line that was fresh, with known bytes. It sent each shard once, before its first ask, and
-//!   the asks; it got the hello and the answers; and nothing else.
+//! - An open wire over a line that was fresh, with known bytes, sent each shard once, before its first ask, and the
+//!   asks. It got the hello and the answers. Nothing else was sent or got.
 //!
 //! Where to make a change:
 //! - `line` and `specs/Lines` say what is known of a line.

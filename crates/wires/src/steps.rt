@@ -120,7 +120,6 @@ fn begin_shard<A: Allocator>(
     text.extend_from_slice(&shard_head(part, spelling))
 }
 
-// Sends the text, and the links after it.
 fn send_links<L: Line, A: Allocator>(
     line: &mut L,
     text: &mut Vec<u8, A>,
@@ -232,7 +231,6 @@ fn send<L: Line>(line: &mut L, bytes: &[u8]) -> Result<(), PortFault>
     }
 }
 
-// Sends a text in two parts, by a put for each.
 fn send_both<L: Line>(line: &mut L, front: &[u8], rest: &[u8]) -> Result<(), PortFault>
     requires { HasRoom (L.state line.old) }
     ensures step { SendsText L.Line (front.now ++ rest.now) result line.old line.new }

@@ -19,7 +19,6 @@ use Rattle.worker_engine.specs.Shelves.{shelf_list, AreAllLive, AreAllUnder, Rep
 abbrev links_of : KeptShardState → List Link
 links_of kept = kept.links
 
--- what is stored under a number
 shelf_at : (shards : List (ℕ × KeptShardState)) (s : ℕ) → shelf_of (shelf_list shards) s ≡ option_map links_of (lookup (is_at (nat_cmp s)) shards)
 shelf_at shards s = lookup-map_values links_of (is_at (nat_cmp s)) shards
 
@@ -63,7 +62,6 @@ at_key n q = search (arith, cases_eq, eq-eqb, cases_lt, ne_eqb)
 
 module _ (old new : List (ℕ × KeptShardState)) (number : ℕ) (kept : KeptShardState)
     (inserted : (q : ℕ) → lookup (is_at (nat_cmp q)) new ≡ cond (is_at (nat_cmp number) q) (Some kept) (lookup (is_at (nat_cmp q)) old)) where
-  -- a shard is stored and replaces an earlier one
   pub shelf_inserted : shelf_of (shelf_list new) ≡ shelf_with (shelf_of (shelf_list old)) (ShardFrame number kept.links)
   shelf_inserted = λ i s. at s i
     where
@@ -75,7 +73,6 @@ module _ (old new : List (ℕ × KeptShardState)) (number : ℕ) (kept : KeptSha
       at s = shelf_at new s ∙ ap (λ o. option_map links_of o) (inserted s) ∙ go s (is_at (nat_cmp number) s)
           ∙ ap (λ (b : Bool). cond b (Some kept.links) (shelf_of (shelf_list old) s)) (at_key number s)
 
-  -- a shard all of whose links are live
   pub under_inserted : (labels : List ℕ) → IsAllLive kept → AreAllUnder labels old → AreAllUnder labels new
   under_inserted labels live all s = search (arith, nat_cmp, cond)
 

@@ -70,7 +70,6 @@ answered_more frames before now shelf v answered shelf_is may = replies_more fra
 -- ---- from frame to frame
 
 module _ (worker : ℕ) (source source' source'' : SourceState) (sink sink' sink'' : SinkState) where
-  -- the source ended
   pub ends_well : (shelf : Shelf) (served : Served) → SoFar worker shelf served source source' sink sink' → IsReadRefused Ended source' source'' → ServesToEnd worker served source source'' sink sink'
   ends_well shelf served so_far refused = record {
     heard = heard_of worker so_far.frames so_far.replies so_far.lawful so_far.answered;
@@ -80,7 +79,6 @@ module _ (worker : ℕ) (source source' source'' : SourceState) (sink sink' sink
     took = so_far.took;
   }
 
-  -- no frame could be read
   pub ends_at_read : (shelf : Shelf) (served : Served) (fault : FrameFault) → fault ≢ Ended → SoFar worker shelf served source source' sink sink' → IsReadRefused fault source' source''
       → EndsAtRead worker fault source source'' sink sink'
   ends_at_read shelf served fault inside so_far refused = record {
@@ -92,7 +90,6 @@ module _ (worker : ℕ) (source source' source'' : SourceState) (sink sink' sink
     took = so_far.took;
   }
 
-  -- the limit is reached
   pub ends_at_limit : (shelf : Shelf) (served : Served) (limit : ℕ) → served.frames ≡ limit → SoFar worker shelf served source source' sink sink' → EndsAtLimit worker limit source source' sink sink'
   ends_at_limit shelf served limit all so_far = record {
     heard = heard_of worker so_far.frames so_far.replies so_far.lawful so_far.answered;
@@ -101,16 +98,15 @@ module _ (worker : ℕ) (source source' source'' : SourceState) (sink sink' sink
     took = so_far.took;
   }
 
-  -- another frame came
   gave_frame : (frames : List FrameValue) (v : FrameValue) → Gave 0 0 (texts_of frames) source source' → Gave 0 0 (text_of v) source' source'' → Gave 0 0 (texts_of (frames ++ v ∷ [])) source source''
   gave_frame frames v first second = search (arith, texts-one, texts-append, gave_more)
 
-  -- what is owed with the reply to it
+  -- what is owed together with other replies
   more_owed : (replies now : List FrameValue) → (text_of (HelloFrame VERSION worker) ++ texts_of replies) ++ texts_of now ≡ text_of (HelloFrame VERSION worker) ++ texts_of (replies ++ now)
   more_owed replies now = append_assoc (text_of (HelloFrame VERSION worker)) (texts_of replies) (texts_of now)
       ∙ ap (λ (t : List ℕ). text_of (HelloFrame VERSION worker) ++ t) (sym (texts-append replies now))
 
-  -- and was taken
+  -- another frame came and was taken
   pub so_far_more : (shelf shelf' : Shelf) (served served' : Served) (replies : List FrameValue) (written : Written)
       → SoFar worker shelf served source source' sink sink' → HearsNext replies shelf shelf' source' source'' → WroteFor replies written sink' sink''
       → served'.frames ≡ served.frames + 1 → CountsReplies written served served' → SoFar worker shelf' served' source source'' sink sink''
@@ -128,7 +124,7 @@ module _ (worker : ℕ) (source source' source'' : SourceState) (sink sink' sink
         (took_more 0 (text_of (HelloFrame VERSION worker) ++ texts_of so_far.replies) (texts_of replies) sink sink' sink'' so_far.took wrote.took);
   }
 
-  -- and a write failed
+  -- another frame was taken, and a write failed
   pub ends_at_write : (shelf shelf' : Shelf) (served : Served) (replies : List FrameValue)
       → SoFar worker shelf served source source' sink sink' → HearsNext replies shelf shelf' source' source'' → CutOff (texts_of replies) sink' sink'' → EndsAtWrite worker source source'' sink sink''
   ends_at_write shelf shelf' served replies so_far hears cut =
@@ -144,7 +140,7 @@ module _ (worker : ℕ) (source source' source'' : SourceState) (sink sink' sink
             (took_more 1 first (take cut.count (texts_of replies)) sink sink' sink'' so_far.took cut.took);
       }
 
-  -- or it was a shard for which there was no memory
+  -- the frame was a shard for which there was no memory
   pub ends_at_shard : (shelf : Shelf) (served : Served) (v : FrameValue) → IsShardFrame v → IsLawful v → SoFar worker shelf served source source' sink sink' → Gave 0 0 (text_of v) source' source''
       → EndsAtMemory worker source source'' sink sink'
   ends_at_shard shelf served (ShardFrame number links) is lawful so_far came =
@@ -162,12 +158,10 @@ module _ (worker : ℕ) (source source' source'' : SourceState) (sink sink' sink
   ends_at_shard shelf served (AnswerFrame a) is lawful so_far came = absurd is
   ends_at_shard shelf served (FaultFrame a b c) is lawful so_far came = absurd is
 
--- no frame was read yet
 pub so_far_starts : (worker : ℕ) (served : Served) (source : SourceState) (sink sink' : SinkState) → served.frames ≡ 0 → served.answers ≡ 0 → served.faults ≡ 0
     → Gave 0 0 [] source source → Took 0 (text_of (HelloFrame VERSION worker)) sink sink' → SoFar worker empty_shelf served source source sink sink'
 so_far_starts worker served source sink sink' frames answers faults gave took = search (arith, append-nil)
 
--- the hello wasn't written
 pub ends_at_hello : (worker limit : ℕ) (fault : ServeFault) (source : SourceState) (sink sink' : SinkState) → Gave 0 0 [] source source
     → Ungreeted fault (text_of (HelloFrame VERSION worker)) sink sink' → EndsBy worker limit fault source source sink sink'
 ends_at_hello worker limit (Read fault) source sink sink' gave bad = absurd bad
@@ -189,14 +183,12 @@ ends_at_hello worker limit Memory source sink sink' gave took = record {
 
 -- ---- by what a call returns
 
--- the one reply was written
 pub wrote_one : (v : FrameValue) (w : Written) (s s' : SinkState) → IsSortOf w (v ∷ []) → Took 0 (text_of v) s s' → WroteFor (v ∷ []) w s s'
 wrote_one v w s s' sort took = record { sort = sort; took = subst (λ (t : List ℕ). Took 0 t s s') (sym (texts-one v)) took }
 
 pub cut_one : (v : FrameValue) (s s' : SinkState) → CutOff (text_of v) s s' → CutOff (texts_of (v ∷ [])) s s'
 cut_one v s s' cut = subst (λ (t : List ℕ). CutOff t s s') (sym (texts-one v)) cut
 
--- it was a fault
 pub wrote_fault : (result : Result Written ServeFault) (r t k : ℕ) (s s' : SinkState)
     → IfOk result (λ w. w ≡ AFault) → OnOk result (Took 0 (text_of (FaultFrame r t k)) s s') → IfOk result (λ w. WroteFor (FaultFrame r t k ∷ []) w s s')
 wrote_fault (Ok w) r t k s s' sort took = wrote_one (FaultFrame r t k) w s s' (subst (λ (x : Written). IsSortOf x (FaultFrame r t k ∷ [])) (sym sort) (refl, refl, refl)) took

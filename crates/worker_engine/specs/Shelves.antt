@@ -17,7 +17,7 @@ use Rattle.worker_replies.specs.Serving.{ShelfList, shelf_of, shelf_with, IsRepl
 abbrev pub shelf_list : List (ℕ × KeptShardState) → ShelfList
 shelf_list shards = map (λ (entry : ℕ × KeptShardState). (entry.0, entry.1.links)) shards
 
--- the live links of each shard are live under these labels
+-- if the live links of a shard are listed, they are those under these labels
 abbrev pub AreAllUnder : List ℕ → List (ℕ × KeptShardState) → Type 0
 AreAllUnder labels shards = (s : ℕ) → IfSome (lookup (is_at (nat_cmp s)) shards) (IsLive labels)
 
@@ -29,7 +29,7 @@ abbrev pub IsReplyWith : ℕ → ℕ → Option (List Offer) → FrameValue → 
 IsReplyWith round shard offers v = (links : List Link) (labels : List ℕ) → length links ≤ MAX_SHARD_LINKS → IsAsk round shard labels
     → AreOffersOf links labels offers → IsReply (Some links) round shard labels v × IsLawful v
 
--- the shards have the same links as before, and their live links are live under these labels
+-- the shards have the same links as before, and the live links that are listed are those under these labels
 pub record KeepsShards (labels : List ℕ) (before after : List (ℕ × KeptShardState)) : Type 0 where
   pub shelf : shelf_list after ≡ shelf_list before
   pub live : AreAllUnder labels after

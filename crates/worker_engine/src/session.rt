@@ -290,7 +290,6 @@ fn write_piece<'a, W: Sink>(
     Ok(rest)
 }
 
-// Encodes a head and the offers after it.
 fn fill_piece(text: &mut [u8], head: &[u8], offers: &[(u32, u32)])
     requires { length text.old ≡ length head.now + 8 * length offers.now }
     ensures { text.new ≡ head.now ++ flat_map offer_text offers.now }

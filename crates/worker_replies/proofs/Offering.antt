@@ -22,7 +22,6 @@ use Rattle.std.specs.Cmp.{IsEquivalence}
 use Rattle.std.proofs.lemmas.Bool.{eqb-true, eq-eqb, ne_eqb}
 use Rattle.std.proofs.lemmas.Bool.Decides.{eqb_tells}
 
--- `==` distinguishes numbers
 numbers_apart : IsEquivalence eqb
 numbers_apart = search (arith, eq-eqb, eqb_tells, ne_eqb, eqb, eqb-true)
 

@@ -43,7 +43,6 @@ pub asks-append : (fs gs : List FrameValue) → asks_in (fs ++ gs) ≡ asks_in f
 asks-append [] gs = omega arith
 asks-append (f ∷ fs) gs = omega (arith, asks-append fs gs)
 
--- one reply per ask
 reply_count : (shelf : Shelf) (f : FrameValue) (out : List FrameValue) → MayFollow shelf f out → length out ≡ ask_bit f
 reply_count a1 a2 a3 a4 = search arith
 
@@ -60,7 +59,7 @@ pub last_reply : (shelf : Shelf) (fs : List FrameValue) (round shard : ℕ) (lab
     → MayReply (shelf_after shelf fs shard) round shard labels v
 last_reply shelf fs round shard labels came v more are count = search (arith, replies_split, parts_same, replies_count)
 
--- what may be written for a prefix of a stream is a prefix of what is written for the stream
+-- what is written for a stream begins with something that may be written for a prefix of it
 pub prefix_has_prefix_replies : (version worker : ℕ) (prefix rest out : List ℕ) → Serves version worker (prefix ++ rest) out
     → (early : List ℕ) × (late : List ℕ) × (out ≡ early ++ late) × Serves version worker prefix early
 prefix_has_prefix_replies version worker prefix rest out serves =
@@ -77,7 +76,6 @@ prefix_has_prefix_replies version worker prefix rest out serves =
       record { known = serves.known; frames = some; replies = early; came = are; answered = first; written = refl },
     )
 
--- another frame is read
 pub replies_more : (fs out now : List FrameValue) (v : FrameValue) → AreReplies empty_shelf fs out → MayFollow (shelf_after empty_shelf fs) v now
     → AreReplies empty_shelf (fs ++ v ∷ []) (out ++ now)
 replies_more fs out now v are heard = replies_join empty_shelf fs (v ∷ []) out now are (now, [], sym (append-nil now), heard, refl)
@@ -114,7 +112,6 @@ served_lawful version worker stream out serves = search (arith, replies_lawful, 
 abbrev answer_of : ℕ → ℕ → List Offer → AnswerValue
 answer_of round shard offers = record { round = round; shard = shard; offers = offers }
 
--- there is only one answer
 pub one_answer : (links : List Link) (r s : ℕ) (ls : List ℕ) (a b : AnswerValue) → IsAnswerTo links r s ls a → IsAnswerTo links r s ls b → a ≡ b
 one_answer links r s ls a b is also =
     ap (λ (n : ℕ). answer_of n a.shard a.offers) (is.round_is ∙ sym also.round_is)

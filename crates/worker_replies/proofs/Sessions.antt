@@ -12,11 +12,9 @@ use Rattle.worker_replies.specs.Session.{InSession}
 use Rattle.worker_replies.proofs.Versions.{this_version, all_heard}
 use Rattle.worker_replies.proofs.Replying.{replies_more, shelf_after-append}
 
--- the bytes after the frames that were read
 pub session_left : (worker : ℕ) (shelf : Shelf) (input out : List ℕ) (heard : ℕ) (session : InSession worker shelf input out heard) → drop heard input ≡ session.rest
 session_left worker shelf input out heard session = search (arith, drop_at)
 
--- the next frame is read
 pub session_hears : (worker : ℕ) (shelf shelf' : Shelf) (input out out' left : List ℕ) (heard heard' : ℕ) (v : FrameValue) (now : List FrameValue)
     → IsLawful v → drop heard input ≡ text_of v ++ left → heard' ≡ heard + length (text_of v) → shelf' ≡ shelf_with shelf v → MayFollow shelf v now
     → out' ≡ out ++ texts_of now → InSession worker shelf input out heard → InSession worker shelf' input out' heard'

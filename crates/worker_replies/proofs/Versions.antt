@@ -12,11 +12,9 @@ use Rattle.worker_replies.specs.Serving.{heard_by}
 pub this_version : IsVersion VERSION
 this_version = record { from_first = lit≤ tt; to_this = lit≤ tt }
 
--- this version has each lawful frame
 has_each : (v : FrameValue) → IsLawful v → nat_le (version_of v) VERSION ≡ true
 has_each a1 a2 = search (arith, le-leb)
 
--- so a worker of this version reads all frames
 pub all_heard : (frames : List FrameValue) → AreLawful frames → heard_by VERSION frames ≡ frames
 all_heard [] lawful = refl
 all_heard (v ∷ frames) lawful =

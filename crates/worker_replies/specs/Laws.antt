@@ -6,7 +6,7 @@ use Rattle.frames.specs.FrameText.{text_of}
 use Rattle.frames.specs.FrameStream.{texts_of, AreLawful}
 use Rattle.worker_replies.specs.Serving.{Shelf, IsReply, MayFollow, Serves}
 
--- What may be written for a prefix of a stream is a prefix of what may be written for the stream.
+-- Whatever may be written for a stream begins with something that may be written for any given prefix of it.
 abbrev pub PrefixHasPrefixReplies : Type 0
 PrefixHasPrefixReplies = (version worker : ℕ) (prefix rest out : List ℕ) → Serves version worker (prefix ++ rest) out
     → (early : List ℕ) × (late : List ℕ) × (out ≡ early ++ late) × Serves version worker prefix early

@@ -1,7 +1,8 @@
 //! What the definitions alone promise. Each law is the contract of a function that does nothing.
 ghost use Rattle.worker_replies.specs.Laws.{CodeOneWhereKept, OneReply, PrefixHasPrefixReplies, RepliesAreLawful};
 
-/// What a session of any version may write for a prefix of a stream is a prefix of what it may write for the stream.
+/// Whatever a session of any version may write for a stream begins with something that it may write for any given
+/// prefix of the stream.
 pub fn prefix_has_prefix_replies()
     ensures { PrefixHasPrefixReplies }
 {}

@@ -42,7 +42,6 @@ impl<A: Allocator + Copy + Send + Sync> Engine<A> {
         }
     }
 
-    // Replies to an ask as `reply` does, by threads.
     pub(super) fn reply_par<R: Threads + Sync>(
         &mut self,
         rt: &R,
@@ -59,7 +58,6 @@ impl<A: Allocator + Copy + Send + Sync> Engine<A> {
     }
 }
 
-// Replies to an ask as `reply_under` does, by threads.
 pub(super) fn reply_under_par<R: Threads + Sync, A: Allocator + Copy + Send + Sync>(
     rt: &R,
     shards: &mut BTreeMap<u32, KeptShard<A>, A>,

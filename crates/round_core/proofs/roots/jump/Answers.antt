@@ -13,7 +13,6 @@ either : (a b : Bool) → (a || b) ≡ true → (a ≡ true) ⊎ (b ≡ true)
 either false b is = inr is
 either true b is = inl refl
 
--- after the next root has jumped
 step : (roots old new new' : List ℕ) (k : ℕ) → k < length roots → HaveJumped roots old new → new' ≡ jumped new (get_or roots k 0) → HaveJumped roots old new'
 step roots old new new' k lt have is = subst (HaveJumped roots old) (sym is) (jumped_more roots old new (get_or roots k 0) (Contains-get_or roots k 0 lt) have)
 
