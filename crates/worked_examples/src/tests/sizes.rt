@@ -279,7 +279,7 @@ fn expect_distinct(rt: &(impl Abort + Threads + Sync), alloc: Global, n: u32, we
     expect_same(rt, by_threads.links(), wanted.as_slice());
 }
 
-// Weights that differ by up to three digits, by all 64 bits, and by 41 bits.
+// Weights out of 1,000 values, out of all values of 64 bits, and out of 2^41 values.
 #[test]
 fn distinct_links(rt: HostRuntime) {
     for n in SIZES {
