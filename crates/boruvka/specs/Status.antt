@@ -66,7 +66,7 @@ report_of (Err why) = Err why
 
 -- ---- how a run ends
 
--- a visible file that is invalid gives its first error, and a valid one gives no error of the file
+-- a visible file that is invalid gives its first error, or memory runs out; a valid one gives no error of the file
 pub record JudgesFile {X : Type 0} (result : Result X RunFault) (before after : SourceState) : Type 0 where
   pub malformed : (bytes : List ℕ) → HasFile bytes before after → MeansNothing bytes → IsFirstFaultOf bytes result
   pub lawful : (bytes : List ℕ) → HasFile bytes before after → MeansGraph bytes → IsNoRefusal result

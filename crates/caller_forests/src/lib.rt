@@ -13,7 +13,8 @@
 //!
 //! What it promises:
 //! - A call returns exactly the forest, the indices, the labels or the merges, as `link_key`, `plain_run` and
-//!   `link_merges` define them. Otherwise it returns an error with its cause, and the caller's memory stays as it was.
+//!   `link_merges` define them. Otherwise it returns an error with its cause, and the caller's edges, indices, labels,
+//!   merges and buffer stay as they were.
 //! - Nothing is written outside the memory that a caller passed.
 //!
 //! To change what a call means, start with `specs/Links`, `Places`, `Labels`, `Merges` or `Texts`. To change an error,

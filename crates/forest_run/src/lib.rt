@@ -9,8 +9,8 @@
 //!
 //! What it promises:
 //! - A run that succeeds has read a whole file that describes a graph, and written exactly the text of a forest of its
-//!   links. A malformed file is rejected with its first error. After any other error, a prefix of such a text was
-//!   written.
+//!   links. If a file is malformed and no read fails, the run returns the file's first error, or memory runs out.
+//!   After any other error, a prefix of such a text was written.
 //! - Over lines that carry their workers' sessions, the forest is the minimum one; over any lines, it spans.
 //! - A new line with known bytes is given up only for an error that fits these and its counts, or for an answer that
 //!   the round's book rejects.

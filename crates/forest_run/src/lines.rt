@@ -174,8 +174,8 @@ pub fn run_lines<
     ensures served { AreServed L.Line lines.items → RanServed cutting.entry result
         (known S.state W.state source.old sink.old) (known S.state W.state source.new sink.new) }
 
-    // A file that doesn't describe a graph is rejected with its first error, if no read fails; one that does isn't
-    // rejected.
+    // If no read fails, a file that doesn't describe a graph is rejected with its first error, or memory runs out. A
+    // file that does isn't rejected.
     ensures malformed { (bytes : List ℕ) → HasFile bytes (S.state source.old) (S.state source.new)
         → MeansNothing bytes → IsFirstFaultOf bytes result }
     ensures lawful { (bytes : List ℕ) → HasFile bytes (S.state source.old) (S.state source.new)

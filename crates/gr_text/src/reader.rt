@@ -73,9 +73,9 @@ impl<A: Allocator> GrReader<A> {
 
     /// Takes the next piece of the text.
     ///
-    /// Returns `Gr` if a line that has ended among the first `limit` bytes is invalid. Otherwise it returns `TooLong`
-    /// if more than `limit` bytes were fed, or `Memory` if there was no memory for an edge. A line that hasn't ended
-    /// yet isn't checked. The time is linear in the length of the piece.
+    /// Returns `Gr` if a line that has ended among the first `limit` bytes is invalid, unless memory runs out before it.
+    /// Otherwise it returns `TooLong` if more than `limit` bytes were fed, or `Memory` if there was no memory for an
+    /// edge. A line that hasn't ended yet isn't checked. The time is linear in the length of the piece.
     pub fn feed(&mut self, piece: &[u8]) -> Result<(), ReadFault>
         ensures limit { self.new.limit ≡ self.old.limit }
         ensures within { self.new.fed ≤ self.new.limit }

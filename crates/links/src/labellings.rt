@@ -89,8 +89,8 @@ impl<A: Allocator> Labels<A> {
         }
     }
 
-    /// Replaces each label by its name, which is the number in `names` at the label's index. The new numbers must be
-    /// valid labels too. If the bytes of the labels are stored, they are overwritten with those of the new labels.
+    /// Replaces each label `c` by its name, `names[c]`. The new numbers must be valid labels too. If the bytes of the
+    /// labels are stored, they are overwritten with those of the new labels.
     ///
     /// Makes one pass, or two if the bytes are stored. Allocates nothing.
     pub fn rename(&mut self, names: &[u32])

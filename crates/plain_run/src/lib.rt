@@ -15,8 +15,8 @@
 //!
 //! What it promises:
 //! - A run that succeeds has read a whole valid file and written exactly the text of its graph's minimum spanning
-//!   forest. If the file is invalid, the run returns its first error. After any other error, a prefix of that text was
-//!   written.
+//!   forest. If the file is invalid and no read fails, the run returns the file's first error, or memory runs out.
+//!   After any other error, a prefix of that text was written.
 //! - No spanning forest weighs less than the reported total. If the file is the text of a forest, the run writes the
 //!   same text.
 //! - Several files with the same number of vertices give the text of the forest of all their edges ([`Parts`]).

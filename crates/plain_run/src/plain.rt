@@ -85,7 +85,7 @@ pub fn run_plain<S: Source, W: Sink, A: Allocator + Copy>(
     requires sink { W.can_write sink.old }
 
     // If it succeeds, it read the source to its end and wrote exactly the forest's text. Otherwise the error says what
-    // was done. So an invalid file gives its first error.
+    // was done. So if no read fails, an invalid file gives its first error, or memory runs out.
     ensures { RunsPlain result (known S.state W.state source.old sink.old) (known S.state W.state source.new sink.new)
         (W.unflushed sink.new) (W.can_write sink.new) }
 {

@@ -19,10 +19,10 @@ use std::thread::Threads;
 
 /// The book of a round: which shards are asked about, and the answers taken so far, one for each shard of the cut.
 ///
-/// It trusts no answer. It rejects an answer that is of another round, for a shard that has one, or with an offer that
-/// isn't a link leaving its component. It stores the answers that it takes, with their offers. In addition, it takes 33
-/// bytes per shard for an answer without its offers and whether it came, if the allocator has no size of its own. It
-/// also takes 16 bytes per vertex. All of this is allocated when it is opened.
+/// It trusts no answer. It rejects an answer of another round, for another shard than the one asked about, for a shard
+/// that has an answer, or with an offer that isn't a link leaving its component. It stores the answers that it takes,
+/// with their offers. In addition, it takes 33 bytes per shard for an answer without its offers and whether it came, if
+/// the allocator has no size of its own. It also takes 16 bytes per vertex. All of this is allocated when it is opened.
 #[derive(Drop)]
 pub struct RoundBook<'a, A: Allocator = Global> {
     round: u32,

@@ -7,8 +7,8 @@ pub fn light_offers_are_taken()
     ensures { LightOffersAreTaken }
 {}
 
-/// A book that misses no shard has the offers about all links of its cut. So if all answers are light, its picks are
-/// the least links of the whole list that leave each component, whatever the cut.
+/// If a book misses no shard, the shards that it has answers about have exactly the links of its cut. So if all answers
+/// are light, its picks are the least links of the whole list that leave each component, whatever the cut.
 pub fn full_book_is_least()
     ensures links { FullBookHasAllLinks }
     ensures least { FullBookIsLeast }

@@ -8,7 +8,8 @@
 //!
 //! What it promises:
 //! - A book takes one answer for each shard. It rejects an answer of another round, for another shard, for an answered
-//!   shard, or with an offer that isn't a link leaving its component, in this order. It never rejects light offers.
+//!   shard, or with an offer that isn't a link leaving its component, in this order. It never rejects light offers in
+//!   an answer of its round about a missing shard.
 //! - A pick is the least link that was offered for a component, in any order and with any threads. If all offers are
 //!   light, it is the component's least link.
 //! - Whatever was offered, a solver's links close no cycle, and its labels are the labelling by them. It finishes only

@@ -51,7 +51,7 @@ pub fn light_offers_suffice()
     ensures both_ends { LeavesBothEnds }
 {}
 
-/// After links are added to a set, its components are those that the added links join.
+/// If links are added to a set, its new components are the old components, joined by the added links.
 pub fn joining_by_steps()
     ensures joined { JoinedBySteps }
     ensures relabelled { RelabelledBySteps }

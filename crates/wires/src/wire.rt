@@ -63,7 +63,7 @@ impl<'a, L: Line, A: Allocator + Copy> Wire<'a, L, A> {
         requires room { HasRoom (L.state line) }
         ensures new { IsNewWire line cut.now worker result }
 
-        // Over any line, what the line counts from now on will fit the error that closes the wire.
+        // Over any line, what the line counts from now on will fit an error that closes the wire, if one does.
         ensures counted { IsCountedWire L.state result (L.state line) }
 
         // It is sound over a fresh line whose bytes are known, and honest over one that is also faithful for the
