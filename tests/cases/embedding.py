@@ -372,6 +372,26 @@ int main(void) {{
 
 
 @case
+def the_example_of_the_header_for_cpp(room):
+    with open(f"{ROOT}/include/boruvka.hpp", encoding="utf-8") as it:
+        head = it.read().split("#ifndef")[0]
+    code = "".join(re.findall(r"^ \*     (.*\n)", head, re.M))
+    told = re.search(r"has two links, \{(.*?)\} and \{(.*?)\}, which are the first of links", head).groups()
+    source = f"""#include <boruvka.hpp>
+#include <cstdio>
+int main() {{
+{code}    for (const boruvka_link &it : found) std::printf("%d, %u, %u\\n", (int)it.weight, it.low, it.high);
+    return found.data() != links.data();
+}}
+"""
+    compilers = [it for it in ("g++", "clang++") if shutil.which(it)]
+    if not compilers:
+        raise Skipped("no g++ or clang++ is there")
+    expect(run([compilers[0], "-std=c++20", "-Wall", "-Wextra", "-Werror", INCLUDE, "-o", f"{room}/head", "-x", "c++", "-", "-x", "none", libraries()[0]], source.encode()), 0, b"", b"")
+    expect(run([f"{room}/head"]), 0, "".join(f"{it}\n" for it in told).encode(), b"")
+
+
+@case
 def what_the_header_itself_defines(room):
     """Outputs that overlap inputs, and keys of doubles; also if a compiler takes every double for a number."""
     made = f"{room}/inlines"
