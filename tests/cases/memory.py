@@ -1,4 +1,4 @@
-"""Refused memory: each allocation in turn, alone and with all that follow; little address space."""
+"""Failing allocations: each in turn, alone and with all that follow; and small address spaces."""
 import re
 import resource
 
@@ -7,20 +7,20 @@ from cases.workers import healthy_report, over
 
 
 def refused(room, words, source, first, last, size=0):
-    """What the program did with the allocations from the first to the last refused, and how many were. Those of fewer
-    bytes than the size aren't counted."""
+    """Runs the program with the allocations from the first to the last failing, and returns its result and how many failed.
+    Allocations of fewer bytes than the size aren't counted."""
     environment = {"REFUSE_FIRST": str(first), "COUNT_FROM": str(size), **({"REFUSE_LAST": str(last)} if last else {})}
     found, told = told_by(room, [Program.path, *words], source, environment, library="refusing")
     return found, len(told)
 
 
 def each_refused(room, words, source, output, errors, status=0):
-    """Refuses each allocation in turn, alone and with all that follow, until none is left to refuse."""
+    """Makes each allocation fail in turn, alone and with all that follow, until there are no more."""
     for is_alone in (False, True):
         first = 1
         while True:
             found, count = refused(room, words, source, first, first if is_alone else None)
-            # a refused growth may be made good by a smaller one
+            # a smaller growth may succeed after one that failed
             if not count or is_alone and found[0] == status:
                 expect(found, status, output, errors)
             else:
@@ -33,8 +33,8 @@ def each_refused(room, words, source, output, errors, status=0):
 
 
 def each_refused_over_workers(room, source, output, workers, shards, size=0, fewest=50):
-    """The same over workers: one that finds no memory is left out, or its line closed, and then the run goes on. Of
-    allocations of the size or more there are at least the fewest."""
+    """Does the same over workers. If a worker runs out of memory, it is left out or its line is closed, and the run continues.
+    At least `fewest` allocations have the size or more."""
     words = [*over(workers, shards), "--report"]
     for is_alone in (False, True):
         first = 1
@@ -90,8 +90,8 @@ def each_allocation_of_a_run_over_workers_refused(room):
 
 @case
 def a_worker_that_finds_no_memory_is_given_up(room):
-    # each allocation of its thread is refused alone: its line is closed, but for the few that a scan does without, and
-    # the run goes on (which number an allocation has differs from run to run)
+    # each allocation of its thread fails alone. Then its line is closed, unless a scan can do without that allocation, and the
+    # run continues (the numbers of allocations differ from run to run)
     words = [Program.path, *over(1, 1), "--report"]
     closed, number, told = [], 1, b"x"
     while told:
@@ -104,12 +104,12 @@ def a_worker_that_finds_no_memory_is_given_up(room):
             closed.append(report.closed)
         number += 1
     if sum(closed) < 10 or closed.count(0) > sum(closed) // 2:
-        raise AssertionError(f"of a worker's allocations that were refused each closed so many lines: {closed}")
+        raise AssertionError(f"each failed allocation of a worker closed so many lines: {closed}")
 
 
 @case
 def each_large_allocation_of_a_run_by_threads_refused(room):
-    # (many vertices, and so many links of the forest that threads sort them)
+    # (many vertices, and enough links of the forest for threads to sort them)
     file, text = drawn_graph(11, 2**17 + 1, 90_000)
     expect((text.count(b"\na ") > 2**16, b"", b""), True, b"", b"")
     each_refused_over_workers(room, file, text, 2, 2, 2**19, 10)
@@ -117,7 +117,7 @@ def each_large_allocation_of_a_run_by_threads_refused(room):
 
 @case
 def no_allocation_of_twice_the_largest_list(room):
-    # (of 4,096 answers, of 32 bytes each beside its offers)
+    # (for 4,096 answers of 32 bytes each, without the offers)
     words = [Program.path, *over(64, 4096)]
     more = {"REFUSE_ABOVE": str(2 * 4096 * 32 - 1)}
     found, told = told_by(room, words, SMALL_NET, more, library="refusing")
@@ -140,7 +140,7 @@ def each_allocation_of_wrong_words_refused(room):
 
 
 def in_space(size, words, source=b""):
-    """What the program did with so many bytes of address space."""
+    """Runs the program with so many bytes of address space, and returns its result."""
 
     def limit():
         resource.setrlimit(resource.RLIMIT_AS, (size, size))
@@ -149,7 +149,7 @@ def in_space(size, words, source=b""):
 
 
 def least_space_for_help():
-    """The least address space, in whole pages, in which the help is told."""
+    """Returns the least address space, in whole pages, in which the help is printed."""
     page = resource.getpagesize()
     short, enough = 0, 1 << 18
     while enough - short > 1:
@@ -162,7 +162,7 @@ def least_space_for_help():
 
 
 def grown_space(last):
-    """Thirty sizes of address space, from the least for the help to the last, which grow faster and faster."""
+    """Returns thirty growing sizes of address space, from the least for the help to the last."""
     least = least_space_for_help()
     return [least + (last - least) * step**2 // 29**2 for step in range(30)]
 
@@ -179,9 +179,9 @@ def little_address_space(_room):
 
 @case
 def no_more_memory_than_is_documented(room):
-    # of the table in docs/PERFORMANCE.md what `--plain` takes, and a run over workers, of which there is none: bytes a
-    # link, bytes a vertex, and what is taken beside. Threads take room for their stacks too: of 2^20 vertices alone there
-    # are some, whose stacks are small. Of many arcs a vertex `--plain` keeps some links.
+    # bytes per link and per vertex of `--plain` and of a run over no workers, from the table in docs/PERFORMANCE.md, and a
+    # constant. Threads also need address space for their stacks: only 2^20 vertices start threads here, with small stacks. If
+    # there are many arcs per vertex, `--plain` keeps only some links.
     rows = [(["--plain"], 45, 12), (over(0, 1), 32 + 12, 75)]
     beside = least_space_for_help() + 1_300_000
     one = b"p sp 1048576 1\na 1 1048576 7\n"
@@ -202,7 +202,7 @@ def no_more_memory_than_is_documented(room):
 
 
 def enough_space(words, source, text, most):
-    """A size of address space, at most 64 KiB more than the least, in which the program writes this text."""
+    """Returns a size of address space in which the program writes this text, at most 64 KiB more than the least."""
     short, enough = 0, most >> 16
     while enough - short > 1:
         middle = (short + enough) // 2
@@ -215,8 +215,8 @@ def enough_space(words, source, text, most):
 
 @case
 def threads_take_no_more_address_space_than_is_documented(room):
-    # beside what a run without threads needs. Of few vertices and many arcs the list of links is longer by threads; the last
-    # graph's list is then past a power of two, so that its room is twice as large
+    # compared with a run without threads. With few vertices and many arcs, threads make the list of links longer. The list of the
+    # last graph then exceeds a power of two, so that its buffer is twice as large
     with open(f"{ROOT}/SECURITY.md", encoding="utf-8") as it:
         told = re.search(r"With `--threads`, allow twice the memory of `--plain`, and (\d+) MB more\. For each further thread, allow one stack \(`ulimit -s`\) and (0\.\d) MB\.", it.read())
     beside, each, stack = int(told[1]) * 10**6, int(float(told[2]) * 10**6), 8 << 20
@@ -231,11 +231,11 @@ def threads_take_no_more_address_space_than_is_documented(room):
         alone = enough_space(["--plain", name], b"", text, 100 << 20)
         for threads in [2, 3, 4, 8]:
             documented = 2 * alone + beside + (threads - 1) * (stack + each)
-            # (what is enough may be too little with a little more, since another thread then starts)
+            # (a size may be enough and a slightly larger one not, since another thread starts then)
             for more in [0, 10**6, 3 * 10**6, 6 * 10**6, 10**7, 2 * 10**7, 4 * 10**7]:
                 found = ran(["--plain", "--threads", str(threads), name], preexec_fn=lambda space=documented + more: limit(space))
                 if found != (0, text, b""):
-                    raise AssertionError(f"{vertices} vertices, {threads} threads, {more} bytes more than is documented beside {alone}: {found!r:.300}")
+                    raise AssertionError(f"{vertices} vertices, {threads} threads, {more} bytes more than is documented, compared with {alone}: {found!r:.300}")
 
 
 @case
@@ -244,5 +244,5 @@ def little_address_space_for_workers(_room):
     for size in grown_space(1 << 30):
         found = in_space(size, [*over(2, 4), "--report"], file)
         expect_right_or_no_memory(found, text, 2, 4)
-    # in a gigabyte both workers have their threads
+    # in a gigabyte both workers start
     expect((Report(found[2]).alone, b"", b""), 0, b"", b"")

@@ -1,4 +1,4 @@
-"""Runs by several threads, without workers: the same bytes as by one, on one processor too, and where no thread starts."""
+"""Runs with several threads and no workers: the same output as with one, also on one processor, and if no thread starts."""
 import contextlib
 import functools
 import os
@@ -30,7 +30,7 @@ def by(threads):
 
 @functools.cache
 def drawn():
-    """A file of a graph whose forest has more links than seven threads spell at a time, and the forest's text."""
+    """Returns a file whose forest has more links than seven threads write at a time, and the forest's text."""
     file, text = drawn_graph(21, 120_000, 300_000)
     if text.count(b"\na ") <= 7 * 8192:
         raise AssertionError("the forest is too small")
@@ -38,7 +38,7 @@ def drawn():
 
 
 def large_net(room):
-    """The name of this file, and the text."""
+    """Returns the name of this file, and the forest's text."""
     file, text = drawn()
     return written(f"{room}/large.gr", file), text
 
@@ -64,7 +64,7 @@ def threads_of_malformed_files(_room):
 
 @case
 def faults_anywhere_by_threads(room):
-    # the first MiB is one thread's, and what is behind it comes in pieces that threads share
+    # one thread reads the first MiB, and threads share the pieces after it
     file, _ = drawn()
     lines = file.splitlines(keepends=True)
     rng, faults = random.Random(5), [(b"x\n", "UnknownLine"), (b"a 1 2\n", "BadArc"), (b"a 1 120001 5\n", "EndOutOfRange"), (b"a 1 2 9223372036854775808\n", "WeightOutOfRange")]
@@ -76,7 +76,7 @@ def faults_anywhere_by_threads(room):
 
 
 def ran_by_pieces(words, pieces):
-    """What the program does whose input is written piece by piece; it may end in front of the last one."""
+    """Runs the program with an input that is written piece by piece. It may end before the last piece."""
     started = subprocess.Popen([Program.path, *words], stdin=subprocess.PIPE, stdout=subprocess.PIPE, stderr=subprocess.PIPE)
     output = []
     reader = threading.Thread(target=lambda: output.append(started.stdout.read()))
@@ -91,7 +91,7 @@ def ran_by_pieces(words, pieces):
 
 
 def cut(text, most, rng):
-    """The text in pieces of at most so many bytes."""
+    """Returns the text in pieces of at most so many bytes."""
     at = 0
     while at < len(text):
         piece = text[at : at + rng.randint(1, most)]
@@ -101,7 +101,7 @@ def cut(text, most, rng):
 
 @case
 def pipes_by_threads(_room):
-    # a pipe gives what was written to it so far, wherever that is cut
+    # a pipe delivers what was written to it so far, wherever that ends
     file, text = drawn()
     lines = file.splitlines(keepends=True)
     rng = random.Random(7)
@@ -181,8 +181,8 @@ def threads_that_do_not_start(room):
 
 @case
 def the_threads_that_are_asked_for(room):
-    # whatever the number of processors, with the first just so many run at once; the file is long enough for more than fifty,
-    # and so are two files
+    # on any number of processors exactly so many threads run at once, the first included; the file is long enough for more than
+    # fifty, and so are two files
     name, text = large_net(room)
     for names in [[name], [name, name]]:
         for threads in THREADS:
@@ -195,7 +195,7 @@ def the_threads_that_are_asked_for(room):
 
 @case
 def a_long_file_by_threads_takes_no_more_memory(room):
-    # loops are no links, so that by one thread the file's length takes none; the room in which threads read takes 12 MiB
+    # loops give no links, so with one thread the length of the file needs no memory; the buffers of threads take 12 MiB
     count = 2**23
     name = f"{room}/loops.gr"
     with open(name, "wb") as it:

@@ -1,4 +1,4 @@
-"""Wrong answers: each has to be told as a mismatch, else the comparison that it is for can't fail."""
+"""Wrong outputs. Each has to be reported as a mismatch; otherwise the comparison that it is for can't fail."""
 import re
 import signal
 from dataclasses import replace
@@ -16,7 +16,7 @@ def plant(function):
 
 
 def with_errors(found, pattern, by):
-    """The same with the number that is found so in standard error changed; None where there is none."""
+    """Returns the result with the number changed that this pattern finds in standard error, or None if there is none."""
     it = re.search(pattern, found.errors)
     if not it:
         return None
