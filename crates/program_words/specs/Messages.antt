@@ -30,9 +30,13 @@ progress_line read end = codes "read " ++ decimal (read / 1000000) ++ codes " MB
 abbrev pub message_line : List ℕ → List ℕ
 message_line message = codes "boruvka: " ++ message ++ 10 ∷ []
 
--- the line of a word that is no text
+-- the line of an argument that isn't UTF-8
 abbrev pub no_text_line : List ℕ
-no_text_line = message_line (codes "a word is not UTF-8")
+no_text_line = message_line (codes "an argument is not UTF-8")
+
+-- the line of standard input that is named a second time
+abbrev pub given_twice_line : List ℕ
+given_twice_line = message_line (codes "- is given twice")
 
 -- the line of a fault
 abbrev pub fault_line : RunFault → List ℕ
