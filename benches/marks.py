@@ -99,12 +99,12 @@ def shown(milliseconds):
     return f"{milliseconds:,.1f}" if milliseconds < 10 else f"{milliseconds:,.0f}"
 
 
-def tell_row(*cells):
+def print_row(*cells):
     print("| " + " | ".join(cells) + " |")
 
 
-def tell_head(*cells):
-    tell_row(*cells)
+def print_head(*cells):
+    print_row(*cells)
     print("|" + "---|" * len(cells))
 
 
@@ -113,11 +113,11 @@ def beside(ours, mark):
     return f"{shown(ours)}, {shown(mark)}: {ours / mark:.2f}"
 
 
-def tell_plain(graphs):
-    tell_head("Graph", "Whole: `--plain`, tuned, ratio", "Reading", "Solving", "Writing")
+def print_plain(graphs):
+    print_head("Graph", "Whole: `--plain`, tuned, ratio", "Reading", "Solving", "Writing")
     for graph in graphs:
         parts = [beside(ours, mark) for ours, mark in zip(graph.parts["plain"], graph.parts["tuned"])]
-        tell_row(graph.name, beside(graph.whole["plain"], graph.whole["tuned"]), *parts)
+        print_row(graph.name, beside(graph.whole["plain"], graph.whole["tuned"]), *parts)
 
 
 def named(setting):
@@ -125,27 +125,27 @@ def named(setting):
     return f"{workers} workers, {shards} shards"
 
 
-def tell_settings(graphs, earlier):
+def print_settings(graphs, earlier):
     """Formats the runs over workers, each with its ratio to `--plain`, kruskal.cpp and the earlier program."""
     marks = "`--plain`, C++" + (", earlier" if earlier else "")
     settings = [f"{named(setting)}; times {marks}" for setting in SETTINGS]
-    tell_head("Graph", "`--plain`", "C++", *settings, "Rounds", "MB sent by default")
+    print_head("Graph", "`--plain`", "C++", *settings, "Rounds", "MB sent by default")
     for graph in graphs:
         cells = [shown(graph.whole[each]) for each in ("plain", "kruskal")]
         for setting in SETTINGS:
             ours, others = graph.whole[setting], [graph.whole["plain"], graph.whole["kruskal"]]
             others += [graph.whole["earlier", *setting]] if earlier else []
             cells.append(f"{shown(ours)}; " + ", ".join(f"{ours / other:.2f}" for other in others))
-        tell_row(graph.name, *cells, str(graph.rounds), f"{graph.bytes / 1e6:,.1f}")
+        print_row(graph.name, *cells, str(graph.rounds), f"{graph.bytes / 1e6:,.1f}")
 
 
-def tell_growth(graphs):
+def print_growth(graphs):
     settings = {"plain": "`--plain`", "tuned": "tuned", **{setting: named(setting) for setting in SETTINGS}}
-    tell_head("Time per arc, from the graph of 10^5 to that of 10^6", *settings.values())
+    print_head("Time per arc, from the graph of 10^5 to that of 10^6", *settings.values())
     for kind in ("grid", "random"):
         small, large = graphs[kind, 10**5], graphs[kind, 10**6]
         growths = (large.whole[each] / large.arcs / (small.whole[each] / small.arcs) for each in settings)
-        tell_row(kind, *(f"{growth:.2f}" for growth in growths))
+        print_row(kind, *(f"{growth:.2f}" for growth in growths))
 
 
 def main():
@@ -164,11 +164,11 @@ def main():
                     graph.take_plain_turn()
                 if turn < workers_times:
                     graph.take_workers_turn()
-    tell_plain(graphs.values())
+    print_plain(graphs.values())
     print()
-    tell_settings(graphs.values(), earlier)
+    print_settings(graphs.values(), earlier)
     print()
-    tell_growth(graphs)
+    print_growth(graphs)
     print(f"\nLoad {before:.1f} before and {os.getloadavg()[0]:.1f} after, on {os.cpu_count()} processors.")
 
 

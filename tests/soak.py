@@ -45,7 +45,7 @@ from collections import Counter
 sys.dont_write_bytecode = True
 
 from cases.running import SECONDS, Program, built, written
-from soaking.comparing import Limits, expect_right, files_written, found_by, runs_of, wrong_with
+from soaking.comparing import Limits, expect_right, files_written, found_by, runs_of, what_is_wrong_with
 from soaking.drawing import SORTS, drawn_case
 from soaking.planting import PLANTS
 
@@ -66,7 +66,7 @@ def kept(folder, seed, number, why, case, found):
 def tried(room, folder, seed, number):
     """Runs a case, reports a mismatch, and returns the case's sort and whether it was a mismatch."""
     case = drawn_case(seed, number)
-    wrong = wrong_with(room, case)
+    wrong = what_is_wrong_with(room, case)
     if wrong:
         place = kept(folder, seed, number, *wrong)
         print(f"soak: case {number}: {case.sort}: {wrong[1].shown()}\n    {wrong[0]}\n    kept in {place}", flush=True)
@@ -98,7 +98,7 @@ def is_told(case, found):
     return False
 
 
-def told_plants(room, seed, times=5, most=5000):
+def reported_plants(room, seed, times=5, most=5000):
     """Returns for each plant how often it was reported and how often planted, and how many right outputs were reported."""
     told, planted, wrongly = Counter(), Counter(), 0
     for number in range(most):
@@ -115,7 +115,7 @@ def told_plants(room, seed, times=5, most=5000):
     return told, planted, wrongly
 
 
-def told_programs(room, seed):
+def reported_programs(room, seed):
     """Returns for each false program whether a case was reported and kept with its arguments: one hangs, others are wrong."""
     told, right, Limits.seconds = {}, Program.path, 2
     false = {"a hang": "exec sleep 30", "an end without an answer": "exit 0", "a silent failure": "exit 3"}
@@ -133,8 +133,8 @@ def told_programs(room, seed):
 
 def self_test(room, seed):
     """Plants wrong outputs, prints for each whether it was reported, and returns the exit status."""
-    told, planted, wrongly = told_plants(room, seed)
-    of_programs = told_programs(room, seed)
+    told, planted, wrongly = reported_plants(room, seed)
+    of_programs = reported_programs(room, seed)
     for name in PLANTS:
         print(f"soak: {name}: told {told[name]} of {planted[name]}")
     for name, is_wrong in of_programs.items():

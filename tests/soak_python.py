@@ -40,7 +40,7 @@ def sorts(folders):
     return found
 
 
-def why_wrong(function, seed, name, number):
+def what_is_wrong(function, seed, name, number):
     """Returns what is wrong with a case, or an empty text."""
     import numpy
 
@@ -59,7 +59,7 @@ def tried(given, seed):
     end, counts, mismatches, number = time.monotonic() + 60 * given.minutes, dict.fromkeys(found, 0), 0, given.case or 0
     while True:
         for name, function in found.items():
-            why = why_wrong(function, seed, name, number)
+            why = what_is_wrong(function, seed, name, number)
             counts[name] += 1
             mismatches += bool(why)
             if why:

@@ -92,7 +92,7 @@ def read_edit(path):
     return Edit(os.path.basename(path)[: -len(".edit")], said.get("why", "").strip(), changes, set())
 
 
-def why_unfit(edit, texts):
+def why_unusable(edit, texts):
     """Returns why an edit can't be tried, or None. Then it records which functions the edit touches."""
     if not edit.changes:
         return "it has no pair of an old and a new text"
@@ -241,7 +241,7 @@ def edits_of(crate, folders, texts, count):
         where = f"{ROOT}/crates/{crate}/{part}"
         for name in sorted(os.listdir(where)) if os.path.isdir(where) else []:
             edit = read_edit(f"{where}/{name}")
-            why = why_unfit(edit, texts) if name.endswith(".edit") else "its name doesn't end in .edit"
+            why = why_unusable(edit, texts) if name.endswith(".edit") else "its name doesn't end in .edit"
             if why:
                 say(f"{crate}/{part}/{name}: BAD EDIT: {why}")
                 count["unfit"] += 1
@@ -278,14 +278,14 @@ def try_crate(crate, lines, folders, flags):
     return count
 
 
-def side_by_side():
+def in_parallel():
     """Returns how many crates are tried in parallel by default."""
     with open("/proc/meminfo", encoding="utf-8") as it:
         free = 1024 * int(re.search(r"MemAvailable:\s+(\d+)", it.read())[1])
     return max(1, min(len(os.sched_getaffinity(0)) // 2, free // EACH))
 
 
-def passed_over(lines):
+def never_tried(lines):
     """Yields the edits that no run tries: in a folder of another name, or of a crate that isn't in crates.txt."""
     for at, _, files in os.walk(f"{ROOT}/crates"):
         crate, _, part = os.path.relpath(at, f"{ROOT}/crates").partition("/")
@@ -306,7 +306,7 @@ def changed_since(commit):
 
 def main():
     parser = argparse.ArgumentParser(description=__doc__, formatter_class=argparse.RawDescriptionHelpFormatter)
-    parser.add_argument("--jobs", type=int, default=side_by_side(), help="crates in parallel (default: by processors and memory)")
+    parser.add_argument("--jobs", type=int, default=in_parallel(), help="crates in parallel (default: by processors and memory)")
     parser.add_argument("--must-fail", action="store_true", help="also the edits of must-fail/ (`rt must-fail` tries one at a time)")
     parser.add_argument("--since", metavar="COMMIT", help="only crates with a file that differs from this commit")
     parser.add_argument("crates", nargs="*", metavar="CRATE", help="only these crates")
@@ -328,7 +328,7 @@ def main():
     for it in (signal.SIGINT, signal.SIGTERM):
         signal.signal(it, cut_off)
     count = Counter()
-    for name in sorted(passed_over(lines)) if names == list(lines) else []:
+    for name in sorted(never_tried(lines)) if names == list(lines) else []:
         say(f"{name}: BAD EDIT: it stands in no folder whose edits are tried")
         count["unfit"] += 1
     folders, proved = ["wrong-bodies"] + ["must-fail"] * words.must_fail, []

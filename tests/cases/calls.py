@@ -42,7 +42,7 @@ def costs_nothing(call, error):
     return call in TRIED_AGAIN and error == EINTR
 
 
-def words_for(size):
+def arguments_for(size):
     return ["--plain"] if size == PLAIN else over(*size)
 
 
@@ -89,7 +89,7 @@ class Run:
             raise AssertionError(f"{self.what}: {left} workers are left and {threads} threads: {self.threads}, {vars(report)}")
 
 
-def each_place(room, command, source, call, errors, in_turn=1, processors=1):
+def each_position(room, command, source, call, errors, in_turn=1, processors=1):
     """Makes a call of this name, or so many in a row, fail at one position after another, with these errors in turn.
     Returns these runs. In the last run no call failed, because there were no more."""
     runs = []
@@ -104,13 +104,13 @@ def each_error(room, size, graph, call, errors, more=(), processors=1):
     """Returns the runs over so many workers and shards in which a call of this name failed, as a list for each error. On
     the small network each position fails with each error, and on the others with one."""
     file, _ = graph
-    command = [Program.path, *words_for(size), "--report", *more]
+    command = [Program.path, *arguments_for(size), "--report", *more]
     turns = [[it] for it in errors] if file == SMALL_NET else [errors]
     source = b"" if more else file
-    return [each_place(room, command, source, call, turn, processors=processors) for turn in turns]
+    return [each_position(room, command, source, call, turn, processors=processors) for turn in turns]
 
 
-def expect_places(runs, count):
+def expect_positions(runs, count):
     if len(runs) - 1 != count:
         raise AssertionError(f"{runs[-1].what}: {len(runs) - 1} calls failed in turn, and not {count}")
 
@@ -129,20 +129,20 @@ def each_call_that_makes_a_worker_fails_by_each_error(room):
                 # (EINPROGRESS means that the connection is pending)
                 errors = [*ERRORS, EINPROGRESS] if call == "connect" else ERRORS
                 for runs in each_error(room, size, graph, call, errors):
-                    expect_places(runs, count * size[0])
+                    expect_positions(runs, count * size[0])
                     for run in runs:
                         is_lost = run.failed and not costs_nothing(call, run.error)
                         run.expect_workers(graph[1], size, size[0] - is_lost)
 
 
 @case
-def a_pair_is_tried_again_after_up_to_four_strangers(room):
+def a_worker_is_tried_again_after_up_to_four_strangers(room):
     # somebody else connects first to so many listeners in turn, also from the port of the expected client
     for file, text in graphs():
         for size, strangers, call in itertools.product(OVER_WORKERS, [1, 4, 5], ["stranger", "namesake"]):
-            command = [Program.path, *words_for(size), "--report"]
-            runs = each_place(room, command, file, call, [0], strangers)
-            expect_places(runs, size[0])
+            command = [Program.path, *arguments_for(size), "--report"]
+            runs = each_position(room, command, file, call, [0], strangers)
+            expect_positions(runs, size[0])
             for run in runs[:-1]:
                 if run.failed != strangers:
                     raise AssertionError(f"{run.what}: {run.failed} strangers connected, and not {strangers}")
@@ -154,7 +154,7 @@ def a_pair_is_tried_again_after_up_to_four_strangers(room):
 def no_socket_and_no_thread_by_one_thread(room):
     for call in [*MAKING, "recv", "send", "shutdown", "thread"]:
         for runs in each_error(room, PLAIN, (SMALL_NET, SMALL_FOREST), call, [ENOMEM]):
-            expect_places(runs, 0)
+            expect_positions(runs, 0)
             runs[0].expect_workers(SMALL_FOREST, PLAIN, 0)
 
 
@@ -165,7 +165,7 @@ def each_thread_fails_to_start_by_each_error(room):
         for size in OVER_WORKERS:
             workers = size[0]
             for runs in each_error(room, size, graph, "thread", ERRORS):
-                expect_places(runs, runs[-1].threads)
+                expect_positions(runs, runs[-1].threads)
                 for run in runs:
                     is_lost = run.failed and run.number <= workers
                     run.expect_workers(graph[1], size, workers - is_lost, run.failed - is_lost)
@@ -178,7 +178,7 @@ def each_close_fails_by_each_error(room):
         name = written(f"{room}/net.gr", file)
         for size in [PLAIN, *OVER_WORKERS]:
             for runs in each_error(room, size, (file, text), "close", ERRORS, [name]):
-                expect_places(runs, 1 if size == PLAIN else 2 + 3 * size[0])
+                expect_positions(runs, 1 if size == PLAIN else 2 + 3 * size[0])
                 for run in runs:
                     run.expect_workers(text, size, size[0])
 
@@ -189,7 +189,7 @@ def each_shutdown_fails_by_each_error(room):
     for graph in graphs():
         for size in OVER_WORKERS:
             for runs in each_error(room, size, graph, "shutdown", ERRORS):
-                expect_places(runs, 2 * size[0])
+                expect_positions(runs, 2 * size[0])
                 for run in runs:
                     run.expect_workers(graph[1], size, size[0])
 
@@ -199,9 +199,9 @@ def a_close_that_leaves_its_socket_open_keeps_nobody_waiting(room):
     # for each listener and both ends of each line: first one call, and then all
     for file, text in graphs():
         for size in OVER_WORKERS:
-            command = [Program.path, *words_for(size), "--report"]
-            runs = each_place(room, command, file, "unclosed", [EIO])
-            expect_places(runs, 3 * size[0])
+            command = [Program.path, *arguments_for(size), "--report"]
+            runs = each_position(room, command, file, "unclosed", [EIO])
+            expect_positions(runs, 3 * size[0])
             runs.append(Run(room, command, file, "unclosed", 1, EIO, FAR))
             if runs[-1].failed != 3 * size[0]:
                 raise AssertionError(f"{runs[-1].what}: {runs[-1].failed} calls failed")
@@ -226,7 +226,7 @@ def each_read_and_write_of_a_line_fails_by_each_error(room):
 
 
 @case
-def a_worker_whose_session_ended_ill_begins_no_other(room):
+def a_worker_whose_session_failed_begins_no_other(room):
     # a hello begins each session
     for call in ["recv", "send"]:
         number = failed = 1
@@ -249,7 +249,7 @@ def each_open_fails_by_each_error(room):
         unopened = f"boruvka: cannot open {name}\n".encode()
         for size in [PLAIN, *OVER_WORKERS]:
             for runs in each_error(room, size, (file, text), "open", ERRORS, [name]):
-                expect_places(runs, 1 if size == PLAIN else 2)
+                expect_positions(runs, 1 if size == PLAIN else 2)
                 for run in runs:
                     if not run.failed or costs_nothing("open", run.error):
                         run.expect_workers(text, size, size[0])
@@ -272,10 +272,10 @@ def what_holds_a_closed_descriptor_cannot_be_opened(room):
     ]
     for closed, opens, errors in rows:
         for size in OVER_WORKERS:
-            command = ["sh", "-c", f'exec "$0" "$@" {closed}', Program.path, *words_for(size)]
+            command = ["sh", "-c", f'exec "$0" "$@" {closed}', Program.path, *arguments_for(size)]
             for error in ERRORS:
-                runs = each_place(room, command, SMALL_NET, "open", [error])
-                expect_places(runs, opens)
+                runs = each_position(room, command, SMALL_NET, "open", [error])
+                expect_positions(runs, opens)
                 for run in runs:
                     run.expect(3, b"", errors)
                     if bool(run.threads) != (not run.failed or costs_nothing("open", error)):
@@ -290,10 +290,10 @@ def each_read_of_a_file_and_of_standard_input_fails(room):
         reads = -(-len(file) // READ_ROOM) + 1
         for size in [PLAIN, *OVER_WORKERS]:
             for shell in ['exec "$@" "$0"', 'exec "$@" < "$0"']:
-                command = ["sh", "-c", shell, name, Program.path, *words_for(size)]
+                command = ["sh", "-c", shell, name, Program.path, *arguments_for(size)]
                 for error in [*ERRORS, EIO, ETIMEDOUT]:
-                    runs = each_place(room, command, b"", "read", [error])
-                    expect_places(runs, reads)
+                    runs = each_position(room, command, b"", "read", [error])
+                    expect_positions(runs, reads)
                     for run in runs[:-1]:
                         line = file[: READ_ROOM * (run.number - 1)].count(b"\n") + 1
                         run.expect(3, b"", f"boruvka: line {line}: read failed\n".encode())
@@ -324,12 +324,12 @@ def each_write_of_a_forest_fails(room):
     for file, text in [(SMALL_NET, SMALL_FOREST), drawn_graph(17, 6000, 12_000)]:
         for size in [PLAIN, *OVER_WORKERS]:
             for error in [*ERRORS, EIO, ENOSPC, NOTHING]:
-                runs = each_place(room, [Program.path, *words_for(size)], file, "write", [error])
+                runs = each_position(room, [Program.path, *arguments_for(size)], file, "write", [error])
                 expect_writes(runs, text)
 
 
 @case
-def what_standard_error_does_not_take_changes_no_status(room):
+def a_failed_write_to_standard_error_changes_no_status(room):
     # (arguments, a file, the first and the last write that fail, status, output)
     missing = f"{room}/none.gr"
     rows = [
@@ -342,7 +342,7 @@ def what_standard_error_does_not_take_changes_no_status(room):
     ]
     for more, file, first, last, status, output in rows:
         for size in [PLAIN, *OVER_WORKERS]:
-            words = more if "--shards" in more else [*words_for(size), *more]
+            words = more if "--shards" in more else [*arguments_for(size), *more]
             for error in [*ERRORS, EIO, NOTHING]:
                 run = Run(room, [Program.path, *words], file, "write", first, error, last)
                 run.expect(status, output, b"")

@@ -81,7 +81,7 @@ def the_first_screen_of_the_readme(room):
         raise AssertionError(f"{count} commands were found")
 
 
-def awk_rooms(room):
+def awk_folders(room):
     """Returns a folder for each awk that is installed, with a link `awk` to it."""
     found = {it: shutil.which(it) for it in ("mawk", "gawk", "original-awk", "busybox")}
     for name, path in found.items():
@@ -94,7 +94,7 @@ def awk_rooms(room):
 @case
 def the_recipes(room):
     *blocks, last = shell_recipes()
-    for room in awk_rooms(room):
+    for room in awk_folders(room):
         count = expect_shown(room, blocks)
         if count < 25:
             raise AssertionError(f"only {count} commands were found")
@@ -167,9 +167,9 @@ def expect_refused(room, command, name, rows, line, told):
 
 
 @case
-def ways_between_what_is_no_vertex(room):
+def paths_between_what_is_no_vertex(room):
     """They are rejected, and so is a graph that can't be read. No length is printed."""
-    for room in awk_rooms(room):
+    for room in awk_folders(room):
         recipe(room, "A bottleneck")
         for file, start, goal, told in [
             *(("roads.gr", *it, "start and goal are vertices, 1 to 10\n") for it in [(11, 12), (1, 11), (0, 8), (11, 11), (1, "x"), ("01", 1), ("", ""), ("1 ", 1)]),
@@ -181,9 +181,9 @@ def ways_between_what_is_no_vertex(room):
 
 
 @case
-def forests_that_were_cut_off(room):
+def truncated_forests(room):
     """A run that ends while it writes leaves a part of a forest, or nothing. No cluster and no missing path is printed then."""
-    for room in awk_rooms(room):
+    for room in awk_folders(room):
         recipe(room, "Clusters")
         recipe(room, "A bottleneck")
         clusters, way = "awk -v clusters=2 -f clusters.awk", "awk -v start=1 -v goal=8 -f bottleneck.awk"
@@ -199,9 +199,9 @@ def forests_that_were_cut_off(room):
 
 
 @case
-def counts_that_the_recipes_refuse(room):
+def counts_that_the_recipes_reject(room):
     """A count that is mistyped or missing is an error: no other clusters, and no weights with a moved point."""
-    for room in awk_rooms(room):
+    for room in awk_folders(room):
         recipe(room, "Clusters")
         csv = csv_recipe(room)[0]
         for count in ["O4", "4x", "2,5", "1.5", "-2", "two", ""]:
@@ -224,7 +224,7 @@ def counts_that_the_recipes_refuse(room):
 def counts_that_no_clusters_have(room):
     """The roads have ten vertices and two components: by hand."""
     of_components = "".join(f"{v} {1 if v < 9 else 9}\n" for v in range(1, 11))
-    for room in awk_rooms(room):
+    for room in awk_folders(room):
         recipe(room, "Clusters")
         for count, status, output in [
             ("20", 1, "20 clusters are more than the 10 vertices\n"), ("11", 1, "11 clusters are more than the 10 vertices\n"),
@@ -260,7 +260,7 @@ def the_order_of_rows_changes_nothing(room):
     rank, ids = forest_of_names(rows)
     row = {id_: (u, v, weight) for id_, u, v, weight in rows}
     links = "".join(" ".join((*sorted(row[it][:2], key=rank.get), str(row[it][2]))) + "\n" for it in ids)
-    for room in awk_rooms(room):
+    for room in awk_folders(room):
         command = csv_recipe(room)[0]
         show, _ = recipe(room, "Names instead of numbers")
         grouped = set()
@@ -286,7 +286,7 @@ def the_order_of_rows_changes_nothing(room):
 @case
 def no_rows_with_names(room):
     """They have no names, no links and no clusters, whatever files were there before."""
-    for room in awk_rooms(room):
+    for room in awk_folders(room):
         csv = csv_recipe(room)[0]
         show, _ = recipe(room, "Names instead of numbers")
         written(f"{room}/trains.txt", b"")
@@ -297,9 +297,9 @@ def no_rows_with_names(room):
 
 
 @case
-def weights_that_the_recipes_refuse(room):
+def weights_that_the_recipes_reject(room):
     wrong = ["1,9", "x7", "7x", "", "0.755", "1e3", "nan", "0x1F", "-", ".", "1.", ".5", "+1", "1.2.3", "--1", "1 2", "1.-5", "\u0661"]
-    for room in awk_rooms(room):
+    for room in awk_folders(room):
         plain, _, quoted = csv_recipe(room)
         [decimals] = recipe(room, "Decimal weights")
         for weight in wrong:
@@ -311,9 +311,9 @@ def weights_that_the_recipes_refuse(room):
 
 
 @case
-def lines_that_the_recipe_of_a_csv_refuses(room):
+def lines_that_the_recipe_of_a_csv_rejects(room):
     head = "id,from,to,metres"
-    for room in awk_rooms(room):
+    for room in awk_folders(room):
         plain, _, quoted = csv_recipe(room)
         for rows, line in [
             (["p1,Old Mill,Gate,1"], 1),
@@ -353,7 +353,7 @@ def lines_that_the_recipe_of_a_csv_refuses(room):
 @case
 def decimals_that_no_float_tells_apart(room):
     weights = ["90071992547409.93", "90071992547409.92", "-0.01", "-0.00", "0.010", "-92233720368547758.08", "92233720368547758.07"]
-    for room in awk_rooms(room):
+    for room in awk_folders(room):
         [command] = recipe(room, "Decimal weights")
         with open(f"{room}/decimals.gr", "w", encoding="utf-8", newline="") as it:
             it.write("p sp 5 6\r\n" + "".join(f"a {u} {v} {weights[w]}\r\n" for u, v, w in [(1, 2, 0), (2, 1, 1), (2, 3, 5), (3, 4, 6), (4, 5, 3), (5, 4, 2)]))
@@ -383,7 +383,7 @@ def decimals_that_no_float_tells_apart(room):
 @case
 def weights_as_the_program_reads_them(room):
     """Wherever a carriage return is, a weight is negated or its point is moved, and what isn't a weight is rejected."""
-    for room in awk_rooms(room):
+    for room in awk_folders(room):
         [turned] = recipe(room, "A maximum spanning forest")
         [scaled] = recipe(room, "Decimal weights")
         for end in ["\n", "\r\n", "\n\r"]:
@@ -409,7 +409,7 @@ def names_in_files_of_others(room):
     """A byte order mark, tabs, CR LF and a last line without LF aren't part of a name. Another column is rejected."""
     trains = ["Brno Praha 205", "Brno\tOlomouc 80", "Olomouc Praha 250", "Wien Brno 9007199254740993", "Wien  Brno 9007199254740992"]
     wanted = "Brno Olomouc 80\nBrno Praha 205\nBrno Wien 9007199254740992\n"
-    for room in awk_rooms(room):
+    for room in awk_folders(room):
         recipe(room, "Clusters")
         show, _ = recipe(room, "Names instead of numbers")
         number = "awk -f names.awk -f number.awk trains.txt > trains.gr"
@@ -431,7 +431,7 @@ def the_links_that_a_picture_draws_black(room):
     black = ["1 -- 2 [label=9007199254740992", "2 -- 3 [label=-7", "9 -- 10 [label=5"]
     grey = ["1 -- 2 [label=9007199254740993", "3 -- 3 [label=5", "9 -- 10 [label=5"]
     draw = blocks_of("docs/RECIPES.md", "A picture")[0][1]
-    for room in awk_rooms(room):
+    for room in awk_folders(room):
         pasted(room, draw)
         for end in ["\n", "\r\n"]:
             with open(f"{room}/examples/roads.gr", "w", encoding="utf-8", newline="") as it:
@@ -529,7 +529,7 @@ def the_ids_of_a_drawn_csv(room):
     rows = [f"id {at},{name[u]},{name[v]},{length // 100}.{length % 100:02}" for at, (u, v, length) in enumerate(links)]
     id_of = {length: f"id {at}" for at, (_, _, length) in enumerate(links)}
     wanted = "".join(f"{id_of[length]}\n" for length, _, _ in forest_of(200, links))
-    for room in awk_rooms(room):
+    for room in awk_folders(room):
         command = csv_recipe(room)[0]
         with open(f"{room}/pipes.csv", "w", encoding="utf-8", newline="") as it:
             it.write("\r\n".join(["\ufeffid,from,to,km", *rows, ""]))
@@ -538,12 +538,12 @@ def the_ids_of_a_drawn_csv(room):
 
 
 @case
-def faults_of_a_graph_in_parts(room):
+def errors_of_a_graph_in_parts(room):
     """Errors of the file are reported before it is split, or with its part, as the program reports them. No forest is
     written."""
     p, *arcs = "p sp 4 5", "a 1 2 3", "a 2 3 4", "a 3 4 1", "a 4 1 2", "a 1 3 9"
     problems = ["p sp 1O 5", "p sp 4 5x", "p sp 4", "p sp 4 5 0", "p edge 4 5", "p sp -4 5", "p sp 4.0 5", "p sp 0x4 5", "p sp four 5", "p sp 4 5e0", "p"]
-    for room in awk_rooms(room):
+    for room in awk_folders(room):
         cut, solved = (it.replace(".gr 5 &&", ".gr 3 &&") for it in recipe(room, "Parts of a large graph"))
         # (three lines per part; a problem line is added to each)
         for rows, part, told in [
@@ -573,7 +573,7 @@ def faults_of_a_graph_in_parts(room):
 @case
 def a_graph_in_parts_is_the_same_graph(room):
     """Random graphs, one with CR LF, in parts of several lines and of one, compared with the reference."""
-    for room in awk_rooms(room):
+    for room in awk_folders(room):
         recipe(room, "Parts of a large graph")
         for seed, size, end in [(91, 7, "\n"), (92, 40, "\r\n"), (93, 1, "\n")]:  # (the first has a count with a leading zero)
             draw = random.Random(seed)
@@ -788,7 +788,7 @@ def ensured(path, text):
 
 
 @case
-def the_promises_name_what_stands(_room):
+def the_promises_name_what_is_there(_room):
     """Each function, definition and clause that docs/PROMISES.md names is in the file that it links."""
     missed, count = [], 0
     for row in re.findall(r"^\| .* \| (\[.*) \|$", text_of("docs/PROMISES.md"), re.M):
@@ -806,7 +806,7 @@ def the_promises_name_what_stands(_room):
 
 
 @case
-def the_map_names_what_stands(_room):
+def the_map_names_what_is_there(_room):
     """docs/ARCHITECTURE.md names each crate, and lists those of the product after all that they depend on. Each module that
     its table names is in the crate named before it, and each statement in the file of specs/ named before it."""
     text, lines = text_of("docs/ARCHITECTURE.md"), crate_lines()

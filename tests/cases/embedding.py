@@ -115,7 +115,7 @@ def expect_text(room, source, forest):
 
 
 @case
-def the_libraries_have_just_their_names(room):
+def the_libraries_export_only_their_names(room):
     archive, shared = libraries()
     if shutil.which("nm"):
         found = subprocess.run(["nm", "-D", "--defined-only", shared], check=True, capture_output=True, text=True).stdout
@@ -211,7 +211,7 @@ def with_expected(of):
 
 
 @case
-def both_kinds_of_answers_in_one_program(room):
+def both_kinds_of_errors_in_one_program(room):
     """One file uses exceptions, the other std::expected. Without optimization each has its own functions, and a linker that
     mixed them up would keep one."""
     archive, _ = libraries()
@@ -248,7 +248,7 @@ def the_header_for_spans_says_what_it_needs(_room):
 
 
 @case
-def the_headers_stand_behind_macros_of_common_names(_room):
+def the_headers_after_macros_of_common_names(_room):
     """Macros of headers of other systems, before the library's headers. Each header is included twice."""
     names = ["#define min(a, b) ((a) < (b) ? (a) : (b))", "#define max(a, b) ((a) > (b) ? (a) : (b))", "#define small char", "#define linux 1", "#define interface struct"]
     before = ["algorithm", "cstddef", "cstdint", "span", "stdexcept", "string", "type_traits", "vector"]
@@ -279,7 +279,7 @@ auto of_net(std::span<boruvka_link> net) { return boruvka::forest(9, net).size()
 
 
 @case
-def a_dropped_answer_is_warned_of(_room):
+def a_warning_about_a_dropped_result(_room):
     """It may be an error, or the number of links of the forest."""
     of = next(filter(shutil.which, ("g++", "clang++")), None)
     if not of:
@@ -293,7 +293,7 @@ def a_dropped_answer_is_warned_of(_room):
 
 
 @case
-def its_names_stand_beside_those_of_the_system(_room):
+def its_names_with_those_of_the_system(_room):
     source = b"""#include <%s>
 #include <%s>
 using namespace boruvka;
@@ -320,7 +320,7 @@ def lists_and_texts_have_the_programs_forests(room):
 
 
 @case
-def places_are_those_of_the_worked_forests(room):
+def indices_are_those_of_the_worked_forests(room):
     graphs = worked()
     expect((len(graphs) > 7, b"", b""), True, b"", b"")
     for vertices, arcs, forest in graphs:
@@ -332,7 +332,7 @@ def places_are_those_of_the_worked_forests(room):
 
 
 @case
-def faulty_texts_are_told_as_the_program_tells_them(room):
+def malformed_texts_have_the_errors_of_the_program(room):
     with open(f"{ROOT}/include/boruvka.h", encoding="utf-8") as it:
         codes = {name.replace("_", "").lower(): int(code) for name, code in re.findall(r"BORUVKA_(\w+) = (-\d+)", it.read())}
     for source, kind, line in FAULTY:
@@ -347,7 +347,7 @@ def calls_at_their_limits(room):
 
 
 @case
-def each_refusal_has_its_code_in_the_header(room):
+def each_error_has_its_code_in_the_header(room):
     with open(f"{ROOT}/include/boruvka.h", encoding="utf-8") as it:
         found = re.findall(r"BORUVKA_(\w+) = (-\d+)", it.read())
     expect((found, b"", b""), [(name, str(-place)) for place, (name, _) in enumerate(REFUSALS, 1)], b"", b"")
@@ -439,7 +439,7 @@ def calls_take_the_bytes_that_are_documented(room):
 
 
 @case
-def refused_memory_is_told_and_nothing_changed(room):
+def out_of_memory_is_reported_and_nothing_changed(room):
     for is_alone in (False, True):
         first, refused = 1, True
         while refused:

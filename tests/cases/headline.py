@@ -16,7 +16,7 @@ READ = "8d3388ca4f2e80f5755f9b4d191939e54bcd334dab8ff0ae53bb829e5610ff4c"
 
 
 @case
-def the_headline_quotes_what_stands(_room):
+def the_headline_quotes_what_is_there(_room):
     page = text_of(PAGE)
     for name, lines in parts_of(page):
         if name.endswith(".antt"):

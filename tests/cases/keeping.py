@@ -82,7 +82,7 @@ def heavy_arcs_that_join_what_light_ones_leave_apart(_room):
 
 
 @case
-def edges_that_stand_several_times_side_by_side(_room):
+def repeated_edges_next_to_each_other(_room):
     # all of them, or only those in a part of the file, so that a sample misses some
     for seed, (vertices, edges) in enumerate([(2, 40_000), (300, 20_000), (5_000, 30_000), (20_000, 90_000)]):
         draw = random.Random(seed)
@@ -109,7 +109,7 @@ def edges_in_both_directions_take_the_memory_of_one(room):
 
 
 @case
-def many_arcs_of_a_million_vertices_take_the_memory_of_ten_a_vertex(room):
+def many_arcs_of_a_million_vertices_take_the_memory_of_ten_per_vertex(room):
     # 40 million arcs, which would take 640 MB: two links in turn, so that none repeats the link before it
     vertices, arcs = 2**20 + 1, 40_000_000
     name = f"{room}/long.gr"

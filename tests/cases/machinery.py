@@ -84,7 +84,7 @@ class Gated(Folder):
 
 
 @case
-def the_gate_fails_if_a_part_ends_ill_or_tells_nothing(room):
+def make_test_fails_if_a_part_fails_or_reports_nothing(room):
     it = Gated(room)
     passed, program = ["0", "rt: all is proved", "12 passed, 0 failed"], ["0", "3 passed, 0 failed"]
     expect(it.expect(passed, program, 0, "15 passed, 0 failed")[:1], ["rt: all is proved"])
@@ -103,7 +103,7 @@ def the_gate_fails_if_a_part_ends_ill_or_tells_nothing(room):
 
 
 @case
-def the_gate_says_last_what_was_skipped(room):
+def make_test_lists_last_what_was_skipped(room):
     it = Gated(room)
     passed = ["0", "12 passed, 0 failed"]
     program = ["0", "program: one: ok, 0.1 s", "program: two: skipped: there is no fish", "program: three: skipped: no Python has numpy", "3 passed, 0 failed"]
@@ -114,7 +114,7 @@ def the_gate_says_last_what_was_skipped(room):
 
 
 @case
-def the_gate_keeps_what_a_commit_passed(room):
+def make_test_records_what_a_commit_passed(room):
     if not shutil.which("git"):
         raise Skipped("there is no git")
     it = Gated(room)
@@ -131,7 +131,7 @@ def the_gate_keeps_what_a_commit_passed(room):
 
 
 @case
-def the_gate_puts_back_what_was_built(room):
+def make_test_restores_what_was_built(room):
     it = Gated(room)
     it.put("crates/boruvka_c/out/libboruvka.so.1", "an old one")
     it.put("crates/boruvka_within/out/boruvka.wasm", "a module")
@@ -380,7 +380,7 @@ class Chain(Folder):
 
 
 @case
-def a_program_and_a_static_library_come_after_what_they_stand_on(room):
+def a_program_and_a_static_library_come_after_their_dependencies(room):
     it = Chain(room)
     status, told, calls = it.run(["program"], MEET="left right")
     expect((status, calls[:1], sorted(calls[1:3]), calls[3:]), (0, ["lib low"], ["lib left", "lib right"], ["run program"]))
@@ -565,7 +565,7 @@ def a_body_is_refused_by_its_closures_proof(room):
 
 
 @case
-def a_wrong_body_that_cannot_be_tried_is_told(room):
+def a_wrong_body_that_cannot_be_tried_is_reported(room):
     it = Bodies(room)
     right = turned("give(1)", "give(7)")
     for name, text, why in [
@@ -695,7 +695,7 @@ def proofs_that_a_search_finds_get_shorter(room):
 
 
 @case
-def what_the_last_check_refuses_is_put_back(room):
+def what_the_last_check_rejects_is_undone(room):
     it = Proofs(room)
     status, said, told, text, _ = it.run("small", LAST="logic=not-proved functions=1")
     expect((status, said, text), (1, "small: 2 of 3 edits, 1 lemmas, 0 of 20 lines gone, NOT PROVED, put back\n", LONG))

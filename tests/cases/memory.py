@@ -14,7 +14,7 @@ def refused(room, words, source, first, last, size=0):
     return found, len(told)
 
 
-def each_refused(room, words, source, output, errors, status=0):
+def each_fails(room, words, source, output, errors, status=0):
     """Makes each allocation fail in turn, alone and with all that follow, until there are no more."""
     for is_alone in (False, True):
         first = 1
@@ -32,7 +32,7 @@ def each_refused(room, words, source, output, errors, status=0):
             raise AssertionError(f"only {first - 1} allocations were refused: is the library preloaded?")
 
 
-def each_refused_over_workers(room, source, output, workers, shards, size=0, fewest=50):
+def each_fails_over_workers(room, source, output, workers, shards, size=0, fewest=50):
     """Does the same over workers. If a worker runs out of memory, it is left out or its line is closed, and the run continues.
     At least `fewest` allocations have the size or more."""
     words = [*over(workers, shards), "--report"]
@@ -57,39 +57,39 @@ def expect_right_or_no_memory(found, output, workers, shards):
 
 
 @case
-def the_first_allocation_refused(room):
+def the_first_allocation_fails(room):
     found, count = refused(room, ["--plain"], SMALL_NET, 1, None)
     expect((found[0], found[1], found[2]), 4, b"", NO_MEMORY)
     expect((count > 0, b"", b""), True, b"", b"")
 
 
 @case
-def each_allocation_of_a_run_refused(room):
-    each_refused(room, ["--plain", "--report"], SMALL_NET, SMALL_FOREST, SMALL_REPORT)
+def each_allocation_of_a_run_fails(room):
+    each_fails(room, ["--plain", "--report"], SMALL_NET, SMALL_FOREST, SMALL_REPORT)
 
 
 @case
-def each_allocation_of_a_longer_run_refused(room):
+def each_allocation_of_a_longer_run_fails(room):
     file, text = drawn_graph(5, 800, 3000)
-    each_refused(room, ["--plain"], file, text, b"")
+    each_fails(room, ["--plain"], file, text, b"")
 
 
 @case
-def each_allocation_of_a_named_file_refused(room):
+def each_allocation_of_a_named_file_fails(room):
     name = written(f"{room}/net.gr", SMALL_NET)
-    each_refused(room, ["--plain", name], b"", SMALL_FOREST, b"")
+    each_fails(room, ["--plain", name], b"", SMALL_FOREST, b"")
 
 
 @case
-def each_allocation_of_a_run_over_workers_refused(room):
-    each_refused_over_workers(room, SMALL_NET, SMALL_FOREST, 2, 4)
-    each_refused_over_workers(room, SMALL_NET, SMALL_FOREST, 0, 2)
+def each_allocation_of_a_run_over_workers_fails(room):
+    each_fails_over_workers(room, SMALL_NET, SMALL_FOREST, 2, 4)
+    each_fails_over_workers(room, SMALL_NET, SMALL_FOREST, 0, 2)
     # (with weights of 64 bits)
-    each_refused_over_workers(room, *drawn_graph(9, 6, 9, 2**40), 2, 2)
+    each_fails_over_workers(room, *drawn_graph(9, 6, 9, 2**40), 2, 2)
 
 
 @case
-def a_worker_that_finds_no_memory_is_given_up(room):
+def a_worker_that_runs_out_of_memory_is_left_out(room):
     # each allocation of its thread fails alone. Then its line is closed, unless a scan can do without that allocation, and the
     # run continues (the numbers of allocations differ from run to run)
     words = [Program.path, *over(1, 1), "--report"]
@@ -108,11 +108,11 @@ def a_worker_that_finds_no_memory_is_given_up(room):
 
 
 @case
-def each_large_allocation_of_a_run_by_threads_refused(room):
+def each_large_allocation_of_a_run_by_threads_fails(room):
     # (many vertices, and enough links of the forest for threads to sort them)
     file, text = drawn_graph(11, 2**17 + 1, 90_000)
     expect((text.count(b"\na ") > 2**16, b"", b""), True, b"", b"")
-    each_refused_over_workers(room, file, text, 2, 2, 2**19, 10)
+    each_fails_over_workers(room, file, text, 2, 2, 2**19, 10)
 
 
 @case
@@ -126,17 +126,17 @@ def no_allocation_of_twice_the_largest_list(room):
 
 
 @case
-def each_allocation_of_the_help_refused(room):
-    each_refused(room, ["--help"], b"", ran(["--help"])[1], b"")
+def each_allocation_of_the_help_fails(room):
+    each_fails(room, ["--help"], b"", ran(["--help"])[1], b"")
 
 
 @case
-def each_allocation_of_wrong_words_refused(room):
+def each_allocation_of_invalid_arguments_fails(room):
     more = b"\n\nFor more information, try '--help'.\n"
     workers = b"error: invalid value '65' for '--workers <N>': 65 is not in 0..=64"
     shards = b"error: invalid value '0' for '--shards <S>': 0 is not in 1..=4096"
-    each_refused(room, ["--workers", "65"], SMALL_NET, b"", workers + more, 2)
-    each_refused(room, ["--shards", "0"], SMALL_NET, b"", shards + more, 2)
+    each_fails(room, ["--workers", "65"], SMALL_NET, b"", workers + more, 2)
+    each_fails(room, ["--shards", "0"], SMALL_NET, b"", shards + more, 2)
 
 
 def in_space(size, words, source=b""):

@@ -33,7 +33,7 @@ def how_much_was_read_of_a_file(room):
 
 
 @case
-def nothing_is_told_unasked_or_of_a_short_file(_room):
+def nothing_is_shown_unasked_or_for_a_short_file(_room):
     for words in MODES:
         expect(ran(words, LONG_NET), 0, SMALL_FOREST, b"")
         expect(ran([*words, "--progress"], SMALL_NET), 0, SMALL_FOREST, b"")
@@ -44,7 +44,7 @@ def nothing_is_told_unasked_or_of_a_short_file(_room):
 
 
 @case
-def a_fault_begins_a_line(_room):
+def an_error_begins_a_line(_room):
     # so that a search in a log finds it as a line of the program
     malformed = 20_000 * COMMENT + b"x\n" + SMALL_NET
     for words in MODES:

@@ -179,7 +179,7 @@ def one_file_has_the_version(_room):
 
 
 @case
-def the_program_tells_the_version(_room):
+def the_program_prints_the_version(_room):
     for words in [["--version"], ["-V"], ["--plain", "--version"]]:
         expect(ran(words, SMALL_NET), 0, f"boruvka {version()}\n".encode(), b"")
 
@@ -689,7 +689,7 @@ def the_package_of_python_says_what_it_needs(room):
 
 
 @case
-def a_package_tells_what_the_gate_passed(room):
+def a_package_says_what_make_test_passed(room):
     """In a small repository: the record of a `make test` that passed is valid only for its commit."""
     needs("git")
     libraries()

@@ -154,7 +154,7 @@ def no_thread_outlives_the_program(room):
 
 
 @case
-def answers_that_make_no_forest(room):
+def answers_that_form_no_forest(room):
     # answers without offers miss the first link; with one offer per answer, two rounds (the most for six vertices) aren't enough
     for offers, sizes, why in [
         ("0", [(1, 1), (1, 3), (2, 4), (64, 64)], b"link 1 2 17 was missed"),
@@ -177,7 +177,7 @@ def one_of_sixty_four_workers_that_is_left_out(room):
 
 
 @case
-def sockets_that_give_and_take_a_byte_at_a_time(room):
+def sockets_that_move_a_byte_at_a_time(room):
     report, _ = failed_from(room, SMALL_NET, SMALL_FOREST, "none", 1, {"SHORT": "1"})
     if (report.answered, report.closed) != (3 * SHARDS, 0):
         raise AssertionError(f"a worker was lost: {vars(report)}")

@@ -37,7 +37,7 @@ def drawn():
     return file, text
 
 
-def large_net(room):
+def large_graph(room):
     """Returns the name of this file, and the forest's text."""
     file, text = drawn()
     return written(f"{room}/large.gr", file), text
@@ -45,7 +45,7 @@ def large_net(room):
 
 @case
 def the_bytes_of_one_thread(room):
-    name, text = large_net(room)
+    name, text = large_graph(room)
     status, output, report = ran(["--plain", "--report", name])
     expect((status, output, b""), 0, text, b"")
     for threads in THREADS:
@@ -63,7 +63,7 @@ def threads_of_malformed_files(_room):
 
 
 @case
-def faults_anywhere_by_threads(room):
+def errors_anywhere_by_threads(room):
     # one thread reads the first MiB, and threads share the pieces after it
     file, _ = drawn()
     lines = file.splitlines(keepends=True)
@@ -122,7 +122,7 @@ def an_input_byte_by_byte_by_threads(room):
 
 
 @case
-def reads_that_fail_behind_what_threads_share(room):
+def reads_that_fail_after_what_threads_share(room):
     # 16 reads give the first MiB, one more gives the rest, and the next finds the end
     file, _ = drawn()
     front, behind = file[: 1 << 20].count(b"\n") + 1, file.count(b"\n") + 1
@@ -146,7 +146,7 @@ def reads_that_fail_behind_what_threads_share(room):
 
 @case
 def threads_with_small_stacks(room):
-    name, text = large_net(room)
+    name, text = large_graph(room)
     for size in [128 << 10, 1 << 20]:
 
         def limit(size=size):
@@ -158,7 +158,7 @@ def threads_with_small_stacks(room):
 
 @case
 def threads_on_one_processor(room):
-    name, text = large_net(room)
+    name, text = large_graph(room)
 
     def limit():
         os.sched_setaffinity(0, {min(os.sched_getaffinity(0))})
@@ -169,7 +169,7 @@ def threads_on_one_processor(room):
 
 @case
 def threads_that_do_not_start(room):
-    name, text = large_net(room)
+    name, text = large_graph(room)
     for first in [1, 2, 5]:
         for threads in THREADS:
             environment = {"FAIL_CALL": "thread", "FAIL_NUMBER": str(first), "FAIL_LAST": "1000000"}
@@ -183,7 +183,7 @@ def threads_that_do_not_start(room):
 def the_threads_that_are_asked_for(room):
     # on any number of processors exactly so many threads run at once, the first included; the file is long enough for more than
     # fifty, and so are two files
-    name, text = large_net(room)
+    name, text = large_graph(room)
     for names in [[name], [name, name]]:
         for threads in THREADS:
             found, told = told_by(room, [Program.path, *by(threads), *names], b"", {"PROCESSORS": "1", "STARTED": "0"})
@@ -213,7 +213,7 @@ def a_long_file_by_threads_takes_no_more_memory(room):
 
 @case
 def a_file_that_grows_no_further_by_threads(room):
-    name, text = large_net(room)
+    name, text = large_graph(room)
 
     def limit():
         resource.setrlimit(resource.RLIMIT_FSIZE, (300_000, 300_000))

@@ -68,7 +68,7 @@ def by_node():
     return [node, "--experimental-wasm-memory64", "--no-warnings", f"{ROOT}/tests/cases/within.mjs", module()]
 
 
-def expect_answers(of):
+def expect_results(of):
     """Lists, texts in buffers of several sizes, and malformed texts give the same as in the program."""
     expect(run(of("list"), listed(SMALL_NET)), 0, SMALL_FOREST, b"")
     for seed, vertices, arcs in [(1, 1, 3), (2, 9, 0), (3, 40, 30), (4, 300, 900), (5, 50, 4000), (6, 5000, 9000)]:
@@ -136,7 +136,7 @@ def least(room, shape, vertices, arcs):
 
 
 @case
-def the_least_memory_beside_that_of_malloc(room):
+def the_least_memory_compared_with_malloc(room):
     """It is at most 1.5 times as much, for these graphs of more than a few links; for indices 1.6 times as much."""
     for graph in [("grid", 10_000, 0), ("drawn", 1000, 20_000)]:
         for call, (found, peak) in least(room, *graph).items():
@@ -173,12 +173,12 @@ def the_most_memory_that_calls_need(room):
 
 
 @case
-def the_modules_texts_of_refusals(room):
+def the_modules_texts_of_errors(room):
     expect(run([*by_node(), "codes"]), 0, TEXTS, b"")
 
 
 @case
-def the_page_has_a_remedy_for_each_refusal_of_a_line(room):
+def the_page_has_a_remedy_for_each_error_of_a_line(room):
     with open(f"{ROOT}/web/causes.js", encoding="utf-8") as it:
         causes = it.read().partition("const CAUSES = {")[2].partition("\n};")[0]
     told = {word or name for word, name in re.findall(r"^  (?:'([^']+)'|(\w+)): '", causes, re.M)}
@@ -188,7 +188,7 @@ def the_page_has_a_remedy_for_each_refusal_of_a_line(room):
 @case
 def lists_and_texts_within_memory(room):
     made = caller(room)
-    expect_answers(lambda *words: [made, *words])
+    expect_results(lambda *words: [made, *words])
 
 
 @case
@@ -203,13 +203,13 @@ def threads_within_memory_of_their_own(room):
 
 
 @case
-def the_module_answers_as_the_program(room):
+def the_module_gives_what_the_program_gives(room):
     words = by_node()
-    expect_answers(lambda *more: [*words, *more])
+    expect_results(lambda *more: [*words, *more])
 
 
 @case
-def the_module_tells_which_edges_were_chosen(room):
+def the_module_finds_which_edges_were_chosen(room):
     """The indices are those of the worked forests' links. Their first arcs are found here."""
     words = [*by_node(), "places"]
     for vertices, arcs, forest in worked():
@@ -237,7 +237,7 @@ def the_module_labels_components(room):
 
 
 @case
-def the_module_finds_bad_ends(room):
+def the_module_finds_bad_endpoints(room):
     words = [*by_node(), "bad"]
     for source, found in [(b"3 2\n1 2 0\n2 3 0\n", b"2 2 10100\n"), (b"2 2\n1 2 0\n2 3 0\n", b"1 1 10100\n"), (b"0 1\n1 1 0\n", b"0 0 10100\n")]:
         expect(run(words, source), 0, found, b"")

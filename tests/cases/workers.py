@@ -41,7 +41,7 @@ def the_report_for_each_number_of_workers_and_shards(_room):
 
 
 @case
-def two_workers_and_sixty_four_shards_where_no_words_say_so(_room):
+def two_workers_and_sixty_four_shards_by_default(_room):
     line = b"vertices=6 links=8 rounds=2 shards=64 asked=192 answered=192 alone=0 closed=0 total=13\n"
     expect(ran(["--report"], SMALL_NET), 0, SMALL_FOREST, line)
     expect(ran(["--report", "--workers", "2", "--shards", "64"], SMALL_NET), 0, SMALL_FOREST, line)
@@ -115,7 +115,7 @@ def answers_that_are_read_by_64_kib(room):
 
 
 @case
-def what_is_refused_is_refused_before_workers_are_asked(_room):
+def an_error_is_reported_before_workers_are_asked(_room):
     for words in [[], over(0, 1), over(2, 4)]:
         expect(ran([*words, "--report"], b"a 1 2 3\np sp 2 1\n"), 1, b"", b"boruvka: line 1: NoProblemYet\n")
         expect(ran([*words, "--report"], b"p sp 2 2\na 1 2 5\n"), 1, b"", b"boruvka: line 3: MissingArcs\n")
@@ -140,7 +140,7 @@ def one_shard_of_more_links_than_a_shard_may_have(room):
 
 
 @case
-def shards_that_are_just_full(room):
+def shards_that_are_exactly_full(room):
     # two of links that fit 32 bits, and one with a weight that doesn't, so that each link takes sixteen bytes of its frame
     for shards, last in [(2, b"a 1 2 2\n"), (1, b"a 1 2 -2147483649\n")]:
         name = many_links(f"{room}/full.gr", shards * 2**24, last)
@@ -247,7 +247,7 @@ def each_worker_that_is_asked_for_is_started(room):
 
 
 @case
-def shards_past_255_of_more_than_4096_links(_room):
+def more_than_255_shards_of_more_than_4096_links(_room):
     file, text = forty_times(13, 600, 30_000)
     expect_healthy([], file, text, 2, 280)
 

@@ -7,7 +7,7 @@ from dataclasses import dataclass, replace
 from cases.running import NO_MEMORY, SECONDS, Program, Report, expect, run, told_by, total_of, written
 from cases.sockets import NOTHING
 from cases.streams import LEAST_PIECE, READ_ROOM
-from soaking.judging import answer_broken_off, answer_to, answer_to_files, rounds_of
+from soaking.judging import result_for_failed_read, result_for_text, result_for_files, rounds_of
 
 
 class Limits:
@@ -63,7 +63,7 @@ def found_of(room, case, source):
     return Found(*found, told)
 
 
-def expect_answer(case, found, answer):
+def expect_result(case, found, answer):
     """Expects this result, with its report if one was asked for."""
     if found.status or answer.status or not case.report:
         expect((found.status, found.output, found.errors), answer.status, answer.output, answer.errors)
@@ -87,17 +87,17 @@ def expect_failed_read(case, found):
     """Expects a failed read to be reported with its line, or a read that found the end to have truncated the text."""
     number = case.fails["FAIL_NUMBER"]
     room = 1 if "SHORT" in case.fails else READ_ROOM
-    come, answer = case.text[: (number - 1) * room], answer_to(case.text)
+    come, answer = case.text[: (number - 1) * room], result_for_text(case.text)
     if found.failed:
-        answer = answer_to(come) if case.fails["FAIL_ERROR"] == NOTHING else answer_broken_off(come)
+        answer = result_for_text(come) if case.fails["FAIL_ERROR"] == NOTHING else result_for_failed_read(come)
     elif not answer.status and number <= -(-len(case.text) // room) + 1:
         raise AssertionError(f"read {number} didn't fail")
-    expect_answer(case, found, answer)
+    expect_result(case, found, answer)
 
 
 def expect_failed_write(case, found):
     """Expects a failed write to be reported with the bytes written before it. If it was to standard error, no line is there."""
-    answer, number, output = answer_to(case.text), case.fails["FAIL_NUMBER"], found.output
+    answer, number, output = result_for_text(case.text), case.fails["FAIL_NUMBER"], found.output
     is_told = found.failed == 1
     if answer.status or found.status == 0:
         if not answer.status and not (case.report and is_told):
@@ -127,7 +127,7 @@ def expect_right(case, found):
     elif case.library == "refusing" and found.failed and found.status == 4:
         expect((found.status, found.output, found.errors), 4, b"", NO_MEMORY)
     else:
-        expect_answer(case, found, answer_to_files(case.files) if case.files else answer_to(case.text))
+        expect_result(case, found, result_for_files(case.files) if case.files else result_for_text(case.text))
 
 
 def runs_of(case):
@@ -135,7 +135,7 @@ def runs_of(case):
     return [case, replace(case, plain=True, words=["--plain", *case.words])] if case.sort == "workers" else [case]
 
 
-def wrong_with(room, case):
+def what_is_wrong_with(room, case):
     """Returns what is wrong with a case's runs, in which run, and its result, or None if nothing is wrong."""
     for it in runs_of(case):
         found = None

@@ -232,7 +232,7 @@ def parts_of(draw, arcs):
     return parts
 
 
-def with_fault(draw, vertices, text):
+def with_error(draw, vertices, text):
     """Draws a text that can't be joined with others of so many vertices, if at all, or None for a missing file."""
     kind = draw.choices(["changed", "other", "none"], [5, 4, 1])[0]
     if kind == "changed":
@@ -253,7 +253,7 @@ def drawn_files(draw):
             raise AssertionError(f"the judge reads another graph than was spelled: {text!r:.600}")
     if draw.random() < 0.5:
         for at in draw.sample(range(len(texts)), draw.choice([1, 1, 2])):
-            texts[at] = with_fault(draw, vertices, texts[at])
+            texts[at] = with_error(draw, vertices, texts[at])
     files = list(zip(draw.sample(NAMES, len(texts)), texts))
     # the same file again, or standard input, which may be given once
     return files + [draw.choice(files)] * (draw.random() < 0.1)
@@ -327,7 +327,7 @@ def drawn_failure(draw, case, vertices):
     return {**fails, "SHORT": 1} if is_short else fails
 
 
-def drawn_refusal(draw, case):
+def drawn_failures(draw, case):
     """Draws which allocations fail."""
     first = log_drawn(draw, 40 if case.plain else 1000)
     return {"REFUSE_FIRST": first, "REFUSE_LAST": draw.choice([first, first, first + draw.randint(1, 9), FAR])}
@@ -347,7 +347,7 @@ def drawn_case(seed, number):
     if sort == "failing":
         case.library, case.fails = "failing", drawn_failure(draw, case, vertices)
     if sort == "refused memory":
-        case.library, case.fails = "refusing", drawn_refusal(draw, case)
+        case.library, case.fails = "refusing", drawn_failures(draw, case)
     # more than a page may come through a pipe in pieces, and then it isn't known after which piece a read fails
     if case.given == "piped" and case.fails.get("FAIL_CALL") == "read" and len(text) > PAGE:
         case.given = "redirected"

@@ -31,18 +31,18 @@ class Graph:
     def __init__(self):
         self.vertices, self.stated, self.arcs = None, None, []
 
-    def fault_of(self, line):
+    def error_of(self, line):
         """Returns the error of the next line, or None. Then the line's content is added."""
         fields = FIELD.findall(line)
         if not fields or fields[0].startswith(b"c"):
             return None
         if fields[0] == b"p":
-            return self.fault_of_problem(fields)
+            return self.error_of_problem(fields)
         if fields[0] == b"a":
-            return self.fault_of_arc(fields)
+            return self.error_of_arc(fields)
         return "UnknownLine"
 
-    def fault_of_problem(self, fields):
+    def error_of_problem(self, fields):
         if self.vertices is not None:
             return "SecondProblem"
         if len(fields) != 4 or fields[1] != b"sp" or not all(DIGITS.fullmatch(it) for it in fields[2:]):
@@ -53,7 +53,7 @@ class Graph:
         self.vertices, self.stated = vertices, arcs
         return None
 
-    def fault_of_arc(self, fields):
+    def error_of_arc(self, fields):
         if self.vertices is None:
             return "NoProblemYet"
         if len(self.arcs) == self.stated:
@@ -76,7 +76,7 @@ def judged(text, is_whole=True):
         lines.append(rest)
     graph = Graph()
     for number, line in enumerate(lines, 1):
-        kind = graph.fault_of(line)
+        kind = graph.error_of(line)
         if kind:
             raise Fault(number, kind)
     if is_whole and graph.vertices is None:
@@ -102,23 +102,23 @@ def refusal(why, status=1):
     return Answer(status, b"", f"boruvka: {why}\n".encode())
 
 
-def answer_to(text):
+def result_for_text(text):
     """Returns the expected result for a text if nothing fails."""
     try:
         graph = judged(text)
     except Fault as it:
         return refusal(f"line {it.line}: {it.kind}")
-    return answer_of(graph.vertices, graph.arcs)
+    return result_for_graph(graph.vertices, graph.arcs)
 
 
-def answer_of(vertices, arcs):
+def result_for_graph(vertices, arcs):
     """Returns the expected result for a graph if nothing fails."""
     forest = forest_of(vertices, arcs)
     links = sum(u != v for u, v, _ in arcs)
     return Answer(0, forest_text(vertices, forest), b"", vertices, links, forest)
 
 
-def answer_to_files(files):
+def result_for_files(files):
     """Returns the expected result for several files, each a name and a text, or None for a missing file. The first error is
     reported. Standard input, which is `-`, may be given once."""
     vertices, arcs, names = None, [], []
@@ -134,10 +134,10 @@ def answer_to_files(files):
             return refusal(f"{escaped(name)}: {graph.vertices} vertices in place of {vertices}")
         vertices = graph.vertices
         arcs += graph.arcs
-    return answer_of(vertices, arcs)
+    return result_for_graph(vertices, arcs)
 
 
-def answer_broken_off(text):
+def result_for_failed_read(text):
     """Returns the expected result if a read fails after this text."""
     try:
         judged(text, is_whole=False)
