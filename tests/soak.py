@@ -136,12 +136,12 @@ def self_test(room, seed):
     told, planted, wrongly = reported_plants(room, seed)
     of_programs = reported_programs(room, seed)
     for name in PLANTS:
-        print(f"soak: {name}: told {told[name]} of {planted[name]}")
+        print(f"soak: {name}: reported {told[name]} of {planted[name]}")
     for name, is_wrong in of_programs.items():
-        print(f"soak: {name}: {'told' if is_wrong else 'NOT TOLD'}")
+        print(f"soak: {name}: {'reported' if is_wrong else 'NOT REPORTED'}")
     failed = sum(told[name] < max(1, planted[name]) for name in PLANTS) + list(of_programs.values()).count(False)
     print(f"{wrongly} right outputs were reported as wrong")
-    print(f"{len(PLANTS) + len(of_programs) - failed} plants told, {failed} not told")
+    print(f"{len(PLANTS) + len(of_programs) - failed} plants reported, {failed} not reported")
     return 1 if failed or wrongly else 0
 
 

@@ -107,7 +107,7 @@ def why_unusable(edit, texts):
         # each change is looked up in the text that the earlier changes made
         text = made[file]
         if text.count(old) != 1:
-            return "an old text doesn't stand once in its file"
+            return "an old text doesn't occur exactly once in its file"
         made[file] = text.replace(old, new)
         it = function_at(text, text.index(old))
         # (everything outside the body, clauses included, has to be unchanged)
@@ -329,7 +329,7 @@ def main():
         signal.signal(it, cut_off)
     count = Counter()
     for name in sorted(never_tried(lines)) if names == list(lines) else []:
-        say(f"{name}: BAD EDIT: it stands in no folder whose edits are tried")
+        say(f"{name}: BAD EDIT: it is in a folder whose edits are not tried")
         count["unfit"] += 1
     folders, proved = ["wrong-bodies"] + ["must-fail"] * words.must_fail, []
     # before any copy is made, because the check of a crate builds those that it depends on

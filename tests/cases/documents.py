@@ -494,7 +494,7 @@ def lines_that_are_no_points(room):
         found = pasted(room, "timeout 10 python3 nearest.py 1 < points.csv")
         if found != (1, f"line {line}: {told}: {why}\n"):
             raise AssertionError(f"{rows}: {found!r:.600}")
-    for rows, count, told in [("", 2, "there are no points\n"), ("0,0\n", 0, "how many are nearest is 1 or more\n"), ("0,0\n", -1, "how many are nearest is 1 or more\n")]:
+    for rows, count, told in [("", 2, "there are no points\n"), ("0,0\n", 0, "the number of nearest points is 1 or more\n"), ("0,0\n", -1, "the number of nearest points is 1 or more\n")]:
         written(f"{room}/points.csv", rows.encode())
         if pasted(room, f"python3 nearest.py {count} < points.csv") != (1, told):
             raise AssertionError(f"{rows!r}, {count}: {pasted(room, f'python3 nearest.py {count} < points.csv')!r:.600}")
@@ -596,7 +596,7 @@ def a_graph_in_parts_is_the_same_graph(room):
                 if found != (0, wanted):
                     raise AssertionError(f"{name}: {found!r:.600}")
             # files that are there already aren't joined with the parts of another file
-            if pasted(room, f"sh parts.sh drawn.gr {size}") != (1, "part.aa.gr is there\n"):
+            if pasted(room, f"sh parts.sh drawn.gr {size}") != (1, "part.aa.gr exists already\n"):
                 raise AssertionError("parts were written next to others")
         # split has 676 names of two letters; if it needs more, it fails, and nothing is joined
         for name in glob.glob(f"{room}/part.*"):

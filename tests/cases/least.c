@@ -220,7 +220,7 @@ static struct graph graph_of(const char *shape, uint32_t n, size_t m) {
 }
 
 /* The result of a call in so many bytes, or with malloc if there is no block. The links or the text go to `out`. */
-typedef int64_t result_for_graph(const struct graph *graph, void *block, size_t size, void *out);
+typedef int64_t result_of(const struct graph *graph, void *block, size_t size, void *out);
 
 static int64_t of_links(const struct graph *graph, void *block, size_t size, void *out) {
     memcpy(out, graph->links, graph->m * sizeof *graph->links);
@@ -257,7 +257,7 @@ static int64_t of_labels(const struct graph *graph, void *block, size_t size, vo
                       : boruvka_labels_within((struct boruvka_memory){block, size}, graph->forest, graph->count, out, graph->n);
 }
 
-static void tell(const struct graph *graph, result_for_graph *answer, size_t out_size, size_t told) {
+static void tell(const struct graph *graph, result_of *answer, size_t out_size, size_t told) {
     unsigned char *out = block_of(out_size), *wanted = block_of(out_size);
     live = peak = 0;
     const int64_t count = answer(graph, 0, 0, wanted);

@@ -214,10 +214,10 @@ def what_cases_would_skip_is_installed(room):
     modules = ("scipy", "sklearn", "pandas", "matplotlib", "pytest", "psycopg2", "gdal", "dask", "distributed", "networkx", "mypy")
     lacking = ["fish", "chromium-driver", "webkit2gtk-driver", "libwebkit2gtk-4.1-0", "node-typescript", *(f"python3-{name}" for name in modules)]
     lacking += ["postgresql-16-pgrouting"]
-    expect(it.run(), ([f"installs {' '.join(lacking)}"], ["update", *lacking]))
+    expect(it.run(), ([f"installing {' '.join(lacking)}"], ["update", *lacking]))
     # without a network, with an unknown package, and without apt-get, `make test` runs anyway
     it.put_apt_get("exit 100")
-    expect(it.run(), ([f"installs {' '.join(lacking)}", *(f"{name} can't be installed here" for name in lacking)], ["update", *lacking]))
+    expect(it.run(), ([f"installing {' '.join(lacking)}", *(f"{name} can't be installed here" for name in lacking)], ["update", *lacking]))
     it.put_apt_get('case "$*" in *fish) exit 100;; esac')
     expect(it.run()[0][1:], ["fish can't be installed here"])
     os.remove(f"{room}/bin/pg_config")
@@ -569,8 +569,8 @@ def a_wrong_body_that_cannot_be_tried_is_reported(room):
     it = Bodies(room)
     right = turned("give(1)", "give(7)")
     for name, text, why in [
-        ("a", turned("give(9)", "give(7)"), "an old text doesn't stand once in its file"),
-        ("b", turned("give", "take"), "an old text doesn't stand once in its file"),
+        ("a", turned("give(9)", "give(7)"), "an old text doesn't occur exactly once in its file"),
+        ("b", turned("give", "take"), "an old text doesn't occur exactly once in its file"),
         ("c", turned("give(1)", "give(7)", why=""), "it has no line that says why"),
         ("d", turned("give(1)", "give(7)", file="src/gone.rt"), "there is no file src/gone.rt of code"),
         ("e", "why: `one`: its clause\nfile: src/lib.rt\nnew: give(7)\n", "a new text has no old one before it"),
@@ -583,7 +583,7 @@ def a_wrong_body_that_cannot_be_tried_is_reported(room):
     it.put_edit("b", right, folder="wrong_bodies")
     it.put_edit("c", right, crate="third")
     told = ["small/wrong-bodies/a.edits: BAD EDIT: its name doesn't end in .edit"]
-    told += [f"{it}.edit: BAD EDIT: it stands in no folder whose edits are tried" for it in ("small/wrong_bodies/b", "third/wrong-bodies/c")]
+    told += [f"{it}.edit: BAD EDIT: it is in a folder whose edits are not tried" for it in ("small/wrong_bodies/b", "third/wrong-bodies/c")]
     it.expect(1, [*told, "3 could not be tried", "0 wrong bodies refused, 0 survived"], 1)
     it.expect(2, ["tests/wrong_bodies.py: crates.txt has no crate third"], 0, ["third"])
 
