@@ -9,7 +9,7 @@ from cases.sockets import NOTHING
 from soaking.judging import FIELD, LEAST_WEIGHT, MOST_ARCS, MOST_VERTICES, MOST_WEIGHT, SIGNED, Fault, judged, number_of
 
 # and how often they come
-SORTS = {"plain": 5, "workers": 4, "failing": 4, "refused memory": 3, "malformed": 8, "several files": 5}
+SORTS = {"plain": 5, "workers": 4, "failing": 4, "out of memory": 3, "malformed": 8, "several files": 5}
 FAR = 10**9
 MOST_WORKERS, MOST_SHARDS = 64, 4096
 PAGE = 4096
@@ -346,7 +346,7 @@ def drawn_case(seed, number):
     case = Case(sort, text, [], given, is_plain, *drawn_workers(draw), draw.random() < 0.5)
     if sort == "failing":
         case.library, case.fails = "failing", drawn_failure(draw, case, vertices)
-    if sort == "refused memory":
+    if sort == "out of memory":
         case.library, case.fails = "refusing", drawn_failures(draw, case)
     # more than a page may come through a pipe in pieces, and then it isn't known after which piece a read fails
     if case.given == "piped" and case.fails.get("FAIL_CALL") == "read" and len(text) > PAGE:
@@ -363,6 +363,6 @@ def drawn_text(draw, sort):
     graph = judged(text)
     if (graph.vertices, graph.arcs) != (vertices, arcs):
         raise AssertionError(f"the judge reads another graph than was spelled: {text!r:.600}")
-    if sort == "malformed" or sort in ("failing", "refused memory") and draw.random() < 0.15:
+    if sort == "malformed" or sort in ("failing", "out of memory") and draw.random() < 0.15:
         return within_memory(changed(draw, text))
     return text, vertices
