@@ -21,13 +21,13 @@ SOURCES := $(shell find crates -path '*/out' -prune -o -type f \( -name '*.rt' -
 VERSION := $(shell sed -n 's/^pub const RELEASE: &str = "\(.*\)";$$/\1/p' crates/program_words/src/version.rt)
 MAJOR := $(firstword $(subst ., ,$(VERSION)))
 SHARED := libboruvka.so.$(VERSION)
-# What is installed below LIBDIR for those who look for the libraries.
+# The files below LIBDIR with which pkg-config and CMake find the libraries.
 STAMPED := pkgconfig/boruvka.pc pkgconfig/boruvka_within.pc cmake/boruvka/boruvka-config.cmake cmake/boruvka/boruvka-config-version.cmake
-# What the README sends its reader to, as far as it isn't code.
+# The documents and examples that the README links to.
 DOCUMENTS := LICENSE README.md SECURITY.md CHANGELOG.md CONTRIBUTING.md docs/roads.svg docs/rounds.svg
 DOCUMENTS += $(patsubst %,docs/%.md,ARCHITECTURE DECISIONS GR_FORMAT HEADLINE PERFORMANCE PROMISES PROTOCOL RECIPES)
 DOCUMENTS += examples/small.gr examples/roads.gr $(addprefix examples/embed/,forest.c forest.cpp forest.py forest.rs within.c)
-# (a path may have a space, so it stands in single quotes for the shell)
+# (a path may have a space, so it is in single quotes for the shell)
 quoted = '$(subst ','\'',$(1))'
 BIN = $(call quoted,$(DESTDIR)$(BINDIR))
 LIB = $(call quoted,$(DESTDIR)$(LIBDIR))
@@ -41,7 +41,7 @@ FISH_COMPLETIONS = $(call quoted,$(DESTDIR)$(FISHDIR))
 
 .PHONY: help try run lib wasm page postgres test web-test wrong soak built install install-program install-libraries install-page install-documents uninstall dist may-pack bench clean
 
-# Each of them goes side by side by itself, as far as the machine holds.
+# Each command runs its own jobs in parallel, as far as the machine allows.
 .NOTPARALLEL:
 
 help:
@@ -65,7 +65,7 @@ help:
 	@echo 'make bench      compare its speed with a C++ program; needs Python 3, a C++17 compiler and GNU time'
 	@echo 'make clean      remove what was built, what was proved (out/ of each crate) and dist/'
 
-# (`rt try` keeps no file, and gives the program no other than those it is told of)
+# (`rt try` writes no file, and gives the program only the files that are named)
 try:
 	@python3 tools/toolchain.py
 	@echo 'Nothing is proved yet: this run only has checks of memory, of indices and of overflow. It takes about two minutes.' >&2
@@ -100,7 +100,7 @@ soak: $(PROGRAM) $(LIBRARY).so
 	@python3 tests/soak.py --minutes $(MINUTES) $(PROGRAM)
 	@python3 tests/soak_python.py --minutes $(MINUTES) $(LIBRARY).so
 
-# `install` proves and builds nothing: it often runs as another user. It copies what was built, and says what wasn't.
+# `install` proves and builds nothing, because it often runs as another user. It copies what was built, and reports the rest.
 PARTS := $(if $(wildcard $(PROGRAM)),install-program)
 PARTS += $(if $(and $(wildcard $(LIBRARY).a),$(wildcard $(dir $(LIBRARY))$(SHARED)),$(wildcard $(WITHIN))),install-libraries)
 PARTS += $(if $(wildcard $(WASM)),install-page)
@@ -150,7 +150,7 @@ uninstall:
 	rm -f $(PAGE)/boruvka.wasm $(PAGE)/boruvka.html $(addprefix $(DOC)/,$(DOCUMENTS))
 	rmdir $(DOC)/examples/embed $(DOC)/examples $(DOC)/docs $(DOC) $(PAGE) $(LIB)/cmake/boruvka 2> /dev/null || true
 
-# (first what refuses in a second, then what proves)
+# (the check that takes a second comes first)
 dist: may-pack $(PROGRAM) lib $(WASM)
 	@python3 tools/dist.py
 
@@ -163,7 +163,7 @@ bench: $(PROGRAM) $(BENCH)
 clean:
 	rm -rf crates/*/out .git/rooms dist
 
-# What was built stays in out/ of each crate; which crates are under way goes to standard error.
+# Results stay in out/ of each crate, and progress goes to standard error.
 $(PROGRAM): $(SOURCES)
 	@python3 tools/prove.py boruvka
 	@touch $(PROGRAM)
@@ -172,7 +172,7 @@ $(BENCH): $(SOURCES)
 	@python3 tools/prove.py bench
 	@touch $(BENCH)
 
-# It calls no allocator: the caller gives up the memory.
+# It calls no allocator: the caller provides the memory.
 $(WITHIN): $(SOURCES)
 	@python3 tools/prove.py boruvka_within
 	@touch $(WITHIN)
@@ -181,9 +181,9 @@ $(WASM): $(SOURCES)
 	@python3 tools/wasm.py
 	@touch $(WASM)
 
-# With the crate's own library the toolchain's few lines over malloc and free, as one object that shows the calls alone: another
+# The crate's own library and the toolchain's few lines over malloc and free, as one object that exports only the calls: another
 # library of that toolchain has the same lines.
-# (`rt` writes through no symbolic link, so the three names of the shared library are one file here)
+# (`rt` writes through no symbolic link, so the three names of the shared library are hard links here)
 $(LIBRARY).a: $(SOURCES)
 	@python3 tools/toolchain.py '$(CC)' ar objcopy
 	@rm -f $(LIBRARY).so $(LIBRARY).so.*
@@ -193,7 +193,7 @@ $(LIBRARY).a: $(SOURCES)
 	@cd $(@D) && objcopy --wildcard --keep-global-symbol='boruvka_*' --strip-unneeded boruvka.o && ar qcsD made.a boruvka.o
 	@cd $(@D) && mv made.a $(@F) && rm -f heap.pic.o boruvka.o
 
-# The loader looks for the name with the first number alone, the linker for the name without one.
+# The loader looks for the name with only the first number, the linker for the name without a number.
 $(LIBRARY).so: $(LIBRARY).a
 	@echo '{ global: boruvka_*; local: *; };' > $(@D)/names
 	@rm -f $@ $@.*

@@ -1,14 +1,14 @@
 #!/usr/bin/env python3
-"""Writes a graph for measuring as a .gr text to standard output: the same one for the same arguments.
+"""Writes a graph for benchmarks as .gr text to standard output. The same arguments give the same graph.
 
-    generate.py grid N [SEED]      like a road network: a grid of about N vertices, a tenth of its links left out,
-                                   the vertices numbered at random in blocks of 64, and both directions of each link
-                                   beside each other
-    generate.py random N [SEED]    4 N arcs between vertices drawn at random
-    generate.py dense N [SEED]     16 N arcs between vertices drawn at random
-    generate.py scale-free N [SEED]  four arcs from each vertex but the first to earlier ones, which are drawn in
+    generate.py grid N [SEED]      like a road network: a grid of about N vertices without a tenth of its edges. The
+                                   vertices are numbered at random in blocks of 64, and both directions of an edge are
+                                   next to each other.
+    generate.py random N [SEED]    4 N arcs between random vertices
+    generate.py dense N [SEED]     16 N arcs between random vertices
+    generate.py scale-free N [SEED]  four arcs from each vertex except the first to earlier ones, which are drawn in
                                    proportion to their arcs so far: few vertices have most of the arcs
-    generate.py path N [SEED]      N arcs, each from a vertex to the next, so that the forest has them all
+    generate.py path N [SEED]      N arcs, each from a vertex to the next, so that all are in the forest
 """
 import random
 import sys

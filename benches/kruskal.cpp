@@ -1,10 +1,10 @@
-// The minimum spanning forest of a .gr text on standard input, written to standard output as arcs: the program that
-// the measured times are compared with.
+// Reads a .gr text from standard input and writes its minimum spanning forest to standard output: a plain program to compare
+// times with.
 //
 //     c++ -O2 -std=c++17 -o kruskal kruskal.cpp && ./kruskal < graph.gr > forest.gr
 //
-// It reads and writes by blocks of 64 KiB, sorts with std::sort and joins with union-find. What reading, solving and
-// writing took goes to standard error, in milliseconds. It trusts its input: only well formed texts are meant.
+// It reads and writes in blocks of 64 KiB, sorts with std::sort and joins with union-find. It prints the times of reading,
+// solving and writing to standard error, in milliseconds. It trusts its input: the text has to be well-formed.
 #include <algorithm>
 #include <charconv>
 #include <chrono>
@@ -25,7 +25,7 @@ struct Link {
     }
 };
 
-// Union-find over the vertices 1 to n, by size and with paths halved.
+// Union-find over the vertices 1 to n, by size, with path halving.
 class Components {
     std::vector<uint32_t> parents, sizes;
 
@@ -80,7 +80,7 @@ public:
         return negative ? -value : value;
     }
 
-    // Past the end of the line, unless the last number ended it.
+    // Skip the rest of the line, unless the last number ended it.
     void skip_line(int c) {
         while (c != '\n' && c != -1) c = next();
     }

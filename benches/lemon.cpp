@@ -1,5 +1,5 @@
-// The minimum spanning forest of a .gr text by LEMON's reader and its Kruskal algorithm: from standard input to standard
-// output, as `boruvka --plain` writes it. Needs liblemon-dev. Ties are broken as LEMON breaks them.
+// Finds the minimum spanning forest of a .gr text with LEMON's reader and its Kruskal algorithm. It reads standard input and
+// writes as `boruvka --plain` does, but ties are broken as in LEMON. Needs liblemon-dev.
 #include <lemon/core.h>
 #include <lemon/dimacs.h>
 #include <lemon/kruskal.h>

@@ -1,15 +1,15 @@
 #!/usr/bin/env python3
-"""Measures `boruvka` against other programs on generated graphs, in turns, and prints tables in Markdown.
+"""Compares `boruvka` with other programs on generated graphs, interleaved, and prints tables in Markdown.
 
     marks.py PROGRAM BENCH [PLAIN_TIMES [WORKERS_TIMES [EARLIER]]]
 
-PROGRAM is `boruvka`; BENCH is `bench`, which tells what the steps of a plain run took. `--plain` stands beside tuned.cpp,
-a tuned program of one thread. Runs over workers stand beside `--plain`, kruskal.cpp (std::sort and union-find in one
-thread) and EARLIER, another `boruvka`, if it is named. Each time is the least of PLAIN_TIMES runs (if not said: 9), of
-those over workers and of kruskal.cpp of WORKERS_TIMES (if not said: 9). All programs run in each turn. The answers must be
-equal, and no worker may have failed.
+PROGRAM is `boruvka`, and BENCH is `bench`, which reports how long the steps of a plain run take. `--plain` is compared with
+tuned.cpp, a tuned program with one thread. Runs over workers are compared with `--plain`, with kruskal.cpp (std::sort and
+union-find in one thread), and with EARLIER, another `boruvka`, if it is given. Each time is the least of PLAIN_TIMES runs
+(default: 9); for runs over workers and for kruskal.cpp, of WORKERS_TIMES runs (default: 9). The programs take turns. All
+outputs must be equal, and no worker may have failed.
 
-It needs Linux, Python 3 and a C++17 compiler (c++, or $CXX). Times are in milliseconds.
+The script needs Linux, Python 3 and a C++17 compiler (c++, or $CXX). Times are in milliseconds.
 """
 import os
 import re
@@ -17,17 +17,17 @@ import subprocess
 import sys
 import tempfile
 
-# leaves no folder of compiled modules here
+# write no folder of compiled modules here
 sys.dont_write_bytecode = True
 
 from run import GRAPHS, HERE, bytes_of, least, parts_of, run
 
-# workers and shards of each run over workers that is measured; the second is the default
+# workers and shards of each run over workers; the second is the default
 SETTINGS = [(2, 2), (2, 64), (4, 4)]
 
 
 def built(folder, name, *words):
-    """A program made of one of the sources beside this file."""
+    """Compiles one of the sources in this folder, and returns the program."""
     path = os.path.join(folder, name)
     command = [os.environ.get("CXX", "c++"), "-O2", "-std=c++17", *words, "-o", path, os.path.join(HERE, f"{name}.cpp")]
     subprocess.run(command, check=True)
@@ -35,7 +35,7 @@ def built(folder, name, *words):
 
 
 def looped():
-    """The bytes that have come over the loopback device."""
+    """Returns how many bytes the loopback device has received."""
     with open("/proc/net/dev", encoding="ascii") as lines:
         return next(int(line.split()[1]) for line in lines if line.split()[0] == "lo:")
 
@@ -47,7 +47,7 @@ class Programs:
 
 
 class Measured:
-    """A graph, the answer to it, and the least times seen so far, in milliseconds."""
+    """A graph, its forest, and the least times so far, in milliseconds."""
 
     def __init__(self, folder, kind, n, programs):
         self.name, self.programs = f"{kind}, {n:,}", programs
@@ -57,17 +57,17 @@ class Measured:
         with open(self.graph, "rb") as text:
             self.arcs = int(text.readline().split()[3])
         self.whole, self.parts = {}, {}
-        # one run by default, for what it sends, and for the answer that all others have to give
+        # one default run, for the bytes that it sends, and for the output that all others have to have
         before = looped()
         _, told = run([programs.program, "--report"], self.graph, self.answer)
         self.bytes, self.rounds = looped() - before, int(re.search(r"rounds=(\d+)", told)[1]) + 1
 
     def time(self, what, command):
-        """Runs a command on the graph, keeps its time if it is the least, and answers what it told."""
+        """Runs a command on the graph, keeps its time if it is the least, and returns what it wrote to standard error."""
         answer = self.answer + "_now"
         took, told = run(command, self.graph, answer)
         if bytes_of(answer) != bytes_of(self.answer):
-            sys.exit(f"{self.name}, {' '.join(command)}: the answers differ")
+            sys.exit(f"{self.name}, {' '.join(command)}: the outputs differ")
         self.whole[what] = min(took, self.whole.get(what, took))
         return told
 
@@ -95,29 +95,29 @@ class Measured:
 
 
 def shown(milliseconds):
-    """With a place behind the point if they are few."""
+    """Formats milliseconds, with one decimal if they are few."""
     return f"{milliseconds:,.1f}" if milliseconds < 10 else f"{milliseconds:,.0f}"
 
 
-def tell_row(*cells):
+def print_row(*cells):
     print("| " + " | ".join(cells) + " |")
 
 
-def tell_head(*cells):
-    tell_row(*cells)
+def print_head(*cells):
+    print_row(*cells)
     print("|" + "---|" * len(cells))
 
 
 def beside(ours, mark):
-    """Two times and their ratio."""
+    """Formats two times and their ratio."""
     return f"{shown(ours)}, {shown(mark)}: {ours / mark:.2f}"
 
 
-def tell_plain(graphs):
-    tell_head("Graph", "Whole: `--plain`, tuned, ratio", "Reading", "Solving", "Writing")
+def print_plain(graphs):
+    print_head("Graph", "Whole: `--plain`, tuned, ratio", "Reading", "Solving", "Writing")
     for graph in graphs:
         parts = [beside(ours, mark) for ours, mark in zip(graph.parts["plain"], graph.parts["tuned"])]
-        tell_row(graph.name, beside(graph.whole["plain"], graph.whole["tuned"]), *parts)
+        print_row(graph.name, beside(graph.whole["plain"], graph.whole["tuned"]), *parts)
 
 
 def named(setting):
@@ -125,27 +125,27 @@ def named(setting):
     return f"{workers} workers, {shards} shards"
 
 
-def tell_settings(graphs, earlier):
-    """The runs over workers, each with how many times `--plain`, kruskal.cpp and the earlier program it takes."""
+def print_settings(graphs, earlier):
+    """Formats the runs over workers, each with its ratio to `--plain`, kruskal.cpp and the earlier program."""
     marks = "`--plain`, C++" + (", earlier" if earlier else "")
     settings = [f"{named(setting)}; times {marks}" for setting in SETTINGS]
-    tell_head("Graph", "`--plain`", "C++", *settings, "Rounds", "MB sent by default")
+    print_head("Graph", "`--plain`", "C++", *settings, "Rounds", "MB sent by default")
     for graph in graphs:
         cells = [shown(graph.whole[each]) for each in ("plain", "kruskal")]
         for setting in SETTINGS:
             ours, others = graph.whole[setting], [graph.whole["plain"], graph.whole["kruskal"]]
             others += [graph.whole["earlier", *setting]] if earlier else []
             cells.append(f"{shown(ours)}; " + ", ".join(f"{ours / other:.2f}" for other in others))
-        tell_row(graph.name, *cells, str(graph.rounds), f"{graph.bytes / 1e6:,.1f}")
+        print_row(graph.name, *cells, str(graph.rounds), f"{graph.bytes / 1e6:,.1f}")
 
 
-def tell_growth(graphs):
+def print_growth(graphs):
     settings = {"plain": "`--plain`", "tuned": "tuned", **{setting: named(setting) for setting in SETTINGS}}
-    tell_head("Time per arc, from the graph of 10^5 to that of 10^6", *settings.values())
+    print_head("Time per arc, from the graph of 10^5 to that of 10^6", *settings.values())
     for kind in ("grid", "random"):
         small, large = graphs[kind, 10**5], graphs[kind, 10**6]
         growths = (large.whole[each] / large.arcs / (small.whole[each] / small.arcs) for each in settings)
-        tell_row(kind, *(f"{growth:.2f}" for growth in growths))
+        print_row(kind, *(f"{growth:.2f}" for growth in growths))
 
 
 def main():
@@ -157,18 +157,18 @@ def main():
     with tempfile.TemporaryDirectory() as folder:
         programs = Programs(folder, program, bench, earlier)
         graphs = {(kind, n): Measured(folder, kind, n, programs) for kind, n in GRAPHS}
-        # All graphs in each turn, so that a slow minute of the machine falls on all of them.
+        # All graphs in each turn, so that a slow minute of the machine affects all of them.
         for turn in range(max(plain_times, workers_times)):
             for graph in graphs.values():
                 if turn < plain_times:
                     graph.take_plain_turn()
                 if turn < workers_times:
                     graph.take_workers_turn()
-    tell_plain(graphs.values())
+    print_plain(graphs.values())
     print()
-    tell_settings(graphs.values(), earlier)
+    print_settings(graphs.values(), earlier)
     print()
-    tell_growth(graphs)
+    print_growth(graphs)
     print(f"\nLoad {before:.1f} before and {os.getloadavg()[0]:.1f} after, on {os.cpu_count()} processors.")
 
 

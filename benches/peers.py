@@ -20,7 +20,7 @@ HERE = os.path.dirname(os.path.abspath(__file__))
 
 
 def seconds(command, graph):
-    """The time of a whole run, and what it wrote to standard error."""
+    """Returns the time of a whole run, and what it wrote to standard error."""
     with open(graph, "rb") as given:
         begun = time.perf_counter()
         ended = subprocess.run(command, stdin=given, stdout=subprocess.DEVNULL, stderr=subprocess.PIPE, check=True)
@@ -28,14 +28,14 @@ def seconds(command, graph):
 
 
 def lemon(folder):
-    """The program over LEMON, or None if it can't be built."""
+    """Returns the program over LEMON, or None if it can't be built."""
     path = os.path.join(folder, "lemon")
     words = [os.environ.get("CXX", "c++"), "-O3", "-std=c++17", "-o", path, os.path.join(HERE, "lemon.cpp")]
     return path if subprocess.run(words, stderr=subprocess.DEVNULL, check=False).returncode == 0 else None
 
 
 def igraph_of(path):
-    """The graph of a file for igraph, and its weights."""
+    """Returns the graph of a file for igraph, and its weights."""
     import igraph
 
     edges, weights, n = [], [], 0

@@ -1,11 +1,11 @@
 #!/usr/bin/env python3
-"""Times `boruvka --plain`, by one thread and by several, beside the C++ program on generated graphs, in turns, and
-prints the least times.
+"""Compares the times of `boruvka --plain`, with one thread and several, with those of the C++ program on generated graphs.
+The runs are interleaved, and the script prints the least times.
 
     run.py PROGRAM BENCH [TIMES]
 
-PROGRAM is `boruvka`; BENCH is `bench`, which does the same and tells what reading, solving and writing took.
-It needs Python 3, a C++17 compiler (c++, or $CXX) and GNU time. The answers of all programs must be equal.
+PROGRAM is `boruvka`, and BENCH is `bench`, which does the same and reports how long reading, solving and writing take. The
+script needs Python 3, a C++17 compiler (c++, or $CXX) and GNU time. The outputs of all programs must be equal.
 """
 import os
 import re
@@ -20,7 +20,7 @@ HERE = os.path.dirname(os.path.abspath(__file__))
 
 
 def run(command, graph, answer):
-    """The milliseconds that a run took, and what it wrote to standard error."""
+    """Returns the milliseconds that a run took, and what it wrote to standard error."""
     with open(graph, "rb") as given, open(answer, "wb") as taken:
         start = time.perf_counter()
         ended = subprocess.run(command, stdin=given, stdout=taken, stderr=subprocess.PIPE, check=True)
@@ -28,7 +28,7 @@ def run(command, graph, answer):
 
 
 def peak_of(command, graph, answer):
-    """The peak of memory of a run in KiB."""
+    """Returns the peak memory of a run in KiB."""
     _, told = run(["/usr/bin/time", "-f", "%M", *command], graph, answer)
     return int(told.split()[-1])
 
@@ -51,7 +51,7 @@ def shown(parts):
 
 
 class Measured:
-    """A graph, the answers to it, and the least times seen so far."""
+    """A graph, its forest, and the least times so far."""
 
     def __init__(self, folder, kind, n, programs):
         self.kind, self.n, self.programs = kind, n, programs
@@ -81,9 +81,9 @@ class Measured:
             took, _ = run([program, "--plain", "--threads", str(threads)], self.graph, self.counted)
             self.by_threads[threads] = min(before, took)
             if not bytes_of(self.counted) == bytes_of(self.ours):
-                sys.exit(f"{self.kind} {self.n}: the answer by {threads} threads differs")
+                sys.exit(f"{self.kind} {self.n}: the output by {threads} threads differs")
         if not bytes_of(self.ours) == bytes_of(self.stepped) == bytes_of(self.theirs):
-            sys.exit(f"{self.kind} {self.n}: the answers differ")
+            sys.exit(f"{self.kind} {self.n}: the outputs differ")
 
     def tell(self):
         size, size_out = os.path.getsize(self.graph) / 1e6, os.path.getsize(self.ours) / 1e6
@@ -104,7 +104,7 @@ def main():
         source = os.path.join(HERE, "kruskal.cpp")
         subprocess.run([os.environ.get("CXX", "c++"), "-O2", "-std=c++17", "-o", kruskal, source], check=True)
         graphs = {(kind, n): Measured(folder, kind, n, (program, bench, kruskal)) for kind, n in GRAPHS}
-        # All graphs in each turn, so that a slow minute of the machine falls on all of them.
+        # All graphs in each turn, so that a slow minute of the machine affects all of them.
         for _ in range(times):
             for graph in graphs.values():
                 graph.take_turn()

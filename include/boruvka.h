@@ -1,28 +1,39 @@
 /* SPDX-License-Identifier: MIT OR Apache-2.0 */
-/* boruvka.h: minimum spanning forests in the caller's memory.
+/* boruvka.h: minimum spanning forests of lists of edges in memory.
  *
  *     struct boruvka_link links[] = {
  *         {.weight = 17, .low = 1, .high = 2}, {.weight = 10, .low = 3, .high = 1}, {.weight = 2, .low = 3, .high = 2}};
  *     int64_t count = boruvka_forest(3, links, 3);
  *
- * The count is 2, and the first two links are the forest: {2, 2, 3} and {10, 1, 3}. Name the fields, as here: a link whose
- * weight stands in the place of an endpoint compiles, and gives another forest.
+ * The count is 2, and the first two links are the forest: {2, 2, 3} and {10, 1, 3}. Name the fields, as the example does: a
+ * link whose weight was written where an endpoint belongs compiles, and gives another forest.
  *
- * What each call returns and writes is proved, in the crates boruvka_c and boruvka_within. The inline calls of this header are
- * tested: boruvka_places, boruvka_labels and boruvka_merges look for an overlap and call one of these, boruvka_key and
- * boruvka_weight convert numbers. A proof ends where C begins, so a caller has to keep these rules, which nothing checks but
- * where a call says so:
- * - A pointer points to as many elements as the count after it says, aligned as their type is. If the count is 0 it may be
- *   null; that null works is tested, not proved.
- * - What isn't `const` may be read and written by the call, is touched by nothing else meanwhile, and overlaps nothing that
- *   another parameter points to. What is `const` is only read, and may be shared.
- * - malloc, realloc and free are of one allocator, and a block of theirs is aligned to each power of two up to 16 that
- *   divides its size.
- * - No call is made from a signal handler, or from the forked child of a process with threads.
- * - A call has 128 KiB of stack, and an x86-64 processor of the level v2.
- * Threads may call at once, each over memory of its own: nothing is kept between calls.
+ * Errors
+ * ------
+ * A call that returns an int64_t returns a count or, on error, a negative enum boruvka_refusal. After an error all outputs
+ * are unchanged, except `fault`. If several errors apply, the call returns the first one in the order that its comment gives.
+ * boruvka_fault_text writes the text of an error.
  *
- * pkg-config names the libraries boruvka and boruvka_within, CMake boruvka::boruvka, boruvka::static and boruvka::within. */
+ * Rules for the caller
+ * --------------------
+ * The crates boruvka_c and boruvka_within prove what each call returns and writes. The inline calls of this header are tested:
+ * boruvka_places, boruvka_labels and boruvka_merges look for an overlap and then make a proved call; boruvka_key and
+ * boruvka_weight convert numbers. The proofs assume that the caller follows these rules. Nothing checks them, unless the
+ * comment of a call says so.
+ * - A pointer points to as many elements as the count after it says, aligned as their type requires. It may be null if the
+ *   count is 0; that is tested, not proved.
+ * - What a pointer without `const` points to may be read and written by the call. Nothing else accesses it during the call,
+ *   and it overlaps nothing that another parameter points to. What a `const` pointer points to is only read, and may be
+ *   shared.
+ * - malloc, realloc and free belong to one allocator. It aligns a block to each power of two up to 16 that divides its size.
+ * - No call is made from a signal handler, or in a forked child of a process with threads.
+ * - A call has 128 KiB of stack, and the processor supports x86-64-v2.
+ *
+ * No call keeps state, so threads may make calls at the same time, each on memory of its own.
+ *
+ * Libraries
+ * ---------
+ * pkg-config has boruvka and boruvka_within. CMake has boruvka::boruvka, boruvka::static and boruvka::within. */
 #ifndef BORUVKA_H
 #define BORUVKA_H
 
@@ -30,7 +41,7 @@
 #include <stdint.h>
 #include <string.h>
 
-/* C before C99 has no `inline`. */
+/* (C before C99 has no `inline`) */
 #if defined __cplusplus || (defined __STDC_VERSION__ && __STDC_VERSION__ >= 199901L)
 #define BORUVKA_INLINE static inline
 #elif defined __GNUC__
@@ -43,80 +54,87 @@
 extern "C" {
 #endif
 
-#define BORUVKA_RELEASE 10100          /* of this header; boruvka_release returns that of the library */
-#define BORUVKA_VERSION 1              /* of these calls; boruvka_version returns that of the library */
+#define BORUVKA_RELEASE 10100          /* the release of this header; boruvka_release returns the library's */
+#define BORUVKA_VERSION 1              /* the version of these calls; boruvka_version returns the library's */
 #define BORUVKA_MAX_VERTICES 67108864  /* 2^26 */
 #define BORUVKA_MAX_LINKS 1073741824   /* 2^30 */
 
-/* An edge between two vertices, which are its endpoints. Links are ordered by weight, then by the lower endpoint, then by the
- * higher one. */
+/* A link is an edge between two vertices, its endpoints. Vertices are numbered from 1. Links are ordered by weight, then by
+ * the lower endpoint, then by the higher endpoint. */
 struct boruvka_link {
     int64_t weight;
     uint32_t low, high;
 };
 
-/* The errors, which a call returns as negative numbers. It then has written nothing, but for `fault`. From -6 to -16 a line of a
- * text has the error of that name (docs/GR_FORMAT.md). */
+/* The errors. Those from -6 to -16 are errors of a line of a .gr text: docs/GR_FORMAT.md explains each under the same name. */
 enum boruvka_refusal {
     BORUVKA_NO_MEMORY = -1,
-    BORUVKA_BAD_END = -2, /* an endpoint isn't a vertex; boruvka_bad_link and boruvka_bad_end find it */
-    BORUVKA_TOO_MANY_VERTICES = -3,
-    BORUVKA_TOO_MANY_LINKS = -4,
-    BORUVKA_TOO_LONG = -5, /* a text has more than 2^40 bytes */
+    BORUVKA_BAD_END = -2,           /* an endpoint isn't a vertex; boruvka_bad_link and boruvka_bad_end find it */
+    BORUVKA_TOO_MANY_VERTICES = -3, /* more than BORUVKA_MAX_VERTICES */
+    BORUVKA_TOO_MANY_LINKS = -4,    /* more than BORUVKA_MAX_LINKS */
+    BORUVKA_TOO_LONG = -5,          /* a text has more than 2^40 bytes */
     BORUVKA_UNKNOWN_LINE = -6, BORUVKA_NO_PROBLEM_YET = -7, BORUVKA_SECOND_PROBLEM = -8, BORUVKA_BAD_PROBLEM = -9,
     BORUVKA_TOO_LARGE = -10, BORUVKA_BAD_ARC = -11, BORUVKA_END_OUT_OF_RANGE = -12, BORUVKA_WEIGHT_OUT_OF_RANGE = -13,
     BORUVKA_TOO_MANY_ARCS = -14, BORUVKA_MISSING_PROBLEM = -15, BORUVKA_MISSING_ARCS = -16,
-    BORUVKA_LENGTHS_DIFFER = -17, /* u, v and w, or links and merges, are not of one length */
+    BORUVKA_LENGTHS_DIFFER = -17, /* u, v and w, or links and merges, have different lengths */
     BORUVKA_TOO_FEW_PLACES = -18, /* the forest has more links than `places` has elements */
-    BORUVKA_CYCLE = -19,          /* links contain a cycle: a loop, a link given twice, or one whose endpoints others join */
-    BORUVKA_DESCENDING = -20,     /* a link weighs less than the one before it */
-    BORUVKA_OVERLAP = -21         /* an output overlaps an input; only inline calls look for that */
+    BORUVKA_CYCLE = -19,          /* the links contain a cycle; a loop and a repeated link are cycles too */
+    BORUVKA_DESCENDING = -20,     /* a link weighs less than the link before it */
+    BORUVKA_OVERLAP = -21         /* an output overlaps an input; only the inline calls check this */
 };
 
-/* What boruvka_forest_text writes of an error: its code, and the number of the bad line, from 1, or else 0. Both are 0 if there
- * is a forest. */
+/* The error that boruvka_forest_text writes: its code, and the number of the bad line, counted from 1. The line is 0 if the
+ * error belongs to no line. Both are 0 on success. */
 struct boruvka_fault {
     int64_t kind;
     uint64_t line;
 };
 
-/* Two clusters that become one of `size` points: first < second. */
+/* Two clusters that merge into one cluster of `size` points: first < second. */
 struct boruvka_merge {
     uint32_t first, second, size;
 };
 
-/* A sum of weights in two words: it is high times 2^64, and low. */
+/* A sum of weights in 128 bits: high * 2^64 + low. */
 struct boruvka_sum {
     int64_t high;
     uint64_t low;
 };
 
-/* Whether two pieces of memory have a byte in common. */
+/* Returns whether two pieces of memory have a byte in common. */
 BORUVKA_INLINE int boruvka_overlap(const void *one, size_t size, const void *other, size_t other_size) {
     const uintptr_t a = (uintptr_t)one, b = (uintptr_t)other;
     return size > 0 && other_size > 0 && (a < b ? b - a < size : a - b < other_size);
 }
 
-/* Writes the minimum spanning forest of these m links between the vertices 1 to n over the first of them, in order, each with
- * its lower endpoint first, and returns how many links it has. What was there is lost; the links after them stay as they
- * were. Links may come in any order, with their endpoints in either order, as loops and more than once.
+/* Finds the minimum spanning forest of links[0] to links[m - 1], a graph on the vertices 1 to n. The links may come in any
+ * order, with their endpoints in either order; loops and repeated links are allowed.
  *
- * Errors: too many vertices, else too many links, else a bad endpoint, else no memory. */
+ * On success the forest overwrites the first elements of `links`. It is sorted, and each link has its lower endpoint in `low`.
+ * The other elements are unchanged.
+ *
+ * Returns: the number of links of the forest.
+ * Errors, in this order: BORUVKA_TOO_MANY_VERTICES, BORUVKA_TOO_MANY_LINKS, BORUVKA_BAD_END, BORUVKA_NO_MEMORY. */
 int64_t boruvka_forest(uint32_t n, struct boruvka_link *links, size_t m);
 
-/* Writes the indices, from 0 on, of the links of the minimum spanning forest among arcs over the first of `places`, in the
- * order of the links, and returns how many there are. The arc at index i leads from u[i] to v[i] and weighs w[i]; the
- * vertices are base up to base + n - 1. If several arcs are one link, either way, it is the index of the first. Arcs may
- * come in any order, as loops and more than once. What is after these in `places` stays.
+/* Finds the minimum spanning forest of a graph in three columns, and writes which of the edges it consists of. The edge at
+ * index i joins u[i] and v[i] and has the weight w[i]. The vertices are base to base + n - 1. The edges may come in any order;
+ * loops and repeated edges are allowed. `room` is the number of elements of `places`.
  *
- * m or n - 1 elements, the lesser, are always enough for `places`. No choice of arcs makes the call slow: in addition to the
- * forest it takes two passes over the arcs, and at worst a sort of them.
+ * On success the indices of the forest's edges, counted from 0, are the first elements of `places`, sorted as the links are.
+ * If an edge is repeated, in either direction, its first index is written. The other elements of `places` are unchanged.
  *
- * Errors: columns of different lengths, else those of boruvka_forest, else too few places. */
+ * The lesser of m and n - 1 elements is always enough for `places`, where m is the number of edges. No input makes the call
+ * slow: in addition to finding the forest, it makes two passes over the edges, and at worst sorts them.
+ *
+ * Returns: the number of edges of the forest.
+ * Errors, in this order: BORUVKA_LENGTHS_DIFFER, those of boruvka_forest, BORUVKA_TOO_FEW_PLACES. */
 int64_t boruvka_places_in(uint32_t n, uint32_t base, const uint32_t *u, size_t u_count, const uint32_t *v, size_t v_count,
                           const int64_t *w, size_t w_count, uint32_t *places, size_t room);
 
-/* The same for m arcs. `places` has m or n - 1 elements, the lesser. If they overlap u, v or w, that is the error. */
+/* Does the same with m edges. `places` has as many elements as the lesser of m and n - 1.
+ *
+ * Errors, in this order: BORUVKA_OVERLAP if `places` overlaps u, v or w; those of boruvka_places_in. */
 BORUVKA_INLINE int64_t boruvka_places(uint32_t n, uint32_t base, const uint32_t *u, const uint32_t *v, const int64_t *w, size_t m,
                                       uint32_t *places) {
     const size_t most = n > 0 ? n - 1 : 0, room = m < most ? m : most, size = room * sizeof *places;
@@ -127,14 +145,19 @@ BORUVKA_INLINE int64_t boruvka_places(uint32_t n, uint32_t base, const uint32_t 
     return boruvka_places_in(n, base, u, m, v, m, w, m, places, room);
 }
 
-/* Writes the least vertex of each vertex's component under these k links between the vertices 1 to n, that of vertex v to
- * label[v - 1], and returns n. The links may come in any order, with their endpoints in either order, but contain no cycle,
- * as the links of a forest and any part of them.
+/* Labels each of the vertices 1 to n by its component in the graph of these k links. The links may come in any order, with
+ * their endpoints in either order, but contain no cycle: the links of a forest, or some of them.
  *
- * Errors: those of boruvka_forest before a lack of memory, else a loop, else another cycle or no memory. */
+ * On success label[v - 1] is the least vertex of the component of vertex v.
+ *
+ * Returns: n.
+ * Errors, in this order: BORUVKA_TOO_MANY_VERTICES, BORUVKA_TOO_MANY_LINKS, BORUVKA_BAD_END, BORUVKA_CYCLE for a loop, and
+ * either BORUVKA_CYCLE for another cycle or BORUVKA_NO_MEMORY. */
 int64_t boruvka_labels_in(const struct boruvka_link *links, size_t k, uint32_t *label, size_t n);
 
-/* The same, where `label` has n elements. If they overlap the links, that is the error. */
+/* Does the same. `label` has n elements.
+ *
+ * Errors, in this order: BORUVKA_OVERLAP if `label` overlaps the links; those of boruvka_labels_in. */
 BORUVKA_INLINE int64_t boruvka_labels(uint32_t n, const struct boruvka_link *links, size_t k, uint32_t *label) {
     if (k <= BORUVKA_MAX_LINKS && boruvka_overlap(label, (size_t)n * sizeof *label, links, k * sizeof *links)) {
         return BORUVKA_OVERLAP;
@@ -142,17 +165,21 @@ BORUVKA_INLINE int64_t boruvka_labels(uint32_t n, const struct boruvka_link *lin
     return boruvka_labels_in(links, k, label, n);
 }
 
-/* Writes the merges of the clusters of n points by these k links, and returns k. The clusters 0 to n - 1 are the points, of
- * which cluster v - 1 is vertex v; the link at index i joins the two clusters of merges[i] into the cluster n + i. With the
- * weights for heights n - 1 merges are a linkage matrix, those of a forest that of single linkage; fewer are those of several
- * trees, which no such matrix has. boruvka_labels over the first links cuts them there.
+/* Finds which clusters of n points the k links merge, one after the other. The links are in ascending order of weight, as
+ * boruvka_forest leaves them, and contain no cycle. `room` is the number of elements of `merges`.
  *
- * The links come as boruvka_forest leaves them, or in any other ascending order of weight, and contain no cycle.
+ * The clusters 0 to n - 1 are the points; cluster v - 1 is vertex v. On success links[i] merges the two clusters of merges[i]
+ * into the cluster n + i. With the weights as heights, n - 1 merges are a linkage matrix; those of a minimum spanning forest
+ * are single linkage. Fewer merges describe several trees, which no linkage matrix can. To cut the tree into clusters, call
+ * boruvka_labels with the first links only.
  *
- * Errors: another `room` than k, else those of boruvka_labels_in, else a link that weighs less than the one before it. */
+ * Returns: k.
+ * Errors, in this order: BORUVKA_LENGTHS_DIFFER if `room` isn't k, those of boruvka_labels_in, BORUVKA_DESCENDING. */
 int64_t boruvka_merges_in(uint32_t n, const struct boruvka_link *links, size_t k, struct boruvka_merge *merges, size_t room);
 
-/* The same, where `merges` has k elements. If they overlap the links, that is the error. */
+/* Does the same. `merges` has k elements.
+ *
+ * Errors, in this order: BORUVKA_OVERLAP if `merges` overlaps the links; those of boruvka_merges_in. */
 BORUVKA_INLINE int64_t boruvka_merges(uint32_t n, const struct boruvka_link *links, size_t k, struct boruvka_merge *merges) {
     if (k <= BORUVKA_MAX_LINKS && boruvka_overlap(merges, k * sizeof *merges, links, k * sizeof *links)) {
         return BORUVKA_OVERLAP;
@@ -160,40 +187,44 @@ BORUVKA_INLINE int64_t boruvka_merges(uint32_t n, const struct boruvka_link *lin
     return boruvka_merges_in(n, links, k, merges, k);
 }
 
-/* Writes the sum of the weights of k links, each as often as it is there, whatever its endpoints are. It is exact. */
+/* Writes the exact sum of the weights of k links. Repeated links are counted each time, and endpoints aren't looked at. */
 void boruvka_total(const struct boruvka_link *links, size_t k, struct boruvka_sum *total);
 
-/* Returns the index of the first of m links that has an endpoint other than the vertices 1 to n; m if all are vertices. */
+/* Returns the index of the first of m links with an endpoint outside 1 to n, or m if there is none. */
 size_t boruvka_bad_link(uint32_t n, const struct boruvka_link *links, size_t m);
 
-/* Returns the index of the first of m numbers, a column of arcs, that is none of the n vertices from base on; m if all are. */
+/* Returns the index of the first of m endpoints, a column of edges, outside base to base + n - 1, or m if there is none. */
 size_t boruvka_bad_end(uint32_t n, uint32_t base, const uint32_t *ends, size_t m);
 
-/* Writes the text of the minimum spanning forest of a .gr text into `into`, and returns how many bytes it has. If that is more
- * than `room`, the first `room` bytes are there. No 0 ends them. An error is in `fault` too.
+/* Finds the minimum spanning forest of a graph in .gr text, and writes it as .gr text into the `room` bytes of `into`. If it
+ * doesn't fit, only its first `room` bytes are written. No 0 byte is added.
  *
- * If the text has more than 2^40 bytes, the call reads 2^40 of them before it returns BORUVKA_TOO_LONG. A bad line among these
- * or a lack of memory comes first. */
+ * `fault` gets the error and the number of the bad line, or zeros on success.
+ *
+ * Returns: the length of the forest's text in bytes, whether it fits or not.
+ * Errors: that of a bad line, BORUVKA_NO_MEMORY, or BORUVKA_TOO_LONG after 2^40 bytes. The call reads the text from its start,
+ * and returns the first error that it meets. */
 int64_t boruvka_forest_text(const uint8_t *text, size_t length, uint8_t *into, size_t room, struct boruvka_fault *fault);
 
-/* Writes the text of an error's code into `into`, as snprintf does: a 0 ends it, and what has no room before the 0 is left
- * out. The bytes after the 0 stay as they were. If `room` is 0, nothing is written. The result is the length of the whole
- * text without the 0, in any room: at most 29 today. So the text was cut if the result is `room` or more. Any other number
- * has the text `not an error code`. */
+/* Writes the text of an error into the `room` bytes of `into`, as snprintf does: a 0 byte ends the text, and what doesn't fit
+ * before that is left out. The bytes after the 0 are unchanged. If `room` is 0, nothing is written. A number that isn't an
+ * error has the text `not an error code`.
+ *
+ * Returns: the length of the whole text without the 0, at most 29 today. If it is `room` or more, the text was truncated. */
 size_t boruvka_fault_text(int64_t kind, char *into, size_t room);
 
 uint32_t boruvka_version(void);
 
-/* Returns 10000 times the first number of the library's release, 100 times the second, and the third. */
+/* Returns the library's release: for release a.b.c it is 10000 * a + 100 * b + c. */
 uint32_t boruvka_release(void);
 
 /* ---- Weights that are doubles. */
 
-#define BORUVKA_NAN INT64_MIN /* the key of what isn't a number */
+#define BORUVKA_NAN INT64_MIN /* the key of every NaN */
 
-/* Returns the key of a double, for use as a weight: a smaller number has a smaller key, and 0.0 and -0.0 have the key 0. What
- * isn't a number has the key BORUVKA_NAN, which no number has. Look for it before a call, which takes it for the lightest
- * weight. A sum of keys, as boruvka_total writes, means nothing. */
+/* Returns the key of a double, for use as a weight: a smaller number has a smaller key, and 0.0 and -0.0 have the key 0. Every
+ * NaN has the key BORUVKA_NAN, and no number has. Check for it before a call, because calls treat it as the lightest weight.
+ * A sum of keys, as boruvka_total writes it, means nothing. */
 BORUVKA_INLINE int64_t boruvka_key(double weight) {
     const uint64_t infinite = (uint64_t)0x7ff << 52;
     uint64_t bits;
@@ -206,7 +237,7 @@ BORUVKA_INLINE int64_t boruvka_key(double weight) {
     return bits >> 63 ? -size : size;
 }
 
-/* Returns the double that has this key; 0.0 for the key 0. */
+/* Returns the double with this key. For the key 0 it is 0.0. */
 BORUVKA_INLINE double boruvka_weight(int64_t key) {
     const uint64_t sign = (uint64_t)1 << 63, none = (uint64_t)0x7ff8 << 48;
     const uint64_t bits = key == BORUVKA_NAN ? none : key < 0 ? sign | (uint64_t)-key : (uint64_t)key;
@@ -215,16 +246,17 @@ BORUVKA_INLINE double boruvka_weight(int64_t key) {
     return weight;
 }
 
-/* ---- Calls within memory that the caller provides, of libboruvka_within.a. Each is the call of its name without `_within`,
- * but for where it takes memory; those of places, labels and merges are boruvka_places_in, boruvka_labels_in and
- * boruvka_merges_in. They call memcpy, memmove and memset, and nothing else: no malloc. */
+/* ---- Calls within memory that the caller provides, of libboruvka_within.a. Each does what the call of its name without
+ * `_within` does, but allocates from the memory that it is given. Those of places, labels and merges do what
+ * boruvka_places_in, boruvka_labels_in and boruvka_merges_in do. The library needs memcpy, memmove and memset, and no malloc. */
 
-/* `size` bytes from `start` on, which is aligned to 16 bytes and never null. Nothing else touches them during the call, and
- * no other parameter points into them. What was there is lost. After the call they are the caller's again.
+/* The memory that a call may use: `size` bytes from `start` on. `start` is never null, and is aligned to 16 bytes. Nothing else
+ * accesses these bytes during the call, and no other parameter points into them. Their contents are lost. After the call they
+ * belong to the caller again.
  *
- * Whole pages of 4096 bytes are used. If they are too few, the result is BORUVKA_NO_MEMORY, and what the other parameters
- * point to is as it was, but for `fault`: so the same call may be made again with more. These are enough, with 16384 bytes
- * more for each call. No clause says so: it is counted where it is tightest.
+ * The call uses whole pages of 4096 bytes. If they are too few, it returns BORUVKA_NO_MEMORY, and all outputs are unchanged
+ * except `fault`, so the same call may be made again with more memory. These are enough, with 16384 bytes more for each call.
+ * That isn't proved: tests measure the tightest cases.
  *
  *     boruvka_forest_within         29 bytes per link and 12 per vertex
  *     boruvka_places_within         29 bytes per arc and 29 per vertex

@@ -1,9 +1,18 @@
 /* SPDX-License-Identifier: MIT OR Apache-2.0 */
-/* boruvka.hpp: calls of boruvka.h over spans, for C++20.
+/* boruvka.hpp: the calls of boruvka.h over spans, for C++20.
  *
- * An error is thrown as boruvka::refused; with BORUVKA_EXPECTED defined, and C++23, it is returned in a std::expected. Files of
- * both kinds can be linked into one program. If a vector gets no memory, std::bad_alloc is thrown in either.
- * These calls keep the rules of boruvka.h for pointers and lengths; the caller sees to it that no other thread touches a span. */
+ *     std::vector<boruvka_link> links = {
+ *         {.weight = 17, .low = 1, .high = 2}, {.weight = 10, .low = 3, .high = 1}, {.weight = 2, .low = 3, .high = 2}};
+ *     std::span<boruvka_link> found = boruvka::forest(3, links);
+ *
+ * Then found has two links, {2, 2, 3} and {10, 1, 3}, which are the first of links.
+ *
+ * On error a call throws a boruvka::refused. If BORUVKA_EXPECTED is defined, which needs C++23, it returns that in a
+ * std::expected instead. Files of both kinds can be linked into one program. If a vector can't be allocated, std::bad_alloc is
+ * thrown in both. The comments of boruvka.h list the errors of each call.
+ *
+ * The calls follow the rules of boruvka.h for pointers and lengths. The caller makes sure that no other thread accesses a span
+ * during a call. */
 #ifndef BORUVKA_HPP
 #define BORUVKA_HPP
 
@@ -32,7 +41,7 @@
 
 namespace boruvka {
 
-/* An error: an enum boruvka_refusal, and its text. */
+/* An error: `why` is its enum boruvka_refusal, what() its text. */
 struct refused : std::runtime_error {
     std::int64_t why;
 
@@ -44,25 +53,25 @@ struct refused : std::runtime_error {
     }
 };
 
-/* The pointer of a span. An empty one may have none, for which nothing is proved: then it is one to an element. */
+/* Returns the pointer of a span. That of an empty span may be null, for which nothing is proved: then an element stands in. */
 template <class T> T *first_of(std::span<T> all) {
     static std::remove_const_t<T> none{};
     return all.empty() ? &none : all.data();
 }
 
-/* A number of vertices for a call: one past 32 bits, as a negative one is, stays too many. */
+/* Returns a number of vertices in 32 bits. One that doesn't fit, such as a negative one, stays too large. */
 inline std::uint32_t of_32_bits(std::uint64_t n) {
     return static_cast<std::uint32_t>(std::min<std::uint64_t>(n, UINT32_MAX));
 }
 
-/* The sum of the links' weights. */
+/* Returns the exact sum of the links' weights. */
 inline boruvka_sum total(std::span<const boruvka_link> links) {
     boruvka_sum sum;
     boruvka_total(first_of(links), links.size(), &sum);
     return sum;
 }
 
-/* What returns in two ways has a namespace for each, so that a linker doesn't take one for the other. */
+/* A function that returns in two ways has a namespace for each way, so that a linker doesn't mix them up. */
 #ifdef BORUVKA_EXPECTED
 inline namespace with_expected {
 template <class T> using answer = std::expected<T, refused>;
@@ -73,14 +82,14 @@ template <class T> using answer = T;
 template <class T> T refuse(std::int64_t code) { throw refused(code); }
 #endif
 
-/* The minimum spanning forest of links between the vertices 1 to n, which are the first of them then. */
+/* Finds the minimum spanning forest of links between the vertices 1 to n. It overwrites the first links, and is returned. */
 [[nodiscard]] inline answer<std::span<boruvka_link>> forest(std::uint64_t n, std::span<boruvka_link> links) {
     const std::int64_t count = boruvka_forest(of_32_bits(n), first_of(links), links.size());
     if (count < 0) return refuse<std::span<boruvka_link>>(count);
     return links.first(static_cast<std::size_t>(count));
 }
 
-/* The indices of its links among the arcs from u[i] to v[i] of weight w[i], between the vertices base to base + n - 1. */
+/* Returns the indices of the forest's edges. Edge i joins u[i] and v[i] and weighs w[i]; the vertices are base to base + n - 1. */
 [[nodiscard]] inline answer<std::vector<std::uint32_t>> places(std::uint64_t n, std::uint64_t base,
                                                                std::span<const std::uint32_t> u, std::span<const std::uint32_t> v,
                                                                std::span<const std::int64_t> w) {
@@ -94,7 +103,7 @@ template <class T> T refuse(std::int64_t code) { throw refused(code); }
     return found;
 }
 
-/* The least vertex of each vertex's component under links without a cycle, that of vertex v at v - 1. */
+/* Returns the least vertex of each vertex's component, that of vertex v at v - 1. The links contain no cycle. */
 [[nodiscard]] inline answer<std::vector<std::uint32_t>> labels(std::uint64_t n, std::span<const boruvka_link> links) {
     if (n > BORUVKA_MAX_VERTICES) return refuse<std::vector<std::uint32_t>>(BORUVKA_TOO_MANY_VERTICES);
     std::vector<std::uint32_t> found(n);
@@ -103,7 +112,7 @@ template <class T> T refuse(std::int64_t code) { throw refused(code); }
     return found;
 }
 
-/* The merges of the clusters of n points by links without a cycle, in ascending order of weight, as boruvka_merges has them. */
+/* Returns the merges of n points, as boruvka_merges writes them. The links ascend by weight, and contain no cycle. */
 [[nodiscard]] inline answer<std::vector<boruvka_merge>> merges(std::uint64_t n, std::span<const boruvka_link> links) {
     std::vector<boruvka_merge> found(links.size());
     const std::int64_t count = boruvka_merges_in(of_32_bits(n), first_of(links), links.size(), first_of(std::span(found)), found.size());

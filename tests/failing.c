@@ -1,29 +1,35 @@
-/* Preloaded before a program: makes chosen calls of its sockets, files and threads fail, and tells what goes to a
- * socket.
+/* Preloaded before a program, this library makes chosen calls on sockets, files and threads fail, and records what the program
+ * does. Records are written to the descriptor TOLD. The library allocates no memory itself.
  *
- * FAIL_CALL is the name of a call (listen, connect, accept, recv, send, read, write, thread, and others below),
- * FAIL_NUMBER the number of the first that fails, from 1, and FAIL_LAST that of the last (none: the first alone).
- * FAIL_ERROR is the number of the error that it fails by (none: one that stands at the call), or 0, by which a recv
- * or a read gives 0 bytes, and a send or a write takes none. A read or a write is one of a file or a stream here, and
- * a recv or a send one of a socket. A close that fails has closed all the same, as Linux does; under the name "unclosed"
- * one of a socket fails and leaves it open.
- * A listen under the name "stranger" passes, but somebody else then connects first. A poll under the name "hangup"
- * passes and tells that the connection has ended, though its socket names no error; under the name "getsockopt" it does
- * too, and then the call fails that asks for the error. A connect under the name "namesake" passes, but somebody else
- * connects first, from another address of this machine and the same port.
- * For each call that fails an 'x' goes to the descriptor TOLD. With SHORT each recv, read and send is of one byte, and with
- * WHOLE each recv waits until all that it asks for is there. With OFFERS each answer that is sent whole goes out with no
- * more of its first offers than so many, 0 or 1.
- * With PROCESSORS the program is told that it may run on so many, at most 64, whatever a cgroup grants.
- * With COUNTED an 'R' goes there for each read that asks for 64 KiB, an 'r' for each other, and a 'w' for each write.
- * Where a socket listens on more than the loopback address, an 'A' goes there.
- * Where the program ends and a thread that it started wasn't joined, a 'J' goes there; with JOINED a 'j' too, for each
- * that was. STARTED is how many of the threads that the first one starts are workers, as its first ones are: a 'w' goes
- * there for each thread that one of them started, or one that it started, an 's' for each other thread that is started,
- * and at the end an 'a' for each of those that weren't joined yet at once, at the most. With GREETED an 'H' for each send
- * of a hello. With PEAK the digits of how many KiB of memory the program had at the most.
- * Where words for the user (a forest, a report, a fault) are written to a socket, or a socket is read as a file, a
- * 'T' goes to TOLD. It takes no memory itself. */
+ * Which calls fail:
+ * - FAIL_CALL is the name of a call: listen, connect, accept, recv, send, read, write, thread, or another one below. A read or
+ *   a write is a call on a file or stream, and a recv or a send is a call on a socket.
+ * - FAIL_NUMBER is the number of the first call that fails, from 1. FAIL_LAST is that of the last (default: only the first).
+ * - FAIL_ERROR is the number of the error (default: the one given at the call). If it is 0, a recv or a read returns 0 bytes,
+ *   and a send or a write takes none.
+ * - A close that fails has closed the descriptor, as on Linux. Under the name "unclosed" a close of a socket fails and leaves
+ *   it open.
+ * - A listen under the name "stranger" succeeds, but somebody else then connects first. A connect under the name "namesake"
+ *   succeeds, but somebody else connects first, from another address of this machine and the same port.
+ * - A poll under the name "hangup" succeeds and reports that the connection has ended, although its socket has no error. Under
+ *   the name "getsockopt" it does so too, and then the call that asks for the error fails.
+ *
+ * How calls behave:
+ * - With SHORT each recv, read and send moves one byte. With WHOLE each recv waits for all the bytes that it asks for.
+ * - With OFFERS=K (0 or 1) each answer that is sent in one call goes out with only its first K offers.
+ * - With PROCESSORS=N the program sees N processors, at most 64, whatever a cgroup allows.
+ *
+ * Records:
+ * - 'x': a call failed.
+ * - 'T': a text for the user (a forest, a report, an error) was written to a socket, or a socket was read as a file.
+ * - 'A': a socket listens on more than the loopback address.
+ * - 'J': the program ended, and a thread that it started wasn't joined. With JOINED, 'j' for each thread that was joined.
+ * - With COUNTED, 'R' for each read that asks for 64 KiB, 'r' for each other read, and 'w' for each write.
+ * - STARTED=N says that the first N threads that the first thread starts are workers. Then 'w' for each thread that a worker
+ *   started, directly or not, 's' for each other thread, and at the end as many 'a' as threads of the latter kind existed at
+ *   the same time.
+ * - With GREETED, 'H' for each send of a hello.
+ * - With PEAK, the digits of the program's peak memory in KiB. */
 #define _GNU_SOURCE
 #include <arpa/inet.h>
 #include <dlfcn.h>
@@ -51,7 +57,7 @@ static unsigned long most_offers;
 static int told = -1, is_short, is_whole, is_counted, tells_started, tells_hellos, processors;
 static _Thread_local int is_hung_up;
 
-/* a thread that was started: what it runs, and the number of the thread of the first one's that it comes from, from 1 */
+/* a thread that was started: what it runs, and the number, from 1, of the first thread's child that it descends from */
 struct start {
     void *(*run)(void *);
     void *with;
@@ -93,7 +99,7 @@ static void tell(const char *what) {
     }
 }
 
-/* whether this call is one of those that were chosen */
+/* whether this call is to fail */
 static int is_chosen(const char *name) {
     if (!first || strcmp(name, chosen)) {
         return 0;
@@ -102,7 +108,7 @@ static int is_chosen(const char *name) {
     return at >= first && at <= last;
 }
 
-/* a call fails, and then `errno` is the error that was chosen, or else the usual one */
+/* makes a call fail, with the chosen error or the usual one in `errno` */
 static int fail(int usual) {
     tell("x");
     errno = chosen_error == NO_ERROR_CHOSEN ? usual : (int)chosen_error;
@@ -111,7 +117,7 @@ static int fail(int usual) {
 
 static int fails(const char *name, int usual) { return is_chosen(name) && fail(usual); }
 
-/* what a failing recv, send, read or write answers */
+/* the result of a failing recv, send, read or write */
 static ssize_t failed(void) { return errno ? -1 : 0; }
 
 static int is_socket(int fd) {
@@ -121,7 +127,7 @@ static int is_socket(int fd) {
     return answer;
 }
 
-/* frames begin with a small number, and words for the user with a letter */
+/* frames begin with a small number, and texts for the user with a letter */
 static void look(int fd, const void *bytes, size_t count) {
     if (count && *(const unsigned char *)bytes >= 'A' && is_socket(fd)) {
         tell("T");
@@ -162,7 +168,7 @@ int close(int fd) {
     return answer;
 }
 
-/* whether a socket waits or not is set so */
+/* sets whether calls on a socket block */
 int ioctl(int fd, unsigned long request, ...) {
     va_list more;
     va_start(more, request);
@@ -183,7 +189,7 @@ int poll(struct pollfd *asked, nfds_t count, int milliseconds) {
     return answer;
 }
 
-/* what a connection has failed by */
+/* the error of a connection */
 int getsockopt(int fd, int level, int option, void *value, socklen_t *size) {
     return is_hung_up && fail(ENOBUFS) ? -1 : REAL(getsockopt)(fd, level, option, value, size);
 }
@@ -199,7 +205,7 @@ static void visit(int listener) {
     }
 }
 
-/* whether others than this machine's processes could connect to a listener */
+/* whether processes of other machines could connect to a listener */
 static int is_open_to_others(int listener) {
     struct sockaddr_in name;
     socklen_t size = sizeof name;
@@ -230,7 +236,7 @@ int setsockopt(int fd, int level, int option, const void *value, socklen_t size)
     return fails(name, ENOBUFS) ? -1 : REAL(setsockopt)(fd, level, option, value, size);
 }
 
-/* gives a socket a port, and connects from that port of another address before it */
+/* binds a socket to a port, and first connects from the same port of another address */
 static void overtake(int fd, const struct sockaddr *name, socklen_t size) {
     struct sockaddr_in own = {.sin_family = AF_INET, .sin_addr.s_addr = htonl(INADDR_LOOPBACK)};
     socklen_t room = sizeof own;
@@ -265,19 +271,19 @@ ssize_t recv(int fd, void *into, size_t count, int flags) {
     return fails("recv", ECONNRESET) ? failed() : REAL(recv)(fd, into, at_most(count), is_whole ? flags | MSG_WAITALL : flags);
 }
 
-/* where an answer's fields are */
+/* the offsets of an answer's fields */
 enum { HEAD = 5, OFFERS = 17, OFFER = 8 };
 
 static size_t field(const unsigned char *at) {
     return (size_t)at[0] << 24 | (size_t)at[1] << 16 | (size_t)at[2] << 8 | at[3];
 }
 
-/* whether these bytes are an answer, whole and with too many offers */
+/* whether these bytes are a whole answer with too many offers */
 static int is_too_long(const unsigned char *bytes, size_t count) {
     return count >= OFFERS && bytes[0] == 4 && field(bytes + 1) == count - HEAD && field(bytes + OFFERS - 4) > most_offers;
 }
 
-/* it goes out shorter, and counts as sent */
+/* sends it shorter, but returns that all of it was sent */
 static ssize_t send_shorter(int fd, const unsigned char *bytes, size_t count, int flags) {
     unsigned char answer[OFFERS + OFFER];
     size_t size = OFFERS + OFFER * most_offers;
@@ -298,7 +304,7 @@ ssize_t send(int fd, const void *bytes, size_t count, int flags) {
     return fails("send", ECONNRESET) ? failed() : REAL(send)(fd, bytes, at_most(count), flags);
 }
 
-/* of files and streams; a socket is read by recv and written by send */
+/* for files and streams; sockets are read by recv and written by send */
 ssize_t read(int fd, void *into, size_t count) {
     if (is_socket(fd)) {
         tell("T");
@@ -341,7 +347,7 @@ long sysconf(int name) {
     return processors && name == _SC_NPROCESSORS_ONLN ? processors : REAL(sysconf)(name);
 }
 
-/* how many threads wait to be joined, where this one was started now */
+/* counts the threads that aren't joined yet, when this one was started */
 static void count_unjoined(void) {
     unsigned long unjoined = started - joined, most = most_unjoined;
     while (unjoined > most && !atomic_compare_exchange_weak(&most_unjoined, &most, unjoined)) {
@@ -354,7 +360,7 @@ static void *begin_thread(void *at) {
     return it->run(it->with);
 }
 
-/* the next thread's place, and to whom it belongs */
+/* the index of the next thread, and whose it is */
 static struct start *place(void *(*run)(void *), void *with) {
     unsigned long at = atomic_fetch_add(&placed, 1);
     if (at >= STARTS) {
@@ -407,7 +413,7 @@ static void tell_threads(void) {
     }
 }
 
-/* the program ends so, and neither by exit nor by a return to the C library */
+/* the program ends by this call, not by exit or by returning to the C library */
 void _exit(int status) {
     tell_threads();
     if (getenv("PEAK")) {

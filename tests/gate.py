@@ -1,11 +1,11 @@
 #!/usr/bin/env python3
-"""The gate: `rt ci`, then the built program whole (tests/program.py) and the page (tests/web.py), and one last line for all.
+"""`make test`: runs `rt ci`, the tests of the built program (tests/program.py) and of the page (tests/web.py), in this order.
 
-It shows what they print but their last lines, how long it took, and then each case that was skipped, with its reason.
-The last line is `N passed, M failed` over all, and no other such line stands after `rt ci`'s. The status is 0 only if
-nothing failed; then what was passed is kept for a release (tools/record.py).
+It prints their output except their last lines, then how long it took, and then each case that was skipped, with the reason.
+The last line is `N passed, M failed` over all three, and no other line after that of `rt ci` has this form. The exit status
+is 0 only if nothing failed. Then a record of the run is kept for a release (tools/record.py).
 
-`rt ci` removes what `make` built. What isn't built again by the end is put back as it was, also after an interruption.
+`rt ci` removes what `make` built. What isn't built again by the end is restored, also after an interruption.
 """
 import contextlib
 import glob
@@ -22,19 +22,18 @@ HERE = os.path.dirname(os.path.realpath(__file__))
 ROOT = os.path.dirname(HERE)
 PROGRAM = "crates/boruvka/out/boruvka"
 LAST = re.compile(r"(\d+) passed, (\d+) failed\n?")
-# What `make` builds.
 BUILT = ("crates/boruvka/out/boruvka", "crates/bench/out/bench", "crates/boruvka_c/out/libboruvka.*", "crates/boruvka_within/out/libboruvka_within.a", "crates/boruvka_within/out/boruvka.wasm")
 SKIPPED = re.compile(r"(\w+: .*): skipped: (.*)\n?")
 sys.dont_write_bytecode = True
 sys.path.insert(0, f"{ROOT}/tools")
 
 import toolchain
-from record import Gate
+from record import Run
 
 
 def shown(words, skipped):
-    """Runs a command, shows what it prints but its last line of results, and answers the status and those results. Lines of
-    cases that were skipped are kept, too."""
+    """Runs a command, prints its output except its line of results, and returns the exit status and the results. Adds the
+    cases that it skipped to `skipped`."""
     told = None
     with subprocess.Popen(words, cwd=ROOT, stdout=subprocess.PIPE, stderr=subprocess.STDOUT, errors="replace") as started:
         for line in started.stdout:
@@ -49,7 +48,7 @@ def shown(words, skipped):
 
 @contextlib.contextmanager
 def what_was_built():
-    """Puts back at the end what was built before, unless something stands in its place by then."""
+    """Restores at the end what was built before, unless it was built again."""
     inside = f"{ROOT}/.git" if os.path.isdir(f"{ROOT}/.git") else None
     with tempfile.TemporaryDirectory(prefix="built-", dir=inside) as aside:
         paths = [it for pattern in BUILT for it in glob.glob(f"{ROOT}/{pattern}")]
@@ -70,7 +69,8 @@ def minutes_since(begun):
 
 
 def results(name, status, told):
-    """How many passed and failed. What ended ill, and told of no failure, has one; so has what told nothing."""
+    """Returns how many passed and failed. If a command failed but reported no failure, or no results at all, that counts as
+    one failure."""
     passed, failed = told or (0, 0)
     if told is None:
         print(f"{name} ended without its results")
@@ -78,7 +78,7 @@ def results(name, status, told):
 
 
 def by_reason(skipped):
-    """A line for each reason why cases were skipped."""
+    """Returns a line for each reason why cases were skipped."""
     reasons = {why: [name for name, other in skipped if other == why] for _, why in skipped}
     return [f"skipped, as {why}: {', '.join(names)}" for why, names in reasons.items()] or ["no case was skipped"]
 
@@ -89,7 +89,7 @@ def main():
         print(why, file=sys.stderr)
         print("0 passed, 1 failed")
         return 1
-    record, begun, skipped = Gate(), time.monotonic(), []
+    record, begun, skipped = Run(), time.monotonic(), []
     status, told = shown([*toolchain.RT, "ci"], skipped)
     found = {"rt ci": results("rt ci", status, told)}
     print(f"rt ci took {minutes_since(begun)}", flush=True)
@@ -97,7 +97,7 @@ def main():
         subprocess.run(["make", PROGRAM], cwd=ROOT, check=False)
     for name in ("program.py", "web.py"):
         found[f"tests/{name}"] = results(f"tests/{name}", *shown([sys.executable, f"{HERE}/{name}"], skipped))
-    print(f"the gate took {minutes_since(begun)}", flush=True)
+    print(f"make test took {minutes_since(begun)}", flush=True)
     left_out = by_reason(skipped)
     print(*left_out, sep="\n")
     counts = [f"{name}: {passed} passed, {failed} failed" for name, (passed, failed) in found.items()]

@@ -1,16 +1,17 @@
 #!/usr/bin/env python3
-"""Tries the built program whole: words, files, streams, statuses, calls that fail, and refused memory.
+"""Tests the built program: arguments, files, streams, exit statuses, failing system calls, and failed allocations.
 
 usage: tests/program.py [PROGRAM]
 
-PROGRAM is crates/boruvka/out/boruvka if none is named. The cases stand in tests/cases, by subject; running.py there
-says how they run the program. Memory is refused, and calls of the system fail, by small libraries that are preloaded
-(tests/refusing.c and tests/failing.c, built by cc into a temporary folder). What README.md, docs/RECIPES.md and the
-manual page show is run as it stands; a picture is drawn only where `dot` is there. A case for a shell, for another
-command, for PostgreSQL, or for a package of Python is skipped if that isn't there. The last cases try tests/wrong_bodies.py,
-tests/gate.py and tools/prove.py, with small programs in the place of what these run. Else Python's standard library,
-make, a shell with its usual tools and a C compiler are all that it needs. The last line is `N passed, M failed`, without
-those that were skipped, and the status is 0 only where none failed.
+The default PROGRAM is crates/boruvka/out/boruvka. The cases are in tests/cases, by subject; running.py there explains how
+they run the program. Small preloaded libraries make allocations and system calls fail (tests/refusing.c and
+tests/failing.c, built by cc into a temporary folder). The commands that README.md, docs/RECIPES.md and the manual page show
+are run as they are; a picture is drawn only if `dot` is installed. A case for a shell, another command, PostgreSQL, or a
+Python package is skipped if that isn't installed. The last cases test tests/wrong_bodies.py, tests/gate.py and
+tools/prove.py, with stand-ins for what these run. Everything else needs only Python's standard library, make, a shell with
+its usual tools, and a C compiler.
+
+The last line is `N passed, M failed`, without the skipped cases. The exit status is 0 only if no case failed.
 """
 import os
 import subprocess

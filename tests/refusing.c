@@ -1,10 +1,11 @@
-/* Preloaded before a program: refuses chosen allocations of the C library's heap.
+/* Preloaded before a program, this library makes chosen allocations of the C library's heap fail. It allocates no memory itself.
  *
- * REFUSE_FIRST is the number of the first allocation that is refused, from 1, and REFUSE_LAST that of the last (none:
- * all from the first on). With COUNT_FROM only those of so many bytes or more have a number. With REFUSE_ABOVE each of
- * more bytes than so many is refused too. For each that is refused a byte goes to the descriptor REFUSED, so that
- * whoever started the program sees whether one was: an 'x', or with THREADS a 't' in another thread than the first. It
- * takes no memory itself. */
+ * - REFUSE_FIRST is the number of the first allocation that fails, from 1. REFUSE_LAST is that of the last (default: all from
+ *   the first on fail).
+ * - With COUNT_FROM=N only allocations of N bytes or more are counted.
+ * - With REFUSE_ABOVE=N every allocation of more than N bytes fails too.
+ * - For each allocation that fails, a byte is written to the descriptor REFUSED: 'x', or with THREADS 't' if it isn't the first
+ *   thread. */
 #define _GNU_SOURCE
 #include <errno.h>
 #include <stdatomic.h>
@@ -34,7 +35,7 @@ __attribute__((constructor)) static void begin(void) {
     tells_threads = getenv("THREADS") != 0;
 }
 
-/* whether the next allocation, of so many bytes, is one of those numbers */
+/* whether the next allocation, of so many bytes, is to fail */
 static int is_next_chosen(size_t size) {
     if (size < counted) {
         return 0;
@@ -54,7 +55,7 @@ static int refuses(size_t size) {
     return 1;
 }
 
-/* so many bytes, or as many as there are where they can't be told */
+/* the product, or the largest size if it overflows */
 static size_t product(size_t count, size_t size) { return size && count > (size_t)-1 / size ? (size_t)-1 : count * size; }
 
 void *malloc(size_t size) { return refuses(size) ? 0 : __libc_malloc(size); }

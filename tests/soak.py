@@ -1,32 +1,33 @@
 #!/usr/bin/env python3
-"""Tries the built program on drawn cases until some minutes are over, each against a reference that stands here.
+"""Compares the built program with a reference on random cases, for some minutes.
 
 usage: tests/soak.py [--minutes M] [--seed N] [--case I] [--jobs J] [--self-test] [PROGRAM]
 
-A case is a graph, a spelling of it, the program's words, and what fails in the run. There are six sorts:
+A case is a graph, a text that describes it, the program's arguments, and what fails in the run. There are six sorts:
 
-    plain           by one thread: the forest's text, status 0, and the report where it was asked for
-    workers         over workers: the same, the report's equations and rounds, and no worker lost; then by one thread
-    failing         calls fail (tests/failing.c). Those of sockets and threads change nothing but the report; a read is
-                    told by its line, and a write by what went out, which begins the forest's text
-    refused memory  allocations are refused (tests/refusing.c): the answer, or status 4 and its line, and nothing else
-    malformed       a lawful text with bytes, fields, numbers or lines changed: its first fault, or its forest where
-                    it is lawful still
-    several files   a graph's arcs in two files to ten, by one thread or more: their forest together, or the first of
-                    them that is at fault (malformed, of other vertices, not there) and how
+    plain           one thread: expects the forest's text, status 0, and the report if it was asked for
+    workers         over workers: expects the same, the report's equations and rounds, and no worker lost; then one thread
+    failing         calls fail (tests/failing.c). If they are calls of sockets and threads, only the report changes. A
+                    failed read is reported with its line, and a failed write with the bytes that were written, which are
+                    a prefix of the forest's text
+    out of memory   allocations fail (tests/refusing.c): expects the right output, or status 4 with its line and no output
+    malformed       a valid text with bytes, fields, numbers or lines changed: expects its first error, or its forest if it
+                    is still valid
+    several files   a graph's arcs in two to ten files, one thread or more: expects the forest of all, or the error of the
+                    first file that has one (malformed, another number of vertices, missing)
 
-Forests come from Kruskal's algorithm over Python's own sort (tests/cases/running.py), faults from a judge that was
+Forests are computed by Kruskal's algorithm over Python's own sort (tests/cases/running.py), and errors by a judge that was
 written from docs/GR_FORMAT.md alone. A run of more than 60 s is a mismatch.
 
-  --minutes M   how long (if not set: 5); a fraction will do
-  --seed N      what cases are drawn by (if not set: drawn, and printed first)
-  --case I      only that case: it depends on the seed and its number alone
-  --jobs J      so many processes side by side (if not set: as many as there are processors)
-  --self-test   plants wrong answers, each of which has to be told as a mismatch
+  --minutes M   run for M minutes, which may be a fraction (default: 5)
+  --seed N      draw the cases with this seed (default: random, and printed first)
+  --case I      run only case I, which depends only on the seed and I
+  --jobs J      run J processes in parallel (default: the number of processors)
+  --self-test   plant wrong outputs, each of which has to be reported as a mismatch
 
-PROGRAM is crates/boruvka/out/boruvka if none is named. Of each mismatch its number is printed, with what was wanted,
-and the folder that keeps its words and files. The last line is `N cases, M mismatches`, behind one with the number of
-each sort's cases, and the status is 0 only where M is 0. A C compiler builds the two libraries.
+The default PROGRAM is crates/boruvka/out/boruvka. For each mismatch the script prints its number, what was expected, and the
+folder with its arguments and files. The last line is `N cases, M mismatches`, after a line with the number of cases of each
+sort. The exit status is 0 only if M is 0. A C compiler builds the two libraries.
 """
 import contextlib
 import io
@@ -44,13 +45,13 @@ from collections import Counter
 sys.dont_write_bytecode = True
 
 from cases.running import SECONDS, Program, built, written
-from soaking.comparing import Limits, expect_right, files_written, found_by, runs_of, wrong_with
+from soaking.comparing import Limits, expect_right, files_written, found_by, runs_of, what_is_wrong_with
 from soaking.drawing import SORTS, drawn_case
 from soaking.planting import PLANTS
 
 
 def kept(folder, seed, number, why, case, found):
-    """Writes what is known of a mismatch into a folder, and answers that."""
+    """Writes what is known about a mismatch into a folder, and returns the folder."""
     room = f"{folder}/case-{number}"
     os.makedirs(room, exist_ok=True)
     written(f"{room}/graph.gr", case.text)
@@ -63,9 +64,9 @@ def kept(folder, seed, number, why, case, found):
 
 
 def tried(room, folder, seed, number):
-    """Tries a case, tells a mismatch, and answers the case's sort and whether it was one."""
+    """Runs a case, reports a mismatch, and returns the case's sort and whether it was a mismatch."""
     case = drawn_case(seed, number)
-    wrong = wrong_with(room, case)
+    wrong = what_is_wrong_with(room, case)
     if wrong:
         place = kept(folder, seed, number, *wrong)
         print(f"soak: case {number}: {case.sort}: {wrong[1].shown()}\n    {wrong[0]}\n    kept in {place}", flush=True)
@@ -73,7 +74,7 @@ def tried(room, folder, seed, number):
 
 
 def tried_until(end, folder, kept_in, seed, job, jobs):
-    """Each `jobs`th case from `job` on, until that time: their numbers by sort, and that of the mismatches."""
+    """Runs every `jobs`th case from `job` on, until that time. Returns the number of cases of each sort, and of mismatches."""
     signal.signal(signal.SIGINT, signal.default_int_handler)
     room = f"{folder}/{job}"
     os.makedirs(room, exist_ok=True)
@@ -97,8 +98,8 @@ def is_told(case, found):
     return False
 
 
-def told_plants(room, seed, times=5, most=5000):
-    """Of each plant how often it was told, and how often planted; with how many right answers were told too."""
+def reported_plants(room, seed, times=5, most=5000):
+    """Returns for each plant how often it was reported and how often planted, and how many right outputs were reported."""
     told, planted, wrongly = Counter(), Counter(), 0
     for number in range(most):
         for case in runs_of(drawn_case(seed, number)):
@@ -114,8 +115,8 @@ def told_plants(room, seed, times=5, most=5000):
     return told, planted, wrongly
 
 
-def told_programs(room, seed):
-    """Of each false program whether a case by it was told, and kept with its words: one that hangs, and others."""
+def reported_programs(room, seed):
+    """Returns for each false program whether a case was reported and kept with its arguments: one hangs, others are wrong."""
     told, right, Limits.seconds = {}, Program.path, 2
     false = {"a hang": "exec sleep 30", "an end without an answer": "exit 0", "a silent failure": "exit 3"}
     for name, line in false.items():
@@ -131,21 +132,21 @@ def told_programs(room, seed):
 
 
 def self_test(room, seed):
-    """Plants wrong answers, prints of each whether it was told, and answers the status."""
-    told, planted, wrongly = told_plants(room, seed)
-    of_programs = told_programs(room, seed)
+    """Plants wrong outputs, prints for each whether it was reported, and returns the exit status."""
+    told, planted, wrongly = reported_plants(room, seed)
+    of_programs = reported_programs(room, seed)
     for name in PLANTS:
-        print(f"soak: {name}: told {told[name]} of {planted[name]}")
+        print(f"soak: {name}: reported {told[name]} of {planted[name]}")
     for name, is_wrong in of_programs.items():
-        print(f"soak: {name}: {'told' if is_wrong else 'NOT TOLD'}")
+        print(f"soak: {name}: {'reported' if is_wrong else 'NOT REPORTED'}")
     failed = sum(told[name] < max(1, planted[name]) for name in PLANTS) + list(of_programs.values()).count(False)
-    print(f"{wrongly} right answers were told as wrong")
-    print(f"{len(PLANTS) + len(of_programs) - failed} plants told, {failed} not told")
+    print(f"{wrongly} right outputs were reported as wrong")
+    print(f"{len(PLANTS) + len(of_programs) - failed} plants reported, {failed} not reported")
     return 1 if failed or wrongly else 0
 
 
 def settings_of(words):
-    """What the words set, or None where they are wrong."""
+    """Returns what the arguments set, or None if they are invalid."""
     found = {"minutes": 5.0, "seed": None, "case": None, "jobs": os.cpu_count() or 1, "self-test": False}
     words, named = list(words), []
     while words:
@@ -167,14 +168,14 @@ def settings_of(words):
 
 
 def soaked(settings, seed, folder):
-    """Tries cases side by side, prints their numbers, and answers the status."""
+    """Runs cases in parallel, prints their numbers, and returns the exit status."""
     kept_in = tempfile.mkdtemp(prefix="boruvka-soak-kept-")
     if settings["case"] is not None:
         sort, is_wrong = tried(f"{folder}/0", kept_in, seed, settings["case"])
         results = [(Counter([sort]), int(is_wrong))]
     else:
         end, jobs = time.monotonic() + 60 * settings["minutes"], settings["jobs"]
-        signal.signal(signal.SIGINT, signal.SIG_IGN)  # (the others end by it, and tell what they have)
+        signal.signal(signal.SIGINT, signal.SIG_IGN)  # the other processes end then, and report what they have
         with multiprocessing.Pool(jobs) as pool:
             results = pool.starmap(tried_until, [(end, folder, kept_in, seed, job, jobs) for job in range(jobs)], 1)
     counts, mismatches = sum((it for it, _ in results), Counter()), sum(it for _, it in results)

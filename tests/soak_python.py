@@ -1,19 +1,19 @@
 #!/usr/bin/env python3
-"""Tries the package for Python on drawn cases until some minutes are over, each against a reference in python/tests.
+"""Compares the package for Python with references in python/tests on random cases, for some minutes.
 
 usage: tests/soak_python.py [--minutes M] [--seed N] [--sort NAME --case I] [--drawn FOLDER] [LIBRARY]
 
-The sorts of cases are those that the files drawn_*.py of python/tests have in `SORTS`: functions that draw a case by a
-generator of numpy, and raise an error if the package isn't right.
+The sorts of cases are the functions in `SORTS` of the files drawn_*.py in python/tests. Each draws a case with a generator of
+numpy, and raises an error if the package is wrong.
 
-  --minutes M   how long (if not set: 5); a fraction will do
-  --seed N      what cases are drawn by (if not set: drawn, and printed first)
-  --sort NAME   only this sort, and with --case I only that case: it depends on the seed, the sort and its number alone
-  --drawn FOLDER  where else such files are
+  --minutes M     run for M minutes, which may be a fraction (default: 5)
+  --seed N        draw the cases with this seed (default: random, and printed first)
+  --sort NAME     run only this sort, and with --case I only that case, which depends only on the seed, the sort and I
+  --drawn FOLDER  another folder with such files
 
-LIBRARY is crates/boruvka_c/out/libboruvka.so if none is named. Of each mismatch the words that repeat it and the error
-are printed. The last line is `N cases, M mismatches`, and the status is 0 only where M is 0. Without a Python that has
-numpy nothing is tried, and a line says so.
+The default LIBRARY is crates/boruvka_c/out/libboruvka.so. For each mismatch the script prints the error and the command that
+repeats it. The last line is `N cases, M mismatches`, and the exit status is 0 only if M is 0. If no Python has numpy, nothing
+is tested, and a line says so.
 """
 import argparse
 import glob
@@ -32,7 +32,7 @@ sys.dont_write_bytecode = True
 
 
 def sorts(folders):
-    """The functions of all sorts, by their names."""
+    """Maps the names of all sorts to their functions."""
     sys.path[:0] = folders
     found = {}
     for path in sorted(it for folder in folders for it in glob.glob(f"{glob.escape(folder)}/drawn_*.py")):
@@ -40,8 +40,8 @@ def sorts(folders):
     return found
 
 
-def why_wrong(function, seed, name, number):
-    """What is wrong with a case, or an empty text."""
+def what_is_wrong(function, seed, name, number):
+    """Returns what is wrong with a case, or an empty text."""
     import numpy
 
     try:
@@ -52,14 +52,14 @@ def why_wrong(function, seed, name, number):
 
 
 def tried(given, seed):
-    """Tries cases of each sort in turn, prints the mismatches, and returns how many cases and mismatches there were."""
+    """Runs cases of all sorts in turn, prints the mismatches, and returns how many cases and mismatches there were."""
     found = {name: it for name, it in sorts([f"{ROOT}/python/tests", *given.drawn]).items() if given.sort in (None, name)}
     if not found:
         raise SystemExit(f"there is no sort {given.sort!r}")
     end, counts, mismatches, number = time.monotonic() + 60 * given.minutes, dict.fromkeys(found, 0), 0, given.case or 0
     while True:
         for name, function in found.items():
-            why = why_wrong(function, seed, name, number)
+            why = what_is_wrong(function, seed, name, number)
             counts[name] += 1
             mismatches += bool(why)
             if why:

@@ -1,13 +1,14 @@
 #!/usr/bin/env python3
-"""Tries the page of web/ in Chromium, by clicks, keys, dropped files and saves, and its module in Node.
+"""Tests the page of web/ in Chromium, by clicks, keys, dropped files and saves, and its module in Node.
 
 usage: tests/web.py [--strict] [--module FILE] [--program FILE] [--pictures FOLDER] [CASE..]
 
-FILE is boruvka.wasm and the built program, if they aren't where `make` puts them; FOLDER gets pictures of the page, to
-look at. A CASE is a word of a case's name; all are tried if there is none. Forests are compared with what the program
-writes, or with Kruskal's algorithm in Python where it isn't built. What wants Chromium, its driver or Node is skipped
-where they aren't. With --strict that is a failure, and so are times past their limits; large inputs are tried then too.
-The last line is `N passed, M failed`, without those that were skipped, and the status is 0 only where none failed.
+The FILEs are boruvka.wasm and the built program, if they aren't where `make` puts them. FOLDER gets pictures of the page. A
+CASE is a word in the names of the cases to run (default: all). Forests are compared with what the program writes, or with
+Kruskal's algorithm in Python if the program isn't built. Cases that need Chromium, its driver or Node are skipped if these
+aren't installed. With --strict that is a failure, and so are times beyond their limits; large inputs are tested then too.
+
+The last line is `N passed, M failed`, without the skipped cases. The exit status is 0 only if no case failed.
 """
 import argparse
 import os
@@ -23,7 +24,7 @@ from cases.running import CASES, Program, Skipped
 
 
 def tried(chosen, strict):
-    """Tries these cases, and answers how many failed and how many were skipped."""
+    """Runs these cases, and returns how many failed and how many were skipped."""
     failed = skipped = 0
     with tempfile.TemporaryDirectory(prefix="boruvka-web-") as folder:
         for number, function in enumerate(chosen):

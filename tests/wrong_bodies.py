@@ -1,25 +1,26 @@
 #!/usr/bin/env python3
-"""Tries wrong bodies many at a time: each has to be refused by the prover.
+"""Mutation tests: each wrong body has to be rejected by the prover. Many are tried in one check.
 
-Each `crates/NAME/wrong-bodies/*.edit` turns the body of a function. As many edits as touch functions of different names
-go into one copy of the crate, and one `rt check` of that copy has to tell each of these functions as not proved: a body
-changes no contract, so each function is judged by itself. An edit that stands in another's way, or that changes more than
-bodies, has a copy of its own. A function counts as refused only for a reason of its own: a clause, a condition or a bound
-that isn't proved where it stands or in its proof files. One that isn't refused so is tried alone before it counts as
-survived, since the prover may wait for another edit's function; if its proof files only name what the edit took away, it
-is told as suspicious.
+Each `crates/NAME/wrong-bodies/*.edit` changes the body of a function. Edits of functions with different names go into one
+copy of the crate, and one `rt check` of that copy has to report each of these functions as not proved. That works because a
+body changes no contract, so each function is judged by itself. An edit that conflicts with another, or that changes more
+than bodies, has a copy of its own.
 
-An edit has the form that `rt must-fail` takes, after a first line `why:` that says which clause refuses it and why that
-matters:
+A function counts as refused only for a reason of its own: a clause, a condition or a bound that isn't proved in its body or
+in its proof files. Otherwise it is tried alone before it counts as survived, since the prover may wait for the function of
+another edit. If its proof files only miss names that the edit removed, it is reported as suspicious.
+
+An edit has the form that `rt must-fail` reads, after a first line `why:` with the clause that refuses it and the reason why
+that matters:
 
     why: `FUNCTION`: `clause` refuses it: the reason
     file: src/FILE.rt
-    old: a text that stands once in that file
-    new: what stands there in its place
+    old: a text that occurs once in that file
+    new: the text that replaces it
 
-Each crate is checked as it stands first. Its own `out/` and those of the crates below it are copied then, so that only
-what an edit touches is proved again. RT is the command that checks (`rt`, if not set). The last line, over all crates, is
-`N wrong bodies refused, M survived`, and the status is 0 only if none survived and each edit could be tried.
+First each crate is checked unchanged. Then its `out/` and those of the crates that it depends on are copied, so that only
+what an edit touches is proved again. RT is the command that checks (default: `rt`). The last line, over all crates, is
+`N wrong bodies refused, M survived`. The exit status is 0 only if none survived and every edit could be tried.
 """
 import argparse
 import os
@@ -45,7 +46,7 @@ from crates import below, crate_lines
 from toolchain import RT
 
 FUNCTION = re.compile(r'(?m)^( *)(?:pub(?:\([^)]*\))? )?(?:const )?(?:unsafe )?(?:ghost )?(?:extern "C" )?fn (\w+)')
-# What a proof file says where it names something that the edit took away.
+# The errors of a proof file that names something that the edit removed.
 NAMES_ALONE = re.compile(r"has no field|is not in scope|has no `|was not admitted")
 EACH = 4_000_000_000  # bytes of free memory for each crate that is tried
 RUNNING, STOPPED = set(), threading.Event()
@@ -59,14 +60,15 @@ class Interrupted(Exception):
 class Edit:
     name: str
     why: str
-    changes: list  # of a file, an old text and a new one
-    touched: set  # the names of its functions; empty: more than bodies
+    changes: list  # tuples of a file, an old text and a new one
+    touched: set  # the names of its functions; empty if it changes more than bodies
 
 
 def functions_of(text):
-    """Each function of a file, as `rt fmt` lays it out: its names, where it begins, and where its body begins and ends.
+    """Yields each function of a file in the layout of `rt fmt`: its names, where it begins, and where its body begins and
+    ends.
 
-    By the name in `#[cycle(..)]` its proofs and those of the functions that it calls in a circle are told together."""
+    Errors of mutually recursive functions are reported under the name in their `#[cycle(..)]`."""
     for it in FUNCTION.finditer(text):
         cycle = re.search(r"#\[cycle\((\w+)\)\]\s*\Z", text[: it.start()])
         body = re.compile(rf"(?m)^{it[1]}(?! ).*\{{$").search(text, it.start())
@@ -76,7 +78,7 @@ def functions_of(text):
 
 
 def function_at(text, at):
-    """The innermost function at a place."""
+    """Returns the innermost function at a position."""
     return max((it for it in functions_of(text) if it[1] <= at < it[3]), key=lambda it: it[1], default=None)
 
 
@@ -90,8 +92,8 @@ def read_edit(path):
     return Edit(os.path.basename(path)[: -len(".edit")], said.get("why", "").strip(), changes, set())
 
 
-def why_unfit(edit, texts):
-    """Says why an edit can't be tried, if it can't, and else notes which functions it touches."""
+def why_unusable(edit, texts):
+    """Returns why an edit can't be tried, or None. Then it records which functions the edit touches."""
     if not edit.changes:
         return "it has no pair of an old and a new text"
     if not edit.why:
@@ -102,13 +104,13 @@ def why_unfit(edit, texts):
             return f"there is no file {file} of code"
         if old is None:
             return "a new text has no old one before it"
-        # each change is looked for where it is made: in what the earlier ones left
+        # each change is looked up in the text that the earlier changes made
         text = made[file]
         if text.count(old) != 1:
-            return "an old text doesn't stand once in its file"
+            return "an old text doesn't occur exactly once in its file"
         made[file] = text.replace(old, new)
         it = function_at(text, text.index(old))
-        # (what stands before the body and from its last brace on, clauses among it, has to be as it was)
+        # (everything outside the body, clauses included, has to be unchanged)
         is_body = it and made[file].startswith(text[: it[2]]) and made[file].endswith(text[it[3] - 1 :])
         touched |= it[0] if is_body else {None}
     edit.touched = set() if None in touched else touched
@@ -116,7 +118,7 @@ def why_unfit(edit, texts):
 
 
 def applied(edits, texts):
-    """The texts after these edits, or None if an old text doesn't stand once."""
+    """Returns the texts after these edits, or None if an old text doesn't occur exactly once."""
     made = dict(texts)
     for file, old, new in (change for edit in edits for change in edit.changes):
         if made[file].count(old) != 1:
@@ -126,7 +128,7 @@ def applied(edits, texts):
 
 
 def packed(edits, texts):
-    """The copies: lists of edits that touch functions of different names."""
+    """Divides the edits among copies of the crate: those of a copy touch functions of different names."""
     copies = []
     for edit in edits:
         for copy in copies:
@@ -139,7 +141,7 @@ def packed(edits, texts):
 
 
 def ran(flags, folder):
-    """The status of `rt check` and what it says."""
+    """Returns the exit status and the output of `rt check`."""
     if STOPPED.is_set():
         raise Interrupted
     how = {"stdin": subprocess.DEVNULL, "stdout": subprocess.PIPE, "stderr": subprocess.STDOUT, "errors": "replace"}
@@ -153,14 +155,14 @@ def ran(flags, folder):
 
 
 def cut_off(*_):
-    """Ends the checks, so that none goes on without this program."""
+    """Ends the checks, so that none continues without this script."""
     STOPPED.set()
     for it in list(RUNNING):
         it.terminate()
 
 
 def texts_of(folder):
-    """The texts of a crate's code, by their paths in its folder."""
+    """Maps the paths of a crate's code, relative to its folder, to their texts."""
     texts = {}
     for at, _, files in os.walk(f"{folder}/src"):
         for name in files:
@@ -170,7 +172,7 @@ def texts_of(folder):
 
 
 class Room:
-    """A copy of a crate, with what stands below it, in a folder of its own."""
+    """Copies a crate, and those that it depends on, into a folder of its own."""
 
     def __init__(self, crate, lines, folder, flags):
         self.source, self.folder, self.flags = f"{ROOT}/crates/{crate}", f"{folder}/crates/{crate}", flags
@@ -185,7 +187,7 @@ class Room:
         self.texts = texts_of(self.folder)
 
     def check(self, texts):
-        """What `rt check` says of the crate with these texts, over the work that the crate's own checks kept, and its verdict."""
+        """Returns the output of `rt check` for the crate with these texts, and its verdict. It reuses the crate's own checks."""
         shutil.rmtree(f"{self.folder}/out", ignore_errors=True)
         if os.path.isdir(f"{self.source}/out/incremental"):
             shutil.copytree(f"{self.source}/out/incremental", f"{self.folder}/out/incremental")
@@ -194,18 +196,18 @@ class Room:
                 it.write(text)
         status, said = ran(self.flags, self.folder)
         last = next((it for it in reversed(said.split("\n")) if it.startswith("logic=")), "")
-        # (a verdict only if its status is that of such a line)
+        # (it is a verdict only if the exit status agrees with that line)
         return said, last if last.startswith({0: "logic=proved", 1: "logic=not-proved"}.get(status, "\n")) else ""
 
 
 def named(path):
-    """The function that a path names, and the one in whose body it stands if it is a closure: `fn`, that one, and its own."""
-    # (the folder of a function that calls itself begins with a plus sign)
+    """Returns the function that a path names, and for a closure the function that contains it: `fn`, that one, its own."""
+    # (the folder of a recursive function begins with a plus sign)
     return {path[-1].removeprefix("+"), *(it.removeprefix("+") for before, it in zip(path, path[1:]) if before == "fn")}
 
 
 def verdict(edit, texts, said):
-    """'refused', 'named' (only names are missing) or 'survived', and the reason that was told."""
+    """Returns 'refused', 'named' (only names are missing) or 'survived', and the reason that was reported."""
     names = ""
     for line in said.split("\n"):
         told = re.match(r"(?:note: |error: )?(?:\./)?((?:src|proofs)/\S+?):(\d+):\d+: (.*)", line)
@@ -228,18 +230,18 @@ def verdict(edit, texts, said):
 
 
 def say(line):
-    # (in one call: `print` writes the line and its end apart, and another thread may write between them)
+    # (in one call: `print` writes the line feed separately, so another thread could write in between)
     sys.stdout.write(f"{line}\n")
     sys.stdout.flush()
 
 
 def edits_of(crate, folders, texts, count):
-    """The edits of a crate that can be tried; it tells of the others, and counts them."""
+    """Yields the edits of a crate that can be tried. Reports and counts the others."""
     for part in folders:
         where = f"{ROOT}/crates/{crate}/{part}"
         for name in sorted(os.listdir(where)) if os.path.isdir(where) else []:
             edit = read_edit(f"{where}/{name}")
-            why = why_unfit(edit, texts) if name.endswith(".edit") else "its name doesn't end in .edit"
+            why = why_unusable(edit, texts) if name.endswith(".edit") else "its name doesn't end in .edit"
             if why:
                 say(f"{crate}/{part}/{name}: BAD EDIT: {why}")
                 count["unfit"] += 1
@@ -248,7 +250,7 @@ def edits_of(crate, folders, texts, count):
 
 
 def try_crate(crate, lines, folders, flags):
-    """How many edits were refused, survived, and couldn't be tried."""
+    """Returns how many edits were refused, survived, and couldn't be tried."""
     count = Counter()
     with tempfile.TemporaryDirectory(prefix="wrong-bodies-") as folder:
         room = Room(crate, lines, folder, flags)
@@ -260,7 +262,7 @@ def try_crate(crate, lines, folders, flags):
             for edit in copy:
                 how_it_ended, line = verdict(edit, texts, said) if last.startswith("logic=not-proved") else ("survived", "")
                 if len(copy) > 1 and how_it_ended != "refused":
-                    # alone: no other wrong body's proof is waited for then, and no other's names are missing
+                    # alone, so that the prover doesn't wait for another wrong body, and no name is missing because of another
                     queue.append([edit])
                 elif not last:
                     first = next((it for it in said.split("\n") if "error" in it), said.strip().replace("\n", "; "))
@@ -276,15 +278,15 @@ def try_crate(crate, lines, folders, flags):
     return count
 
 
-def side_by_side():
-    """How many crates are tried side by side, if it isn't said."""
+def in_parallel():
+    """Returns how many crates are tried in parallel by default."""
     with open("/proc/meminfo", encoding="utf-8") as it:
         free = 1024 * int(re.search(r"MemAvailable:\s+(\d+)", it.read())[1])
     return max(1, min(len(os.sched_getaffinity(0)) // 2, free // EACH))
 
 
-def passed_over(lines):
-    """The edits that no run would try: in a folder of another name, or of a crate that crates.txt lacks."""
+def never_tried(lines):
+    """Yields the edits that no run tries: in a folder of another name, or of a crate that isn't in crates.txt."""
     for at, _, files in os.walk(f"{ROOT}/crates"):
         crate, _, part = os.path.relpath(at, f"{ROOT}/crates").partition("/")
         if crate not in lines or part not in ("must-fail", "wrong-bodies"):
@@ -292,7 +294,7 @@ def passed_over(lines):
 
 
 def changed_since(commit):
-    """The crates with a file that differs from the commit, new files too; None if git knows no such commit."""
+    """Returns the crates with a file that is new or differs from the commit, or None if git knows no such commit."""
     found = []
     for words in [["diff", "--name-only", commit, "--", "crates"], ["ls-files", "--others", "--exclude-standard", "crates"]]:
         told = subprocess.run(["git", "-C", ROOT, *words], capture_output=True, text=True, check=False)
@@ -304,9 +306,9 @@ def changed_since(commit):
 
 def main():
     parser = argparse.ArgumentParser(description=__doc__, formatter_class=argparse.RawDescriptionHelpFormatter)
-    parser.add_argument("--jobs", type=int, default=side_by_side(), help="crates side by side (default: by processors and memory)")
-    parser.add_argument("--must-fail", action="store_true", help="the edits of must-fail/ too (`rt must-fail` tries one at a time)")
-    parser.add_argument("--since", metavar="COMMIT", help="only crates with a file that differs from that commit")
+    parser.add_argument("--jobs", type=int, default=in_parallel(), help="crates in parallel (default: by processors and memory)")
+    parser.add_argument("--must-fail", action="store_true", help="also the edits of must-fail/ (`rt must-fail` tries one at a time)")
+    parser.add_argument("--since", metavar="COMMIT", help="only crates with a file that differs from this commit")
     parser.add_argument("crates", nargs="*", metavar="CRATE", help="only these crates")
     words, lines, begun = parser.parse_args(), crate_lines(), time.monotonic()
     changed = lines if words.since is None else changed_since(words.since)
@@ -326,11 +328,11 @@ def main():
     for it in (signal.SIGINT, signal.SIGTERM):
         signal.signal(it, cut_off)
     count = Counter()
-    for name in sorted(passed_over(lines)) if names == list(lines) else []:
-        say(f"{name}: BAD EDIT: it stands in no folder whose edits are tried")
+    for name in sorted(never_tried(lines)) if names == list(lines) else []:
+        say(f"{name}: BAD EDIT: it is in a folder whose edits are not tried")
         count["unfit"] += 1
     folders, proved = ["wrong-bodies"] + ["must-fail"] * words.must_fail, []
-    # before any copy is made: the check of a crate builds those below it
+    # before any copy is made, because the check of a crate builds those that it depends on
     for name in names:
         if any(os.path.isdir(f"{ROOT}/crates/{name}/{part}") for part in folders):
             if ran([], f"{ROOT}/crates/{name}")[0]:

@@ -1,22 +1,22 @@
 #!/usr/bin/env python3
-"""Packs what was built into a release: a .tar.gz, a wheel for Python, and with dpkg-deb two .deb. Another .deb has the
-extension of postgres/, if a server of PostgreSQL is there with its headers.
+"""Packs what was built into a release: a .tar.gz, a wheel for Python and, if dpkg-deb is installed, two .deb. Another .deb
+has the extension of postgres/, if the headers of PostgreSQL's server are installed.
 
 usage: tools/dist.py [--program FILE] [--libraries FOLDER] [INTO]
        tools/dist.py --may
 
-It proves nothing, and builds the extension alone: `make dist` does all else before it. FILE is the program, FOLDER has the libraries, and INTO
-gets the packages: dist/, if none is named. What goes into them is what `make install` copies, without the symbols that
-only a debugger reads, with the sums of all files, and with PROVED.txt: the commit, the kit, and the last lines of the
-gate. The wheel has the package of python/boruvka, the shared library and the page; no compiler made it. One .deb has the
-program and the libraries, the other the same package for Debian's own Python.
+The script proves nothing, and builds only the extension: `make dist` does everything else first. FILE is the program,
+FOLDER has the libraries, and INTO gets the packages (default: dist/). The packages contain what `make install` copies,
+without the symbols that only a debugger reads. They also have the checksums of all files, and PROVED.txt: the commit, the
+toolchain, and the last lines of `make test`. The wheel has the package of python/boruvka, the shared library and the page;
+it needs no compiler. One .deb has the program and the libraries, and the other has the package for Debian's own Python.
 
-If the gate isn't known to have passed on this commit, or CHANGELOG.md begins with another version, as Next, nothing is
-packed. UNPROVED=1 in the environment packs all the same, and PROVED.txt tells it. `--may` only says whether it may
+Nothing is packed if no `make test` is known to have passed on this commit, or if CHANGELOG.md doesn't begin with this
+version. With UNPROVED=1 in the environment it is packed anyway, and PROVED.txt says so. `--may` only reports whether it may
 be packed.
 
-The same files give the same bytes: names are sorted, owners are root, and each time is that of the commit, or
-SOURCE_DATE_EPOCH if that is set. Each package's sum goes to standard output.
+The same files give the same bytes: names are sorted, owners are root, and each time is SOURCE_DATE_EPOCH or, if that isn't
+set, the time of the commit. The script prints the checksum of each package.
 """
 import base64
 import gzip
@@ -42,9 +42,9 @@ from stamp import VERSION, git, seconds, text_of, version
 
 PROGRAM = f"{ROOT}/crates/boruvka/out/boruvka"
 LIBRARIES = f"{ROOT}/crates/boruvka_c/out"
-# Where an install puts what, if the environment says so; for a package it doesn't count.
+# Variables that tell `make install` where to put things. A package ignores them.
 FOLDERS = ("BINDIR", "LIBDIR", "INCLUDEDIR", "MANDIR", "DOCDIR", "PAGEDIR", "BASHDIR", "ZSHDIR", "FISHDIR")
-# The package of Debian that has a shared library.
+# The Debian package of each shared library.
 PACKAGES = {"libc.so.6": "libc6", "libm.so.6": "libc6", "libpthread.so.0": "libc6", "libdl.so.2": "libc6", "ld-linux-x86-64.so.2": "libc6", "libgcc_s.so.1": "libgcc-s1"}
 CONTROL = """\
 Package: boruvka
@@ -83,7 +83,7 @@ if command -v {command} > /dev/null 2>&1; then
     {command} -p python3-boruvka
 fi
 """
-# (a host that no one can have: no address is known)
+# (a host that can't exist, because no address is known)
 MAINTAINER = "the authors of Borůvka <no-address@boruvka.invalid>"
 COPYRIGHT = """\
 Format: https://www.debian.org/doc/packaging-manuals/copyright-format/1.0/
@@ -141,10 +141,10 @@ Description: minimum spanning forests in PostgreSQL
  aggregate and by functions with the columns of pgRouting. It also finds their
  components, clusters and trees.
 """
-# What any Linux of the wheel's tag has: the policy manylinux2014 (PEP 599).
+# What every Linux that matches the wheel's tag has: the policy manylinux2014 (PEP 599).
 TAG = "py3-none-manylinux2014_x86_64"
 MOST_GLIBC = (2, 17)
-TIMES = (315_532_800, 4_323_283_200)  # from 1980 on, and before 2107: a .zip has no others
+TIMES = (315_532_800, 4_323_283_200)  # from 1980 until 2107: a .zip can't have other times
 OF_MANYLINUX = {"libc.so.6", "libm.so.6", "libpthread.so.0", "libdl.so.2", "libgcc_s.so.1", "ld-linux-x86-64.so.2"}
 METADATA = """\
 Metadata-Version: 2.1
@@ -170,7 +170,7 @@ Requires-Dist: numpy>=1.21
 {extras}Description-Content-Type: text/markdown
 
 {readme}"""
-# What the package works with, from which version on: an extra of the wheel, by the name of its package.
+# The packages that this one works with, and their oldest versions. Each is an extra of the wheel.
 EXTRAS = {"dask": "2022.2", "matplotlib": "3.5", "networkx": "3.2", "pandas": "1.3", "scikit-learn": "1.0", "scipy": "1.8"}
 WHEEL = f"Wheel-Version: 1.0\nGenerator: tools/dist.py\nRoot-Is-Purelib: false\nTag: {TAG}\n"
 ENTRY_POINTS = """\
@@ -187,26 +187,26 @@ class NotPacked(Exception):
 
 
 def refusal():
-    """Why a release may not be packed, or None."""
+    """Returns why a release may not be packed, or None."""
     if os.environ.get("UNPROVED") == "1":
         return None
     latest = re.search(r"^## (\S+)", text_of("CHANGELOG.md"), re.M)[1]
     if latest != version():
-        return f"CHANGELOG.md begins with {latest}, and {VERSION} has {version()}: bring them together, or say UNPROVED=1"
+        return f"CHANGELOG.md begins with {latest}, but {VERSION} has {version()}: make them equal, or set UNPROVED=1"
     if not record.kept():
-        return "the gate (make test) isn't known to have passed on this commit: run it, or say UNPROVED=1"
+        return "`make test` isn't known to have passed on this commit: run it, or set UNPROVED=1"
     return None
 
 
 def strip(program):
-    """Takes away the symbols that only a debugger reads; the shared library is made without them."""
+    """Removes the symbols that only a debugger reads. The shared library is built without them."""
     ended = subprocess.run(["strip", "--strip-unneeded", program], capture_output=True, text=True, check=False)
     if ended.returncode:
         raise NotPacked(ended.stderr.strip())
 
 
 class Release:
-    """What goes into each package, and the time that all of it has."""
+    """What goes into each package, and the time of all its files."""
 
     def __init__(self, program, libraries):
         self.program, self.libraries = program, libraries
@@ -217,12 +217,12 @@ class Release:
         if self.seconds is None:
             raise NotPacked("the time of the commit isn't known: set SOURCE_DATE_EPOCH")
         if not TIMES[0] <= self.seconds < TIMES[1]:
-            raise NotPacked(f"SOURCE_DATE_EPOCH is {self.seconds}, and a wheel has times from 1980 to 2106 alone")
+            raise NotPacked(f"SOURCE_DATE_EPOCH is {self.seconds}, but the times in a wheel are from 1980 to 2106")
 
     def install(self, root, prefix, **folders):
-        """What `make install` copies, below a root; all of it has to be there."""
+        """Installs below a root, as `make install` does. Everything has to have been built."""
         env = {it: word for it, word in os.environ.items() if it not in ("MAKEFLAGS", "MAKELEVEL", "MFLAGS", *FOLDERS)}
-        # (as make names its targets, which can't have a space: the path of a checkout may)
+        # (relative paths, as in the Makefile: a target can't have a space, but the path of a checkout may)
         program, library = os.path.relpath(self.program, ROOT), os.path.relpath(f"{self.libraries}/libboruvka", ROOT)
         words = [f"PROGRAM={program}", f"LIBRARY={library}", f"DESTDIR={root}", f"PREFIX={prefix}"]
         words += [f"{name}={folder}" for name, folder in folders.items()]
@@ -232,20 +232,20 @@ class Release:
         strip(f"{root}{prefix}/bin/boruvka")
 
     def proved(self):
-        """What was proved, for PROVED.txt."""
+        """Yields the lines of PROVED.txt."""
         head, gate = git("rev-parse", "HEAD"), record.kept()
-        changed = ", with changes that no commit has" if head and not record.commit() else ""
+        changed = ", with uncommitted changes" if head and not record.commit() else ""
         yield f"boruvka {self.version}"
         yield f"commit: {head or 'not known'}{changed}"
-        yield f"kit: {record.kit() or 'not known'}"
+        yield f"toolchain: {record.kit() or 'not known'}"
         if gate:
-            yield f"gate (make test): passed on this commit, with {gate['kit'] or 'a kit that is not known'}"
+            yield f"make test: passed on this commit, with {gate['kit'] or 'an unknown toolchain'}"
             yield from [f"    {it}" for it in gate["lines"]]
         else:
-            yield "gate (make test): not known to have passed on this commit; packed all the same, by UNPROVED=1"
+            yield "make test: not known to have passed on this commit; packed anyway, because UNPROVED=1 was set"
 
     def settle(self, root):
-        """Gives all below a folder the modes and the time that they have in a package."""
+        """Gives everything below a folder the modes and the time that it has in a package."""
         for at, folders, files in os.walk(root, topdown=False):
             for name in [*files, *folders]:
                 os.utime(f"{at}/{name}", (self.seconds, self.seconds), follow_symlinks=False)
@@ -266,18 +266,18 @@ def read(path):
 
 
 def files_below(root):
-    """The regular files below a folder, by their names from there, sorted."""
+    """Returns the paths of the regular files below a folder, relative to it, sorted."""
     found = [f"{at}/{name}" for at, _, files in os.walk(root) for name in files]
     return sorted(os.path.relpath(it, root) for it in found if not os.path.islink(it))
 
 
 def sums(root, kind):
-    """The lines that sha256sum or md5sum writes of all files below a folder."""
+    """Returns the lines that sha256sum or md5sum writes for all files below a folder."""
     return "".join(f"{hashlib.new(kind, read(f'{root}/{it}')).hexdigest()}  {it}\n" for it in files_below(root))
 
 
 def gzipped(content):
-    """The content as gzip packs it, without a name and a time."""
+    """Compresses the content by gzip, without a name and a time."""
     packed = io.BytesIO()
     with gzip.GzipFile(filename="", mode="wb", fileobj=packed, mtime=0) as out:
         out.write(content)
@@ -293,7 +293,7 @@ def tarball(release, room):
     release.settle(root)
     packed = io.BytesIO()
     with tarfile.open(fileobj=packed, mode="w", format=tarfile.USTAR_FORMAT) as tar:
-        # (it adds what is below a folder in the order of the names)
+        # (tarfile adds the contents of a folder in the order of their names)
         tar.add(root, name, filter=owned_by_root)
     return f"{name}.tar.gz", gzipped(packed.getvalue())
 
@@ -305,17 +305,17 @@ def owned_by_root(member):
 
 
 def libraries_of(code):
-    """The names of the shared libraries that some code needs."""
+    """Returns the names of the shared libraries that a binary needs."""
     return {it.decode() for it in re.findall(rb"\0((?:lib|ld-)[\w+-]+\.so\.\d+)(?=\0)", code) if not it.startswith(b"libboruvka.")}
 
 
 def least_glibc(code):
-    """The least version of the C library that has all that some code asks of it."""
+    """Returns the oldest version of the C library that has everything a binary needs."""
     return max(tuple(map(int, it.split(b"."))) for it in re.findall(rb"\0GLIBC_(\d+\.\d+(?:\.\d+)?)(?=\0)", code))
 
 
 def depends(files):
-    """The packages that these programs and libraries need, with the least version of the C library."""
+    """Returns the packages that these programs and libraries need, with the oldest version of the C library."""
     code = b"".join(map(read, files))
     wanted = libraries_of(code)
     if not wanted <= PACKAGES.keys():
@@ -326,7 +326,7 @@ def depends(files):
 
 
 def python_files(release):
-    """The files of the package for Python by their paths: its sources, what describes it, and what networkx reads."""
+    """Maps the paths of the package for Python to its files: sources, descriptions, and what networkx reads."""
     package, about = "boruvka", f"boruvka-{release.version}.dist-info"
     sources = sorted(it for it in os.listdir(f"{ROOT}/python/{package}") if it.endswith((".py", ".typed")))
     files = {f"{package}/{it}": read(f"{ROOT}/python/{package}/{it}") for it in sources}
@@ -339,14 +339,14 @@ def python_files(release):
 
 
 def wheel(release, room):
-    """The package for Python, as PEP 427 lays it out, with the shared library and the page in it."""
+    """Writes the package for Python as PEP 427 lays it out, with the shared library and the page in it."""
     library = read(f"{release.libraries}/libboruvka.so.{release.version}")
     if least_glibc(library) > MOST_GLIBC or not libraries_of(library) <= OF_MANYLINUX:
-        raise NotPacked(f"the shared library needs more than {TAG} says: {least_glibc(library)}, {sorted(libraries_of(library))}")
+        raise NotPacked(f"the shared library needs more than {TAG} allows: {least_glibc(library)}, {sorted(libraries_of(library))}")
     package, about = "boruvka", f"boruvka-{release.version}.dist-info"
     release.install(room, "")
     files = python_files(release)
-    # (without the last number Python would take it for a module)
+    # (Python would take boruvka.so for a module, so it has a number)
     files[f"{package}/libboruvka.so.{release.version.split('.')[0]}"] = library
     files[f"{package}/boruvka.html"] = read(f"{room}/share/boruvka/boruvka.html")
     texts = {"WHEEL": WHEEL, "LICENSE": text_of("LICENSE"), "PROVED.txt": "\n".join(release.proved()) + "\n"}
@@ -357,12 +357,12 @@ def wheel(release, room):
 
 
 def digest(content):
-    """A file's sum, as a wheel records it."""
+    """Returns a file's checksum, as a wheel records it."""
     return base64.urlsafe_b64encode(hashlib.sha256(content).digest()).decode().rstrip("=")
 
 
 def zipped(files, seconds):
-    """Files by their paths as a .zip, which has them in their order; all have one time."""
+    """Writes a .zip with these files in their order, all with the same time."""
     packed = io.BytesIO()
     with zipfile.ZipFile(packed, "w") as out:
         for path, content in files.items():
@@ -380,7 +380,7 @@ def debian(release, room):
     manual = f"{share}/man/man1/boruvka.1"
     put(f"{manual}.gz", gzipped(read(manual)))
     os.remove(manual)
-    # a shared library isn't run
+    # a shared library isn't executable
     library = f"{root}{lib}/libboruvka.so.{release.version}"
     os.chmod(library, 0o644)
     values = put_about(root, "boruvka", release)
@@ -394,7 +394,7 @@ def debian(release, room):
 
 
 def debian_of_python(release, room):
-    """The package for Debian's own Python, into which pip installs nothing. It finds the shared library of the other one."""
+    """Makes the package for Debian's own Python, where pip can't install. It uses the library of the other .deb."""
     root = f"{room}/root"
     for path, content in python_files(release).items():
         put(f"{root}/usr/lib/python3/dist-packages/{path}", content)
@@ -408,7 +408,7 @@ def debian_of_python(release, room):
 
 
 def put_about(root, package, release):
-    """Puts the documents that Debian asks of each package, and returns what its other files say of the release."""
+    """Writes the documents that Debian requires of each package, and returns what its other files say about the release."""
     date = time.strftime("%a, %d %b %Y %H:%M:%S +0000", time.gmtime(release.seconds))
     values = {"version": release.version, "major": release.version.split(".")[0], "date": date, "maintainer": MAINTAINER}
     doc = f"{root}/usr/share/doc/{package}"
@@ -419,7 +419,7 @@ def put_about(root, package, release):
 
 
 def built_by_dpkg(release, root, control, values):
-    """The package of all below a folder, with these files for dpkg, in which the values stand for their names."""
+    """Makes the package of everything below a folder, with these files for dpkg, in which names become their values."""
     values = {**values, "size": sum(-(-os.path.getsize(f"{root}/{it}") // 1024) for it in files_below(root))}
     put(f"{root}/DEBIAN/md5sums", sums(root, "md5"))
     for name, text in control.items():
@@ -435,7 +435,7 @@ def built_by_dpkg(release, root, control, values):
 
 
 def server():
-    """The folders of PostgreSQL and its version, or None if its headers aren't there."""
+    """Returns the folders of PostgreSQL and its version, or None if its headers aren't installed."""
     try:
         told = subprocess.run(["pg_config", "--pgxs", "--pkglibdir", "--sharedir", "--version"], capture_output=True, text=True, check=True).stdout
     except (OSError, subprocess.CalledProcessError):
@@ -445,12 +445,12 @@ def server():
 
 
 def extension(release, room):
-    """The extension for PostgreSQL, which is compiled here, in a folder of its own."""
+    """Makes the package of the extension for PostgreSQL, which is compiled in a folder of its own."""
     libraries, share, number = server()
     root, source = f"{room}/root", f"{room}/source"
     shutil.copytree(f"{ROOT}/postgres", source, ignore=shutil.ignore_patterns("*.o", "*.so", "__pycache__"))
     env = {it: word for it, word in os.environ.items() if it not in ("MAKEFLAGS", "MAKELEVEL", "MFLAGS")}
-    # (no path and no time gets into the code)
+    # (the code contains no path and no time)
     words = [f"LIBBORUVKA={release.libraries}/libboruvka.a", f"HEADERS={ROOT}/include", "COPT=-g0", "PG_LDFLAGS=-Wl,--build-id=none"]
     ended = subprocess.run(["make", "-s", "-C", source, *words], env=env, capture_output=True, text=True, check=False)
     if ended.returncode:

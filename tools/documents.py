@@ -1,9 +1,9 @@
 #!/usr/bin/env python3
-"""Copies documents as they are installed: a link to what isn't installed has its text alone.
+"""Copies documents as they are installed. A link to a file that isn't installed becomes plain text.
 
 usage: tools/documents.py ROOT DOCDIR INCLUDEDIR FILE..
 
-Each FILE, named from the top of the repository, goes to ROOT/DOCDIR/FILE. The headers are in INCLUDEDIR.
+Each FILE is a path from the top of the repository, and is copied to ROOT/DOCDIR/FILE. The headers are in INCLUDEDIR.
 """
 import os
 import re
@@ -22,12 +22,12 @@ class Places:
 
     def __init__(self, docdir, includedir, files):
         self.of = {it: f"{docdir}/{it}" for it in files}
-        # (a folder is there if some of it is)
+        # (a folder is installed if a file in it is)
         self.of.update({os.path.dirname(it): f"{docdir}/{os.path.dirname(it)}" for it in files if os.path.dirname(it)})
         self.of.update({it: f"{includedir}/{os.path.basename(it)}" for it in HEADERS if includedir is not None})
 
     def linked(self, path, text):
-        """The text of a file, with its links as they lead from its place."""
+        """Returns the text of a file, with links that are right where it is installed."""
 
         def link(found):
             target, mark, part = found[2].partition("#")

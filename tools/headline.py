@@ -1,12 +1,12 @@
 #!/usr/bin/env python3
-"""Writes the table of docs/HEADLINE.md: the definitions that the main theorem rests on and that the page doesn't quote.
+"""Writes the table of docs/HEADLINE.md: the definitions that the main theorem depends on and that the page doesn't quote.
 
 usage: tools/headline.py
 
-It finds all definitions below the clause that the page explains, its conditions, and what the contract of a line says of
-`faithful`. Those that the page quotes are left out. The others are listed by file, with the number of their lines. A file
-that the table has keeps its row; new ones come last. The line below the table, which adds the lines up, is written as well.
-tests/cases/headline.py uses the same functions.
+It finds all definitions that these depend on: the clause that the page explains, the conditions of its call, and what the
+contract of a line says about `faithful`. Those that the page quotes are left out. The others are listed by file, with the
+number of their lines. A file that is in the table keeps its row, and new files come last. The script also writes the line
+below the table, which adds up the lines. tests/cases/headline.py uses the same functions.
 """
 import re
 import sys
@@ -25,19 +25,19 @@ def text_of(name):
 
 
 def code_of(block):
-    """A definition's lines, without comments, imports and the line of its type."""
+    """Returns a definition's lines, without comments, imports and the line of its type."""
     lines = [it for it in block.split("\n") if it.strip() and not it.strip().startswith("--") and not it.startswith(("use ", "pub use "))]
     return lines[1:] if lines and re.match(r"(abbrev|unfoldable) pub \S+ :", lines[0]) else lines
 
 
 def definitions(name):
-    """The definitions of a file, each by its first line."""
+    """Maps the first line of each definition of a file to the definition."""
     found = [code_of(it) for it in re.split(r"\n\s*\n", text_of(name))]
     return {it[0]: it for it in found if it}
 
 
 def expect_whole(name, lines):
-    """The lines are definitions of the file, one behind the other, each from its first line to its last."""
+    """Expects the lines to be whole definitions of the file, one after the other."""
     all_of = definitions(name)
     at = 0
     while at < len(lines):
@@ -48,14 +48,14 @@ def expect_whole(name, lines):
 
 
 def expect_lines(name, lines):
-    """The lines stand in the file one behind the other, but for comments and blank lines."""
+    """Expects the lines in the file one after the other, apart from comments and blank lines."""
     every = [it for it in text_of(name).split("\n") if it.strip() and not it.strip().startswith("//")]
     if not any(every[at:at + len(lines)] == lines for at in range(len(every))):
         raise AssertionError(f"{name} has no such lines: {lines}")
 
 
 def parts_of(page):
-    """The quoted parts of a page, each with the file that it names and its lines."""
+    """Yields the quotes of a page, each with its file and its lines."""
     for block in re.findall(r"^```text\n(.*?)^```$", page, re.M | re.S):
         if not block.startswith("-- crates/"):
             raise AssertionError(f"a block names no file: {block:.80}")
@@ -65,13 +65,13 @@ def parts_of(page):
 
 
 def table_of(page):
-    """The rows of a page's table, each with its file, its names and the number of their lines."""
+    """Returns the rows of a page's table, each with its file, its names and the number of their lines."""
     rows = re.findall(r"^\| `(crates/[^`]+)` \| (.*) \| (\d+) \|$", page, re.M)
     return [(name, re.findall(r"`([^`]+)`", names), int(count)) for name, names, count in rows]
 
 
 def owners(name):
-    """What a file of specs/ defines: each name, also of a constructor, with the definition's own name and its text."""
+    """Maps each name that a file of specs/ defines, constructors included, to the name and the text of its definition."""
     found = {}
     for block in re.split(r"\n\s*\n", text_of(name)):
         block = re.sub(r"^\s*--.*\n?|\s--.*$|^(pub )?use .*\n?", "", block, flags=re.M)
@@ -83,21 +83,21 @@ def owners(name):
 
 
 def imports(name):
-    """The names that a file takes from the crates' specs/, each with the file that it comes from."""
+    """Maps each name that a file imports from the crates' specs/ to the file that it comes from."""
     uses = re.findall(r"^(?:pub |ghost )?use Rattle\.(\w+)\.specs\.(?!declared)([\w.]+)\.\{([^}]*)\}", text_of(name), re.M)
     files = [(f"crates/{crate}/specs/{module.replace('.', '/')}.antt", names) for crate, module, names in uses if crate != "std"]
     return {it: file for file, names in files for it in re.split(r",\s*", names)}
 
 
 def rests_on(name, text):
-    """The definitions of specs/ that a text in this file rests on, each as its file and its name."""
+    """Returns the definitions of specs/ that a text in this file depends on, each as its file and its name."""
     found, waiting = set(), [(name, text)]
     while waiting:
         name, text = waiting.pop()
         here, there = owners(name) if name.endswith(".antt") else {}, imports(name)
         for word in set(re.findall(r"[^\W\d]\w*", text)):
             file = name if word in here else there.get(word)
-            # a file may hand on what it takes
+            # a file may re-export what it imports
             while file and word not in owners(file):
                 file = imports(file).get(word)
             own, its = owners(file)[word] if file else ("", "")
@@ -108,7 +108,7 @@ def rests_on(name, text):
 
 
 def named(name, names):
-    """How many lines the definitions of these names have, which all stand in the file."""
+    """Returns how many lines the definitions of these names have. All are in the file."""
     count = 0
     for it in names:
         bodies = [lines for first, lines in definitions(name).items() if re.match(rf"(pub (record|data) )?{re.escape(it)}(\s|$)", first)]
@@ -119,8 +119,8 @@ def named(name, names):
 
 
 def clause_and_rest():
-    """The clause that the page explains, what a line's contract says of `faithful`, and all definitions that both and the
-    conditions of the call rest on."""
+    """Returns the clause that the page explains, what a line's contract says about `faithful`, and all definitions that
+    they and the conditions of the call depend on."""
     contract = re.search(r"\npub fn run_lines<.*?\n\{\n", text_of(LINES), re.S)[0]
     clause = re.search(r"    ensures served \{(?:.|\n)*?\}\n", contract)[0]
     serves = re.search(r"    ghost serves: .*", text_of(LINE))[0]
@@ -129,7 +129,7 @@ def clause_and_rest():
 
 
 def quoted_by(page):
-    """The definitions that the page quotes, each as its file and its name."""
+    """Returns the definitions that the page quotes, each as its file and its name."""
     found = set()
     for name, quoted in parts_of(page):
         if name.endswith(".antt"):
@@ -138,14 +138,14 @@ def quoted_by(page):
 
 
 def sum_of(page):
-    """The line that adds up the lines that are quoted and those that the table counts."""
+    """Returns the line that adds up the quoted lines and the lines that the table counts."""
     here = sum(len(lines) for _, lines in parts_of(page))
     there = sum(count for _, _, count in table_of(page))
     return f"{here} lines are quoted here, and {there} are in the files of the table: {here + there} in all."
 
 
 def rows(page):
-    """The table's rows, as they have to be."""
+    """Yields the rows that the table has to have."""
     wanted = clause_and_rest()[2] - quoted_by(page)
     files = [name for name, _, _ in table_of(page)]
     for name in [*(it for it in files if any(it == file for file, _ in wanted)), *sorted({it for it, _ in wanted} - {*files})]:

@@ -5,21 +5,21 @@ usage: tools/page.py MODULE INTO
 
 MODULE is boruvka.wasm, which `make wasm` builds. INTO gets the page. The same files give the same bytes.
 
-The page takes data in two ways, and reads both as it reads a file that is opened:
+The page accepts data in two ways, and reads both like a file that is opened:
 
-- Inside of it, instead of the empty element DATA: `<script type="application/json" id="data">{"name": "towns.csv",
-  "base64": ".."}</script>`. The base64 is that of the file's bytes, compressed by gzip or not. Its name ends as the file's
-  would. Each `<` is written as `\\u003c`. The page itself saves such a file, and opens it as it was left. For this the JSON
-  may also have:
-  - `columns`: how the table is read, as web/columns.js has choices, so that nobody is asked
+- In the page, in the place of the empty element DATA: `<script type="application/json" id="data">{"name": "towns.csv",
+  "base64": ".."}</script>`. The base64 is that of the file's bytes, compressed by gzip or not. The name ends as the file's
+  would. Each `<` is written as `\\u003c`. The page itself saves such files, and opens them as they were left. For this the
+  JSON may also have:
+  - `columns`: how to read the table, as the choices of web/columns.js, so that the page doesn't ask
   - `places`: the `name` and `base64` of a .co file, for a graph
-  - `clusters` and `smallest`: how many clusters, and how many points one with a colour has at least
-  - `view`: the place in the middle of the picture, and how many times as large it is as when all is seen: `[x, y, times]`
-  - `scale`: that of heights, `root`, `even` or `log`
+  - `clusters` and `smallest`: the number of clusters, and the least number of points of a cluster that gets a colour
+  - `view`: the point in the middle of the picture, and the magnification: `[x, y, times]`
+  - `scale`: the scale of heights, `root`, `even` or `log`
 - In its address, after `#d=`: the text of a table of up to 5,000 points, compressed by raw deflate and written as base64url
-  without `=`. Then perhaps `&k=` clusters, `&s=` smallest, `&v=` view with commas, and `&h=` scale.
+  without `=`. It may be followed by `&k=` clusters, `&s=` smallest, `&v=` view with commas, and `&h=` scale.
 
-A policy in its head names the sums of its scripts and its style: no other runs, and nothing is asked for.
+A policy in the page's head has the hashes of its scripts and its style. The browser runs nothing else, and loads nothing.
 """
 import base64
 import hashlib
@@ -44,7 +44,7 @@ def read(name):
 
 
 def parts(name, before=()):
-    """A script and all that it imports, each after those that it imports itself."""
+    """Returns a script and all that it imports, each after its own imports."""
     names = []
     for it in re.findall(r"^import .* from '\./(.*)';$", read(name), re.M):
         names += parts(it, [*before, *names])
@@ -56,7 +56,7 @@ def variable(name):
 
 
 def without_comments(text):
-    """A script without the lines that are comments whole, and without indentation. No text in it goes over several lines."""
+    """Returns a script without indentation and without lines that are only comments. No string in it spans lines."""
     text = re.sub(r"^ *//.*\n|^ */\*\*[^`]*?\*/\n", "", text, flags=re.M)
     if any(line.count("`") % 2 for line in text.splitlines()):
         raise SystemExit("tools/page.py: a text in backticks goes over several lines")
@@ -64,7 +64,7 @@ def without_comments(text):
 
 
 def enclosed(name):
-    """A script as a function that is called once: it returns what the script exports."""
+    """Returns a script as a function that is called once and returns what the script exports."""
     text = without_comments(read(name))
     text = re.sub(r"^import (.*) from '\./(.*)';$", lambda it: f"const {it[1]} = {variable(it[2])};", text, flags=re.M)
     exports = re.findall(r"^export (?:const|class|(?:async )?function\*?) (\w+)", text, re.M)
@@ -75,19 +75,19 @@ def enclosed(name):
 
 
 def joined(name):
-    """A script with all that it imports, as one script."""
+    """Returns a script and all that it imports as one script."""
     return "\n".join(map(enclosed, parts(name)))
 
 
 def held(name, content):
-    """A part of the page that isn't run, but unpacked by its scripts: bytes packed by raw deflate, as base64."""
+    """Returns an element with bytes that scripts of the page decompress: raw deflate in base64."""
     packer = zlib.compressobj(9, zlib.DEFLATED, -15)
     text = base64.b64encode(packer.compress(content) + packer.flush()).decode()
     return f'<script type="text/plain" id="{name}">{text}</script>\n'
 
 
 def policy(*scripts, style):
-    """What the browser lets a packed page do: run these texts, and no more."""
+    """Returns the policy that lets a browser run these texts, and nothing else."""
     sums = {it: f"'sha256-{base64.b64encode(hashlib.sha256(it.encode()).digest()).decode()}'" for it in [*scripts, style]}
     of_scripts = " ".join(sums[it] for it in scripts)
     return f"default-src 'none'; script-src {of_scripts} 'wasm-unsafe-eval'; worker-src blob:; style-src {sums[style]}; img-src data: blob:; media-src blob:; base-uri 'none'; form-action 'none'"
@@ -100,7 +100,7 @@ def replaced(page, old, new):
 
 
 def packed(module):
-    """The page, with these bytes as its module."""
+    """Returns the page, with these bytes as its module."""
     script, style = f"\n{joined('page.js')}", f"\n{re.sub(r'^ +', '', read('page.css'), flags=re.M)}"
     inside = [held("packed-module", module), held("packed-worker", joined("worker.js").encode()), f"{DATA}\n"]
     page = replaced(read("index.html"), SCRIPT, "".join(inside) + f'<script type="module">{script}</script>')

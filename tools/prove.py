@@ -1,23 +1,23 @@
 #!/usr/bin/env python3
-"""Proves and builds a crate and those below it, those that don't stand on each other side by side.
+"""Proves and builds a crate and the crates that it depends on. Independent crates are proved in parallel.
 
 usage: tools/prove.py [--jobs N] [--dry-run] [CRATE]
 
-CRATE is a program (boruvka, if none is named), which is run too, with the words of its file `args`, and on its file
-`stdin`, where it has them; or a static library. `rt` lets one of its commands at a time work in a crate and in those
-below it. So each library below is proved in a room of its own: a copy of its files under .git (or under CRATE's out/,
-where there is no .git), beside what was built below it. What it built goes into its own out/, as if `rt lib` had run
-there; a crate that was proved before, and whose files are the same, takes a second. CRATE comes last, by `rt run` or
-`rt lib` where it lies. A run that was cut off is begun again by the same words: what was proved stays.
+CRATE is a static library or a program; the default is boruvka. A program is run too, with the arguments in its file `args`
+and the input in its file `stdin`, if it has these. `rt` allows only one command at a time in a crate and in those that it
+depends on. So each library is proved in a build directory of its own: a copy of its files under .git, next to what was
+built for it. (Without .git, it is under CRATE's out/.) The result goes into the library's own out/, as if `rt lib` had run
+there. A crate that was proved before, and whose files are the same, takes a second. CRATE itself comes last, by `rt run` or
+`rt lib` in its own folder. To continue an interrupted run, run the same command: what was proved stays.
 
-  --jobs N    at most N checks side by side (if not set: as many as there are processors, and one for each 2.5 GB of
-              memory that is free). The check that the longest chain of others waits for gets N processes, and any other
-              one: more processes end it sooner, but take more processor time in all
-  --dry-run   only shows in which order the crates would be proved, and how many processes each would have
+  --jobs N    run at most N checks in parallel (default: the number of processors, but at most one for each 2.5 GB of
+              free memory). The check that the longest chain of others waits for gets N processes, and every other check
+              gets one. More processes end a check sooner, but take more processor time in total.
+  --dry-run   only show in which order the crates would be proved, and how many processes each would get
 
-What it will do goes to standard error first, then how far it is: on a terminal one line that is written over, else a
-line each minute. If a crate isn't proved, what `rt` said of it goes there too, and the status is 1. RT is the command
-that proves (`rt`, if not set).
+The script prints what it will do to standard error, and then its progress: on a terminal one line that is overwritten,
+otherwise a line per minute. If a crate isn't proved, it also prints the output of `rt`, and the exit status is 1. RT is the
+command that proves (default: `rt`).
 """
 import contextlib
 import fcntl
@@ -36,11 +36,11 @@ from crates import ROOT, below, crate_lines
 from toolchain import RT
 
 EACH = 2_500_000_000  # bytes of free memory for each check
-PROCESS = 1_250_000_000  # and for each of its processes
-LARGE = 300  # lines of code and of proofs from which on more than one process serves
-LATER = ["nice", "-n", "5"]  # before a check that others stand on less, so that it fills what they leave
-SECONDS = 60  # from one line on how far it is to the next, where it isn't written over
-# How long it took elsewhere, from nothing.
+PROCESS = 1_250_000_000  # bytes of free memory for each further process of a check
+LARGE = 300  # lines of code and proofs from which on more than one process helps
+LATER = ["nice", "-n", "5"]  # for checks that fewer others wait for: they use the processors that are left
+SECONDS = 60  # between two lines of progress, if they aren't overwritten
+# How long it took on other machines, from nothing.
 ELSEWHERE = "10 to 30 minutes on four processors, once"
 OF_LIBRARIES = {
     "boruvka_c": "5 to 15 minutes on four processors, once; 3 of them after `make run`",
@@ -59,7 +59,7 @@ def free_memory():
 
 
 def lanes():
-    """How many checks can go side by side."""
+    """Returns how many checks can run in parallel."""
     try:
         return max(1, min(len(os.sched_getaffinity(0)), free_memory() // EACH))
     except (AttributeError, OSError, TypeError):
@@ -67,7 +67,7 @@ def lanes():
 
 
 def lines_of(crate):
-    """The lines of a crate's code, definitions and proofs."""
+    """Counts the lines of a crate's code, definitions and proofs."""
     count = 0
     for part in PARTS:
         for at, _, files in os.walk(f"{ROOT}/crates/{crate}/{part}"):
@@ -78,7 +78,7 @@ def lines_of(crate):
 
 
 class Plan:
-    """Which crates wait for which, and how long what stands on each takes, in lines."""
+    """Which crates wait for which, and how many lines the longest chain of dependents of each has."""
 
     def __init__(self, top, lines, most):
         self.top, self.lines, self.most = top, lines, most
@@ -91,21 +91,21 @@ class Plan:
             self.chain[name] = self.count[name] + max([self.chain[it] for it in self.names if name in self.below[it]], default=0)
 
     def ready(self, begun, done):
-        """The libraries that can begin, first the one with the longest chain of others upon it."""
+        """Returns the libraries that can begin, the one with the longest chain of dependents first."""
         found = [it for it in self.names[:-1] if it not in begun and all(name in done for name in self.below[it])]
         return sorted(found, key=lambda it: -self.chain[it])
 
     def processes(self, name, taken, is_ahead):
-        """How many processes a check gets when so many are taken, as far as memory goes."""
+        """Returns how many processes a check gets, if so many are in use and memory allows."""
         return min(self.most, max(1, self.room - taken)) if is_ahead and self.count[name] >= LARGE else 1
 
     def is_ahead(self, name, beside):
-        """Whether the longest chain of others stands on it, of those side by side."""
+        """Returns whether it has the longest chain of dependents of those that run."""
         return all(self.chain[it] <= self.chain[name] for it in beside)
 
 
 class Progress:
-    """Says how far it is."""
+    """Prints the progress."""
 
     def __init__(self, count):
         self.count, self.begun, self.said, self.is_open = count, time.monotonic(), None, False
@@ -123,14 +123,14 @@ class Progress:
         self.is_open = self.shows
 
     def end(self):
-        """Takes away the line that is written over."""
+        """Removes the line that is overwritten."""
         if self.is_open:
             print("\r\x1b[K", end="", file=sys.stderr, flush=True)
             self.is_open = False
 
 
 def linked(folder, to):
-    """Copies what was built, by links where these can be made: `rt` removes such a file before it makes it anew."""
+    """Copies what was built, as links if possible: `rt` removes such a file before it writes it again."""
 
     def copy(one, other):
         try:
@@ -142,7 +142,7 @@ def linked(folder, to):
 
 
 class Room:
-    """A library's copy, with what was built below it, in which `rt lib` runs."""
+    """A copy of a library, with what was built for it, in which `rt lib` runs."""
 
     def __init__(self, crate, plan, rooms):
         self.crate, self.room = crate, f"{rooms}/{crate}"
@@ -165,11 +165,11 @@ class Room:
         self.processes = processes
         with open(self.log, "wb") as log:
             words = [*([] if is_ahead else LATER), *RT, "lib", "--jobs", str(processes)]
-            # a session of its own, so that all of it can be ended
+            # in a session of its own, so that all its processes can be ended
             self.process = subprocess.Popen(words, cwd=self.folder, stdin=subprocess.DEVNULL, stdout=log, stderr=log, start_new_session=True)
 
     def ended(self):
-        """Whether it has ended; what it built is the crate's own then."""
+        """Returns whether it has ended. If so, moves what it built to the crate."""
         if self.process.poll() is None:
             return False
         with open(self.log, encoding="utf-8", errors="replace") as it:
@@ -192,7 +192,7 @@ class Room:
 
 
 def put_back(crate, room):
-    """Gives a crate what was built of it in a room, and removes the room."""
+    """Moves what was built from a build directory to the crate, and removes the directory."""
     made, own = f"{room}/crates/{crate}/out", f"{ROOT}/crates/{crate}/out"
     if os.path.isdir(made) and not os.path.lexists(own) and os.path.isdir(os.path.dirname(own)):
         shutil.move(made, own)
@@ -201,7 +201,7 @@ def put_back(crate, room):
 
 @contextlib.contextmanager
 def alone_in(crates):
-    """Keeps other commands of `rt` out of these crates' folders, and waits until none is at work there."""
+    """Locks these crates' folders against other commands of `rt`, and waits until none works there."""
     held = []
     try:
         for crate in sorted(crates):
@@ -212,7 +212,7 @@ def alone_in(crates):
                 print(f"waiting for another command that is at work in crates/{crate}", file=sys.stderr, flush=True)
                 fcntl.flock(held[-1], fcntl.LOCK_EX)
             except OSError:
-                # (some file systems have no locks)
+                # some file systems have no locks
                 pass
         yield
     finally:
@@ -221,8 +221,7 @@ def alone_in(crates):
 
 
 def recover(plan):
-    """Gives the crates back what `rt ci` set aside and had no time to give back, if it was killed; it knows whether it still runs
-    by a lock of its own."""
+    """Restores what a killed `rt ci` had set aside. A lock shows whether it still runs."""
     aside, lock = f"{ROOT}/.git/rt-aside", f"{ROOT}/.git/rt-ci.lock"
     if not os.path.isdir(aside) or os.path.islink(aside):
         return
@@ -239,7 +238,7 @@ def recover(plan):
 def prove_libraries(plan, progress):
     rooms = f"{ROOT}/.git/rooms" if os.path.isdir(f"{ROOT}/.git") else f"{ROOT}/crates/{plan.top}/out/rooms"
     with alone_in(plan.names):
-        # what a run that was killed left
+        # left by a run that was killed
         for crate in os.listdir(rooms) if os.path.isdir(rooms) else []:
             put_back(crate, f"{rooms}/{crate}")
         recover(plan)
@@ -273,7 +272,7 @@ def is_static_library(crate, lines):
 
 
 def words_of(folder):
-    """What a program is run with: the words of its file `args`, one a line."""
+    """Returns the arguments of a program: the lines of its file `args`."""
     if not os.path.isfile(f"{folder}/args"):
         return []
     with open(f"{folder}/args", encoding="utf-8") as it:
@@ -306,7 +305,7 @@ def prove_top(plan, progress):
 
 
 def show_order(plan):
-    """As `prove_libraries` would go if each check took as long as its crate has lines."""
+    """Simulates `prove_libraries`: each check takes as long as its crate has lines."""
     ends, processes, done, now, number = {}, {}, set(), 0, 0
     while len(done) < len(plan.names) - 1:
         begun = plan.ready({*ends, *done}, done)[: plan.most - len(ends)]

@@ -1,4 +1,4 @@
-"""What was proved, of which commit and with which kit. The gate leaves it in a file, and a release has it."""
+"""A record of what was proved: the commit, the toolchain and the result. `make test` writes it, and a release contains it."""
 import contextlib
 import json
 import os
@@ -8,17 +8,17 @@ from crates import ROOT
 from stamp import git
 from toolchain import RT
 
-# (the next gate removes it, as all that was built)
+# (the next `make test` removes it, like everything that was built)
 FILE = f"{ROOT}/crates/boruvka/out/gate.json"
 
 
 def commit():
-    """The commit that is checked out, or None if files differ from it or nothing is known of one."""
+    """Returns the commit that is checked out, or None if it is unknown or files differ from it."""
     return git("rev-parse", "HEAD") if git("status", "--porcelain") == "" else None
 
 
 def kit():
-    """The toolchain's name for itself, or None if it isn't there."""
+    """Returns the toolchain's version, or None if there is no toolchain."""
     try:
         ended = subprocess.run([*RT, "version"], capture_output=True, text=True, check=False)
     except OSError:
@@ -26,8 +26,8 @@ def kit():
     return None if ended.returncode else ended.stdout.strip()
 
 
-class Gate:
-    """A run of the gate. It is made before the first proof, so that no older record stays."""
+class Run:
+    """A run of `make test`. It is made before the first proof, and removes an older record."""
 
     def __init__(self):
         with contextlib.suppress(OSError):
@@ -35,7 +35,7 @@ class Gate:
         self.commit = commit()
 
     def keep(self, lines):
-        """Leaves the last lines of a run in which nothing failed, if one commit was checked out from its begin to its end."""
+        """Writes the last lines of a run in which nothing failed, if the same commit was checked out all the time."""
         if self.commit and commit() == self.commit:
             os.makedirs(os.path.dirname(FILE), exist_ok=True)
             with open(FILE, "w", encoding="utf-8") as it:
@@ -43,7 +43,7 @@ class Gate:
 
 
 def kept():
-    """The record of a gate that passed on the commit that is checked out, or None."""
+    """Returns the record of a `make test` that passed on the commit that is checked out, or None."""
     try:
         with open(FILE, encoding="utf-8") as it:
             found = json.load(it)

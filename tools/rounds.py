@@ -3,8 +3,8 @@
 
 usage: tools/rounds.py [INTO]
 
-Each panel is a round. A piece reaches for its nearest neighbour by a strong line, and the pieces so joined have one colour.
-The same version of this file gives the same bytes.
+Each panel is a round. A strong line joins each component to its nearest neighbour, and the components so merged have one
+colour. The same version of this file gives the same bytes.
 """
 import math
 import os
@@ -17,12 +17,12 @@ POINTS, CLOUDS = 180, 9
 SIDE, GAP, FOOT, COLUMNS = 230, 18, 22, 3
 HUES = 12
 GOLDEN = 137.508
-# inks of pieces, the new links and the words: on light paper, and on dark
+# colours of components, new edges and text: on light paper, and on dark
 LOOKS = [("", "oklch(55% .15 {})", "#1c1b19", "#67635b"), ("@media (prefers-color-scheme: dark)", "oklch(74% .14 {})", "#eceae4", "#a0a4ae")]
 
 
 def units(word):
-    """Numbers from 0 to 1, the same for the same seed (Marsaglia's xorshift of 32 bits)."""
+    """Yields numbers from 0 to 1, the same for the same seed (Marsaglia's xorshift of 32 bits)."""
     while True:
         word ^= (word << 13) & 0xFFFFFFFF
         word ^= word >> 17
@@ -31,7 +31,7 @@ def units(word):
 
 
 def drawn():
-    """The points, as large as a panel lets them be."""
+    """Returns the points, scaled to fill a panel."""
     unit, points = units(2463534242), []
     clouds = [(next(unit), 0.8 * next(unit), 0.03 + 0.08 * next(unit)) for _ in range(CLOUDS)]
     for i in range(POINTS):
@@ -51,7 +51,8 @@ def root(parent, v):
 
 
 def rounds(points):
-    """Of each round the links that it takes, and the piece of each point after it; a piece has the name of its largest part."""
+    """For each round, returns the edges that it takes, and each point's component after it. A component is named after its
+    largest part."""
     pairs = sorted((math.dist(one, points[v]), u, v) for u, one in enumerate(points) for v in range(u + 1, len(points)))
     parent, size = list(range(len(points))), [1] * len(points)
     while max(size) < len(points):
@@ -69,7 +70,7 @@ def rounds(points):
 
 
 def panel(points, before, links, pieces, number):
-    """One round: the new links, those of rounds before, and the points."""
+    """Draws one round: its new edges, the edges of the rounds before, and the points."""
     line = lambda u, v: f"M{points[u][0]:g} {points[u][1]:g}L{points[v][0]:g} {points[v][1]:g}"  # noqa: E731
     if links:
         yield f'<path class="new" d="{"".join(line(u, v) for _, u, v in links)}"/>'

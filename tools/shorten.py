@@ -1,23 +1,23 @@
 #!/usr/bin/env python3
-"""Shortens the proofs of a crate: where `search` finds what is written out, it puts `search` there.
+"""Shortens the proofs of a crate: it replaces what is written out by `search`, if `search` finds it.
 
 usage: tools/shorten.py [--rounds N] [--jobs N] [--files WORD] CRATE
 
-First, of each clause, arm or field of more than a line, and of each lemma with several clauses, it tries whether `search`
-proves it by the lemmas that it cites. Then it takes out lemmas that are one `search` themselves, if only other searches
-cite them: these get what the lemma cites. Statements stay as they are.
+First it tries whether `search` proves a clause, arm or field of more than one line, or a lemma with several clauses, by the
+lemmas that it cites. Then it removes lemmas that are one `search` themselves, if only other searches cite them: these then
+cite what the lemma cites. Statements don't change.
 
-A check judges one edit in each declaration of all of the crate's proof files, since a proof that fails is told at its own
-lines, and lets the others be. What fails is put back. If a check tells of lines that no edit touched, it judges the first
-half of the edits again, and then the second.
+One check tries one edit in each declaration of all proof files of the crate, since a proof that fails is reported at its own
+lines and doesn't affect the others. Edits that fail are undone. If a check reports lines that no edit touched, the script
+tries the first half of the edits again, and then the second half.
 
-  --rounds N    at most N checks that try edits (if not set: until nothing is left to try)
-  --jobs N      the processes of each check (2, if not set)
-  --files WORD  only proof files whose paths have this word in them
+  --rounds N    run at most N checks that try edits (default: until nothing is left to try)
+  --jobs N      use N processes in each check (default: 2)
+  --files WORD  change only proof files with WORD in their path
 
-The files have to be proved before, and are changed where they lie. At the end the crate is checked as it is: the last
-line says how many edits and lines went, and the status is 0 only if all is proved. What the last check refuses is put
-back whole. RT is the command that checks (`rt`, if not set).
+The files have to be proved before, and are changed in place. At the end the crate is checked as it is. The last line gives
+the number of edits and lines removed, and the exit status is 0 only if everything is proved. What the last check rejects is
+undone completely. RT is the command that checks (default: `rt`).
 """
 import argparse
 import os
@@ -33,15 +33,15 @@ sys.dont_write_bytecode = True
 from crates import ROOT, crate_lines
 from toolchain import RT
 
-HINTS = 8  # lemmas in the list of one search, at the most
-LONGEST = 200  # characters of a line in a proof file
+HINTS = 8  # most lemmas in the list of one search
+LONGEST = 200  # most characters of a line in a proof file
 HEAD = re.compile(r"^( *)((?:pub |abbrev |unfoldable )*)([^\s:(){}=]+)((?: [^\s:(){}=]+)*) : ")
 IMPORT = re.compile(r"^(?:pub )?use ([\w.+-]+)\.\{(.*)\}")
 ERROR = re.compile(r"(?m)^(?:\./)?(proofs/[^:\n]+\.antt):(\d+):\d+: error")
 SEARCH = re.compile(r"search \(([^()]*)\)")
 LEMMA = re.compile(r"^\S+(?: [^=]*)? = search (?:arith|\((arith(?:, [^\s,()]+)*)\))$")
 DATA = re.compile(r"(ℕ|ℤ|List|Option|Bool|Ordering|Type|Result|String|Set|LinkSet)\b")
-# What a body may contain that is no lemma to search by.
+# Words of a body that aren't lemmas to search by.
 WORDS = set(
     "search grind omega cc simp rw refl sym ap subst arith rules ints tt absurd elim let in record where as"
     " pos suc length take drop map inl inr true false get_or".split()
@@ -54,7 +54,7 @@ class Declaration:
     indent: int
     first: int
     last: int
-    clauses: list  # of the first line of each, and the line after it
+    clauses: list  # from the first line of each to the line after it
 
 
 @dataclass
@@ -64,7 +64,7 @@ class Edit:
     last: int
     new: list
     owner: tuple  # the outermost declaration, by its first line and its name
-    key: tuple  # by which it is known once it was tried
+    key: tuple  # identifies it once it was tried
 
     @property
     def gain(self):
@@ -80,7 +80,7 @@ def is_whole(text):
 
 
 def past_patterns(text):
-    """Where a clause's patterns end: the place of its ` = `, or -1."""
+    """Returns where a clause's patterns end: the index of its ` = `, or -1."""
     depth = 0
     for at, it in enumerate(text):
         depth += (it in "([{") - (it in ")]}")
@@ -90,7 +90,7 @@ def past_patterns(text):
 
 
 def end_of_clause(lines, at, depth):
-    """The line after a clause that begins here."""
+    """Returns the line after a clause that begins here."""
     at += 1
     while at < len(lines) and (not lines[at].strip() or indent(lines[at]) > depth or (indent(lines[at]) == depth and lines[at].strip()[0] in ")]}")):
         at += 1
@@ -98,7 +98,7 @@ def end_of_clause(lines, at, depth):
 
 
 def clauses_of(lines, at, depth, name):
-    """The clauses of a declaration whose signature ends here."""
+    """Returns the clauses of a declaration whose signature ends here."""
     own, found = re.compile(re.escape(name) + r"( |$)"), []
     while at < len(lines):
         line = lines[at].strip()
@@ -120,7 +120,7 @@ def clauses_of(lines, at, depth, name):
 
 
 def declarations(lines):
-    """Each declaration that has clauses."""
+    """Yields each declaration that has clauses."""
     for at, line in enumerate(lines):
         head = HEAD.match(line)
         if not head or line.strip().startswith(("let ", "record ", "| ", "λ")) or re.search("abbrev|unfoldable", head[2]):
@@ -134,7 +134,7 @@ def declarations(lines):
 
 
 def owners(lines):
-    """The outermost declaration of each line, or none."""
+    """Returns the outermost declaration of each line, or None."""
     found = [None] * len(lines)
     for it in sorted(declarations(lines), key=lambda it: (it.first, -it.last)):
         for at in range(it.first, it.last):
@@ -143,7 +143,7 @@ def owners(lines):
 
 
 class Scope:
-    """The lemmas that each line of a file may cite."""
+    """Returns the lemmas that each line of a file may cite."""
 
     def __init__(self, lines):
         self.known, self.inner = {}, defaultdict(list)
@@ -164,7 +164,7 @@ class Scope:
         return self.known.get(name, at) < at or any(begin < at < end for begin, end in self.inner.get(name, ()))
 
     def search(self, body, at, apart=(), also=()):
-        """A search by the lemmas that a body cites."""
+        """Returns a search by the lemmas that a body cites."""
         lets = set(re.findall(r"let ([\w'_-]+)", body))
         hints = []
         for name in (it.rstrip(".") for it in re.findall(r"[^\s(){}\[\];,λ]+", body)):
@@ -176,7 +176,7 @@ class Scope:
 
 
 def is_data(lines, it):
-    """Whether a declaration gives a value, and no proof."""
+    """Returns whether a declaration is a value, not a proof."""
     signature, depth, last = " ".join(lines[it.first : it.clauses[0][0]]).partition(" : ")[2], 0, 0
     for at, char in enumerate(signature):
         depth += (char in "([{") - (char in ")]}")
@@ -190,7 +190,7 @@ def names_within(lines, first, last):
 
 
 def of_clauses(lines, scope, it):
-    """For each clause of more than a line one that searches: its first line, the line after it, and what comes there."""
+    """For each clause of more than a line, yields one that searches: its first line, the line after it, and the new text."""
     for first, last in it.clauses:
         text = "\n".join(lines[first:last])
         at = past_patterns(text)
@@ -204,7 +204,7 @@ def of_clauses(lines, scope, it):
 
 
 def joined(lines, scope, it):
-    """For a declaration of several clauses one that searches for all of them."""
+    """For a declaration of several clauses, yields one that searches for all of them."""
     first, last = it.clauses[0][0], it.clauses[-1][1]
     texts = ["\n".join(lines[begin:end]) for begin, end in it.clauses]
     bodies = "\n".join(text[past_patterns(text) + 1 :] for text in texts)
@@ -225,7 +225,7 @@ def joined(lines, scope, it):
 
 
 def of_parts(lines, scope):
-    """For each arm and field of several lines one that searches."""
+    """For each arm and field of several lines, yields one that searches."""
     for first, line in enumerate(lines):
         it = re.match(r"^( +)(\| [^↦]* ↦ |[\w_-]+ = )(.*)$", line)
         if not it or (it[2][0] != "|" and it[3].rstrip().endswith(";")):
@@ -247,7 +247,7 @@ def of_parts(lines, scope):
 
 
 def edits_of(path, lines, tried):
-    """At most one edit for each declaration of a file, of those not tried the one that gains most."""
+    """Yields at most one edit per declaration of a file: of those not tried yet, the one that saves most."""
     scope, own, found, taken = Scope(lines), owners(lines), [], set()
     for it in declarations(lines):
         if not is_data(lines, it):
@@ -262,7 +262,7 @@ def edits_of(path, lines, tried):
 
 
 def with_arith(lines):
-    """The lines of a file that imports `arith`, and how many lines came before the others."""
+    """Returns the lines of a file with an import of `arith`, and how many lines were added at the top."""
     if any(re.search(r"[{ ]arith[,}]", line) for line in lines if line.startswith("use ")):
         return lines, 0
     for at, line in enumerate(lines):
@@ -285,11 +285,11 @@ class Crate:
         return sum(len(lines) - 1 for lines in self.files.values())
 
     def check(self, *words):
-        """What `rt` tells of the crate."""
+        """Returns what `rt` prints about the crate."""
         return subprocess.run([*RT, "check", *words, "--jobs", str(self.jobs)], cwd=self.at, stdout=subprocess.PIPE, stderr=subprocess.STDOUT, text=True).stdout
 
     def errors(self, files):
-        """The files and lines where a check of these files tells of an error. The crate's own are put back then."""
+        """Returns the files and lines where a check of these files reports errors. Afterwards the crate's files are restored."""
         self.write(files)
         try:
             told = self.check("--allow-holes")
@@ -300,13 +300,13 @@ class Crate:
         return [(f"{self.at}/{it[1]}", int(it[2]) - 1) for it in ERROR.finditer(told)]
 
     def failed(self, files):
-        """The files and names of the declarations that a check of these files doesn't prove."""
+        """Returns the files and names of the declarations that a check of these files doesn't prove."""
         own = {path: owners(lines) for path, lines in files.items()}
         found = [(path, own[path][at] if at < len(own.get(path, [])) else None) for path, at in self.errors(files)]
         return {(path, owner and owner[1]) for path, owner in found}
 
     def apply(self, edits):
-        """The files with these edits, and the edit that each of their lines is judged by."""
+        """Returns the files with these edits, and for each of their lines the edit that it belongs to."""
         files, judged = dict(self.files), {}
         for path in {it.path for it in edits}:
             here = {it.owner: it for it in edits if it.path == path}
@@ -320,7 +320,7 @@ class Crate:
         return files, judged
 
     def judge(self, edits):
-        """Those of the edits that a check proves."""
+        """Returns the edits that a check proves."""
         if not edits:
             return []
         files, judged = self.apply(edits)
@@ -344,7 +344,7 @@ class Crate:
 
 
 def search_instead(crate, rounds):
-    """Puts searches where they prove what is written out; how many it tried and kept."""
+    """Inserts searches that prove what is written out. Returns how many it tried and kept."""
     tried, kept = set(), 0
     for number in range(1, rounds + 1):
         edits = [it for path, lines in crate.files.items() for it in edits_of(path, lines, tried)]
@@ -373,7 +373,7 @@ class Lemma:
 
 
 def lemmas(crate):
-    """The lemmas that are one search, and that other searches of the crate alone cite, if any."""
+    """Returns the lemmas that are one search, and that only other searches of the crate cite."""
     outside, found = texts_outside(crate), []
     for path, lines in crate.files.items():
         for it in declarations(lines):
@@ -387,7 +387,7 @@ def lemmas(crate):
 
 
 def texts_outside(crate):
-    """The code and definitions of the crate, and all texts that speak of its proofs."""
+    """Returns the code and definitions of the crate, and all texts that mention its proofs."""
     texts = []
     for at, folders, names in os.walk(f"{ROOT}/crates"):
         folders[:] = [it for it in folders if it != "out" and f"{at}/{it}" != f"{crate.at}/proofs"]
@@ -399,7 +399,7 @@ def texts_outside(crate):
 
 
 def is_only_hint(crate, lemma):
-    """Whether the lemma is named in imports and in searches' lists alone, which are noted."""
+    """Returns whether the lemma is named only in imports and in lists of searches, and records these."""
     pattern = mention(lemma.name)
     for path, lines in crate.files.items():
         own = owners(lines)
@@ -414,7 +414,7 @@ def is_only_hint(crate, lemma):
 
 
 def without(crate, gone):
-    """The files without these lemmas, in whose place stands what they cite."""
+    """Returns the files without these lemmas: what they cite replaces them."""
     files = {path: list(lines) for path, lines in crate.files.items()}
     for it in gone:
         lines = files[it.path]
@@ -434,7 +434,7 @@ def without(crate, gone):
 
 
 def replaced(line, lemma):
-    """A line with what the lemma cites in place of its name."""
+    """Returns a line with what the lemma cites instead of its name."""
     it = IMPORT.match(line)
     if it:
         names = [name for name in it[2].split(", ") if name != lemma.name]
@@ -448,7 +448,7 @@ def replaced(line, lemma):
 
 
 def with_imports(crate, lines, lemma):
-    """The lines of a file that imports what the lemma cites."""
+    """Returns the lines of a file with imports of what the lemma cites."""
     imports = {name.split(" as ")[-1]: it[1] for it in map(IMPORT.match, crate.files[lemma.path]) if it for name in it[2].split(", ")}
     module = f"Rattle.{crate.name}.proofs.{os.path.relpath(lemma.path, f'{crate.at}/proofs')[:-5].replace('/', '.')}"
     for hint in lemma.hints:
@@ -466,14 +466,14 @@ def with_imports(crate, lines, lemma):
 
 
 def publish(lines, names):
-    """Makes lemmas of a file public, in place."""
+    """Makes lemmas of a file public."""
     for at, line in enumerate(lines):
         if line and any(line.startswith(f"{name} : ") for name in names):
             lines[at] = f"pub {line}"
 
 
 def inline(crate, rounds):
-    """Takes out lemmas that one search proves; how many."""
+    """Removes lemmas that one search proves. Returns how many."""
     done, count = set(), 0
     for number in range(1, rounds + 1):
         chosen = []
@@ -507,7 +507,7 @@ def main():
     words.add_argument("--files", default="")
     asked = words.parse_args()
     for it in (signal.SIGHUP, signal.SIGTERM):
-        signal.signal(it, lambda *_: sys.exit("tools/shorten.py: cut off"))
+        signal.signal(it, lambda *_: sys.exit("tools/shorten.py: interrupted"))
     if asked.crate not in crate_lines():
         sys.exit(f"tools/shorten.py: crates.txt has no crate {asked.crate}")
     crate = Crate(asked.crate, asked.jobs, asked.files)

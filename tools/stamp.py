@@ -1,14 +1,13 @@
 #!/usr/bin/env python3
-"""Prints a file as it is installed: with the version in it, and with what depends on the folders.
+"""Prints a file as it is installed: with the version, and with the folders in it.
 
 usage: tools/stamp.py page
        tools/stamp.py FILE PREFIX LIBDIR INCLUDEDIR
 
-`page` is the manual page. Its date is that of the commit, or of SOURCE_DATE_EPOCH if that is set, and it is left out
-if neither is known. FILE is one by which others find the libraries in these folders: boruvka.pc or boruvka_within.pc
-for pkg-config, or boruvka-config.cmake or boruvka-config-version.cmake for CMake. It names folders from its own place
-on if LIBDIR lies below PREFIX, so that the whole PREFIX can be moved. A folder that lies elsewhere is named by its full
-path.
+`page` is the manual page. Its date is SOURCE_DATE_EPOCH if that is set, and otherwise that of the commit. If neither is
+known, the page has no date. FILE is one that helps others to find the libraries: boruvka.pc or boruvka_within.pc for
+pkg-config, or boruvka-config.cmake or boruvka-config-version.cmake for CMake. If LIBDIR is below PREFIX, the paths in FILE
+are relative to FILE, so that the whole PREFIX can be moved. A folder outside PREFIX is named by its full path.
 """
 import os
 import re
@@ -23,7 +22,7 @@ from crates import ROOT
 VERSION = "crates/program_words/src/version.rt"
 PAGE = "man/boruvka.1"
 PC = "include/boruvka.pc.in"
-# The libraries, and what pkg-config tells of them.
+# The libraries, and their descriptions for pkg-config.
 ABOUT = {"boruvka": "Minimum spanning forests in the caller's memory", "boruvka_within": "Minimum spanning forests within memory that the caller gives up"}
 CMAKE = ("boruvka-config.cmake", "boruvka-config-version.cmake")
 
@@ -34,12 +33,12 @@ def text_of(path):
 
 
 def version():
-    """The number of the version."""
+    """Returns the version's number."""
     return re.search(r'^pub const RELEASE: &str = "(\d+\.\d+\.\d+)";$', text_of(VERSION), re.M)[1]
 
 
 def git(*words):
-    """What git says of this checkout, or None if it says nothing: there may be no git, or no checkout."""
+    """Returns what git prints about this checkout, or None: there may be no git, or no checkout."""
     if not os.path.exists(f"{ROOT}/.git"):
         return None
     try:
@@ -50,13 +49,13 @@ def git(*words):
 
 
 def seconds():
-    """The time that the release is of, in seconds since 1970, or None if it isn't known."""
+    """Returns the time of the release in seconds since 1970, or None if it isn't known."""
     told = os.environ.get("SOURCE_DATE_EPOCH") or git("log", "-1", "--format=%ct")
     return int(told) if told else None
 
 
 def page():
-    """The manual page, whose first line has the date and the version."""
+    """Returns the manual page, with the date and the version in its first line."""
     at = seconds()
     date = "" if at is None else time.strftime("%Y-%m-%d", time.gmtime(at))
     made, count = re.subn(r'^\.TH BORUVKA 1 "" "boruvka" ', f'.TH BORUVKA 1 "{date}" "boruvka {version()}" ', text_of(PAGE), flags=re.M)
@@ -66,24 +65,24 @@ def page():
 
 
 def full(folder):
-    """The full path of a folder, as boruvka.pc writes it."""
+    """Returns the full path of a folder, as boruvka.pc has it."""
     return os.path.abspath(folder or "/").replace(" ", "\\ ")
 
 
 def place(folder, prefix):
-    """How boruvka.pc names a folder: from its prefix on, if it lies there."""
+    """Returns the name of a folder in boruvka.pc: relative to the prefix, if it is below that."""
     below = os.path.relpath(folder or "/", prefix or "/")
     return full(folder) if below.split("/")[0] == ".." else "${prefix}/" + below.replace(" ", "\\ ")
 
 
 def stamped(template, values):
-    """A template of include/ with these values in it."""
+    """Returns a template of include/ with these values filled in."""
     version_too = {"VERSION": version(), "MAJOR": version().split(".")[0], **values}
     return re.sub("@([A-Z]+)@", lambda it: version_too[it[1]], text_of(template))
 
 
 def pc(name, prefix, libdir, includedir):
-    """The file by which pkg-config finds a library."""
+    """Returns the file with which pkg-config finds a library."""
     lib = place(libdir, prefix)
     # from LIBDIR/pkgconfig, which has the file
     up = os.path.relpath(prefix or "/", f"{libdir}/pkgconfig")
@@ -98,7 +97,7 @@ def pc(name, prefix, libdir, includedir):
 
 
 def cmake(name, prefix, libdir, includedir):
-    """A file by which CMake finds the libraries, from LIBDIR/cmake/boruvka on."""
+    """Returns a file with which CMake finds the libraries. It will be in LIBDIR/cmake/boruvka."""
     can_move = all(place(it, prefix).startswith("${prefix}") for it in (libdir, includedir))
     near = os.path.relpath(includedir, f"{libdir}/cmake/boruvka")
     return stamped(f"include/{name}.in", {"INCLUDE": near if can_move else os.path.abspath(includedir)})

@@ -17,12 +17,12 @@ RT = shlex.split(os.environ.get("RT", "rt"))
 MISSING = f"To prove and build, the Rattle toolchain's command `{RT[0]}` has to be on the PATH: see the README."
 # The oldest release that proves everything here.
 OLDEST = (13, "b")
-# The package that has a command, where its name doesn't say so.
+# The package that has a command, if their names differ.
 PACKAGES = {"ar": "binutils", "objcopy": "binutils", "cc": "a C compiler"}
 
 
 def release():
-    """The number and the letter of the toolchain's release, or None if it doesn't give them."""
+    """Returns the number and the letter of the toolchain's release, or None if it doesn't report them."""
     try:
         ended = subprocess.run([*RT, "version"], stdin=subprocess.DEVNULL, capture_output=True, text=True, errors="replace", timeout=60, check=False)
     except (OSError, subprocess.TimeoutExpired):
@@ -32,7 +32,7 @@ def release():
 
 
 def problem():
-    """Why nothing can be proved, if that is so."""
+    """Returns why nothing can be proved, or None."""
     if shutil.which(RT[0]) is None:
         return MISSING
     found = release()
@@ -42,7 +42,7 @@ def problem():
 
 
 def lacking(commands):
-    """Why nothing can be built with these commands, if that is so."""
+    """Returns why nothing can be built with these commands, or None."""
     for command in commands:
         name = shlex.split(command)[0]
         if shutil.which(name) is None:

@@ -1,13 +1,14 @@
 #!/usr/bin/env python3
-"""Proves and builds the static library boruvka_within, and then its WebAssembly module, boruvka.wasm, beside it.
+"""Proves and builds the static library boruvka_within, and then its WebAssembly module boruvka.wasm, in the same folder.
 
 usage: tools/wasm.py
 
-The module is the same crate in a room of its own, below .git: there crates.txt says `wasm64` where it says `staticlib`,
-and all else is the same. So what was proved for the library stays proved, and the module is built over it, in less than a
-minute. The names of its functions are left out, which only a debugger would show. The same sources give the same bytes.
+The module is built from the same crate in a build directory below .git, whose crates.txt has `wasm64` instead of
+`staticlib`. Everything else is the same. So what was proved for the library stays proved, and the module takes less than a
+minute. It lacks the names of functions, which only a debugger would show. The same sources give the same bytes.
 
-If the crate isn't proved, or the module can't be built, what `rt` said goes to standard error, and the status is 1.
+If the crate isn't proved, or the module can't be built, the script prints the output of `rt` to standard error and exits
+with status 1.
 """
 import os
 import shutil
@@ -26,7 +27,7 @@ MODULE = f"{ROOT}/{OWN}/out/boruvka.wasm"
 
 
 def fill(room, lines):
-    """The crate's files and those below it, with what was built of them."""
+    """Copies the files of the crate and of those that it depends on, with what was built of them."""
     names = below(CRATE, lines)
     with open(f"{room}/crates.txt", "w", encoding="utf-8") as it:
         it.write("".join(lines[name] for name in names) + lines[CRATE].replace(" staticlib", " wasm64", 1))
@@ -41,7 +42,7 @@ def fill(room, lines):
 
 
 def number_at(content, at):
-    """The number that begins there in LEB128, and where it ends."""
+    """Returns the LEB128 number that begins there, and where it ends."""
     value = shift = 0
     while True:
         byte = content[at]
@@ -51,7 +52,7 @@ def number_at(content, at):
 
 
 def without_names(content):
-    """The module without the sections that say how functions are called and what made it; no engine needs them."""
+    """Returns the module without the sections of function names and of its producers, which no engine needs."""
     kept, at = content[:8], 8
     while at < len(content):
         size, begins = number_at(content, at + 1)

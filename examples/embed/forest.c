@@ -1,17 +1,17 @@
 /* The minimum spanning forest of a small network in memory, printed as `boruvka` prints it.
  *
- * If the libraries are installed where the system looks for them, and `ldconfig` has run since:
+ * With installed libraries that the system finds, after `ldconfig`:
  *
  *     cc -o forest forest.c $(pkg-config --cflags --libs boruvka)
  *     ./forest
  *
- * With the shared library of a PREFIX of your own, which the program finds there again:
+ * With the shared library of a PREFIX of your own, where the program looks for it again when it starts:
  *
  *     export PKG_CONFIG_PATH=PREFIX/lib/pkgconfig
  *     cc -o forest forest.c $(pkg-config --cflags --libs boruvka) -Wl,-rpath,PREFIX/lib
  *     ./forest
  *
- * With the static library of that PREFIX, and without pkg-config:
+ * With the static library of a PREFIX, and without pkg-config:
  *
  *     cc -o forest -IPREFIX/include forest.c PREFIX/lib/libboruvka.a
  *     ./forest */
@@ -22,7 +22,7 @@
 enum { VERTICES = 6 };
 
 int main(void) {
-    /* the endpoints of a link come in either order */
+    /* the endpoints of a link may be in either order */
     struct boruvka_link links[] = {
         {.weight = 17, .low = 1, .high = 2}, {.weight = 10, .low = 1, .high = 3}, {.weight = 2, .low = 2, .high = 4},
         {.weight = 0, .low = 3, .high = 5},  {.weight = 0, .low = 4, .high = 3},  {.weight = 3, .low = 4, .high = 6},

@@ -9,7 +9,7 @@
 
 int main() {
     const std::uint32_t vertices = 6;
-    /* the endpoints of a link come in either order */
+    /* the endpoints of a link may be in either order */
     std::vector<boruvka_link> links = {
         {.weight = 17, .low = 1, .high = 2}, {.weight = 10, .low = 1, .high = 3}, {.weight = 2, .low = 2, .high = 4},
         {.weight = 0, .low = 3, .high = 5},  {.weight = 0, .low = 4, .high = 3},  {.weight = 3, .low = 4, .high = 6},

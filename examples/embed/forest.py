@@ -2,7 +2,7 @@
 
 usage: python3 forest.py [LIBRARY]
 
-Without an argument it uses the shared library that the system's loader finds (after `ldconfig`, once it is installed). With the one of a PREFIX of your own:
+Without an argument it uses the installed shared library, which the system's loader finds after `ldconfig`. To use the library of a PREFIX of your own:
 
     python3 forest.py PREFIX/lib/libboruvka.so.1
 """
@@ -28,9 +28,9 @@ def loaded(path):
 
 
 def forest(library, n, links):
-    """The forest of links in a writable buffer, such as an array or one of numpy: it is the first of them then."""
+    """Returns the forest of links in a writable buffer, such as an array or one of numpy. It overwrites the first links."""
     size, view = ctypes.sizeof(Link), memoryview(links)
-    # ctypes would cut n to 32 bits, and read floats as whole numbers (a name stands between colons)
+    # ctypes would truncate n to 32 bits, and read floats as whole numbers (in a format, a name is between colons)
     if not 0 <= n < 2**32:
         raise ValueError(f"{n} vertices")
     if re.sub("[<=]|:[^:]*:", "", view.format) not in ("q", "l", "T{qII}", "T{lII}") or view.nbytes % size:
@@ -44,11 +44,11 @@ def forest(library, n, links):
     return held[:count]
 
 
-def main(words):
-    net = [(17, 1, 2), (10, 1, 3), (2, 2, 4), (0, 3, 5), (0, 4, 3), (3, 4, 6), (0, 5, 2), (20, 5, 6)]
-    # a link is two words of 64 bits: its weight, and its ends
-    links = array("q", [word for weight, low, high in net for word in (weight, low | high << 32)])
-    found = forest(loaded(words[0] if words else "libboruvka.so.1"), 6, links)
+def main(arguments):
+    network = [(17, 1, 2), (10, 1, 3), (2, 2, 4), (0, 3, 5), (0, 4, 3), (3, 4, 6), (0, 5, 2), (20, 5, 6)]
+    # a link is two numbers of 64 bits: its weight, and its endpoints
+    links = array("q", [word for weight, low, high in network for word in (weight, low | high << 32)])
+    found = forest(loaded(arguments[0] if arguments else "libboruvka.so.1"), 6, links)
     print(f"p sp 6 {len(found)}")
     for link in found:
         print(f"a {link.low} {link.high} {link.weight}")

@@ -1,6 +1,6 @@
 //! The minimum spanning forest of a small network in memory, printed as `boruvka` prints it.
 //!
-//! With the static library of the PREFIX that it is installed under:
+//! With the static library of a PREFIX that it is installed under:
 //!
 //!     rustc --edition 2024 -L PREFIX/lib forest.rs
 //!     ./forest
@@ -44,17 +44,17 @@ unsafe extern "C" {
     fn boruvka_fault_text(kind: i64, into: *mut c_char, room: usize) -> usize;
 }
 
-/// The forest's links, which are first among these then, or why there are none.
+/// Finds the forest of `links` and returns it. It overwrites the first links.
 fn forest(n: u32, links: &mut [Link]) -> Result<&[Link], String> {
-    // SAFETY: a slice's pointer isn't null, is aligned, and is to so many links, which nothing else touches meanwhile.
+    // SAFETY: a slice's pointer isn't null, is aligned, and is valid for its length. Nothing else accesses the links meanwhile.
     let answer = unsafe { boruvka_forest(n, links.as_mut_ptr(), links.len()) };
     Ok(&links[..count_of(answer)?])
 }
 
-/// The indices of the forest's links among the arcs from `u` to `v` of weight `w`, between the vertices `base` to `base + n - 1`.
+/// Returns the indices of the forest's edges. Edge i joins `u[i]` and `v[i]` and weighs `w[i]`; vertices begin at `base`.
 fn places(n: u32, base: u32, u: &[u32], v: &[u32], w: &[i64]) -> Result<Vec<u32>, String> {
     let mut places = vec![0; u.len().min(n.saturating_sub(1) as usize)];
-    // SAFETY: as above; what is shared is only read, and a vector of its own is written.
+    // SAFETY: as above. The shared slices are only read, and the vector that is written is owned here.
     let answer = unsafe {
         boruvka_places_in(
             n, base, u.as_ptr(), u.len(), v.as_ptr(), v.len(), w.as_ptr(), w.len(), places.as_mut_ptr(), places.len(),
@@ -64,7 +64,7 @@ fn places(n: u32, base: u32, u: &[u32], v: &[u32], w: &[i64]) -> Result<Vec<u32>
     Ok(places)
 }
 
-/// The least vertex of each vertex's component under links without a cycle, from vertex 1 on.
+/// Returns the least vertex of each vertex's component, from vertex 1 on. The links contain no cycle.
 fn labels(n: u32, links: &[Link]) -> Result<Vec<u32>, String> {
     let mut labels = vec![0; n as usize];
     // SAFETY: as above.
@@ -73,7 +73,7 @@ fn labels(n: u32, links: &[Link]) -> Result<Vec<u32>, String> {
     Ok(labels)
 }
 
-/// The clusters that each link joins, whose points are the clusters 0 to n - 1, with the size of the one that it makes.
+/// Returns which two clusters each link merges, and the size of the new one. The points are the clusters 0 to n - 1.
 fn merges(n: u32, links: &[Link]) -> Result<Vec<Merge>, String> {
     let mut merges = vec![Merge::default(); links.len()];
     // SAFETY: as above.
@@ -82,7 +82,7 @@ fn merges(n: u32, links: &[Link]) -> Result<Vec<Merge>, String> {
     Ok(merges)
 }
 
-/// The sum of the links' weights.
+/// Returns the sum of the links' weights.
 fn total(links: &[Link]) -> i128 {
     let mut sum = Sum { high: 0, low: 0 };
     // SAFETY: as above.
@@ -90,28 +90,28 @@ fn total(links: &[Link]) -> i128 {
     (i128::from(sum.high) << 64) + i128::from(sum.low)
 }
 
-/// What a call counted, or the text of its error.
+/// Returns the count that a call returned, or the text of its error.
 fn count_of(answer: i64) -> Result<usize, String> {
     usize::try_from(answer).map_err(|_| fault_text(answer))
 }
 
 fn fault_text(kind: i64) -> String {
     let mut text = [0u8; 64];
-    // SAFETY: the pointer is to so many bytes of an array.
+    // SAFETY: the pointer is valid for the length that is passed with it.
     let length = unsafe { boruvka_fault_text(kind, text.as_mut_ptr().cast(), text.len()) };
     String::from_utf8_lossy(&text[..length.min(text.len())]).into_owned()
 }
 
 fn run() -> Result<(), String> {
-    let net = [(17, 1, 2), (10, 1, 3), (2, 2, 4), (0, 3, 5), (0, 4, 3), (3, 4, 6), (0, 5, 2), (20, 5, 6)];
-    let mut links = net.map(|(weight, low, high)| Link { weight, low, high });
+    let network = [(17, 1, 2), (10, 1, 3), (2, 2, 4), (0, 3, 5), (0, 4, 3), (3, 4, 6), (0, 5, 2), (20, 5, 6)];
+    let mut links = network.map(|(weight, low, high)| Link { weight, low, high });
     let found = forest(6, &mut links)?;
     println!("p sp 6 {}", found.len());
     for link in found {
         println!("a {} {} {}", link.low, link.high, link.weight);
     }
-    // the same net in columns: which of its arcs they are, and what they join, in which steps, and weigh
-    let (u, v, w) = (net.map(|it| it.1), net.map(|it| it.2), net.map(|it| it.0));
+    // the same network in columns, and the other calls on its forest
+    let (u, v, w) = (network.map(|it| it.1), network.map(|it| it.2), network.map(|it| it.0));
     assert_eq!(places(6, 1, &u, &v, &w)?, [6, 4, 3, 5, 1]);
     assert_eq!(labels(6, &found[..3])?, [1, 2, 2, 2, 2, 6]);
     let rows = [(1, 4, 2), (2, 3, 2), (6, 7, 4), (5, 8, 5), (0, 9, 6)];

@@ -1,5 +1,5 @@
-/* The minimum spanning forest of a small network, by calls that use no memory but what they are given: here a static array.
- * With the library of a PREFIX of your own:
+/* The minimum spanning forest of a small network, by calls that allocate nothing: they use only the memory that they are
+ * given, here a static array. With the library of a PREFIX of your own:
  *
  *     cc -o within -IPREFIX/include within.c PREFIX/lib/libboruvka_within.a
  *     ./within */
@@ -9,7 +9,7 @@
 
 enum { VERTICES = 6 };
 
-/* four pages; on x86-64 a long double is aligned to 16 bytes, as the call needs it */
+/* four pages; on x86-64 a long double is aligned to 16 bytes, as the call requires */
 static union {
     unsigned char bytes[4 * 4096];
     long double aligned;
@@ -17,7 +17,7 @@ static union {
 
 int main(void) {
     const struct boruvka_memory memory = {.start = pages.bytes, .size = sizeof pages.bytes};
-    /* the endpoints of a link come in either order */
+    /* the endpoints of a link may be in either order */
     struct boruvka_link links[] = {
         {.weight = 17, .low = 1, .high = 2}, {.weight = 10, .low = 1, .high = 3}, {.weight = 2, .low = 2, .high = 4},
         {.weight = 0, .low = 3, .high = 5},  {.weight = 0, .low = 4, .high = 3},  {.weight = 3, .low = 4, .high = 6},

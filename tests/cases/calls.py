@@ -1,7 +1,7 @@
-"""Each call of the system that the program makes failed once, at each place up to the last, by each of many errors.
+"""Makes each system call of the program fail once, in every position up to the last, with each of many errors.
 
-A place is the number of a call among those of its name in one run. A failed call may cost what the manual page says
-of it: FILE or a stream a status and a line, a worker nothing but that worker, and a close nothing.
+The position of a call is its number among the calls of its name in one run. A failed call may have the effect that the
+manual page states: for FILE or a stream an exit status and a line, for a worker the loss of that worker, for a close none.
 """
 import itertools
 import re
@@ -14,11 +14,11 @@ from cases.workers import over
 
 ERRORS = [ECONNRESET, EINTR, EAGAIN, ENOMEM, EMFILE, EPIPE]
 
-# so many workers and shards; by one thread there are none
+# numbers of workers and shards; one thread has none
 PLAIN = (0, 0)
 OVER_WORKERS = [(2, 2), (3, 4)]
 
-# the calls that make a worker, but for its thread, and how many of each it takes
+# the calls that make a worker, except for its thread, and how many of each it takes
 MAKING = {
     "socket": 2,
     "setsockopt": 1,
@@ -33,8 +33,8 @@ MAKING = {
     "nodelay": 2,
     "accept": 1,
 }
-# the library makes these again where they are interrupted, and no others: a connection is waited for anew, also where
-# what asks for its error is interrupted
+# std retries these if they are interrupted, and no others: it waits for a connection again, also if the call that asks for
+# its error is interrupted
 TRIED_AGAIN = ["open", "poll", "getsockopt", "accept"]
 
 
@@ -42,14 +42,14 @@ def costs_nothing(call, error):
     return call in TRIED_AGAIN and error == EINTR
 
 
-def words_for(size):
+def arguments_for(size):
     return ["--plain"] if size == PLAIN else over(*size)
 
 
 class Run:
-    """What a command did whose call of this name and number failed by this error, or those up to another number; how
-    many failed, and how many threads were joined. None was left, and no text for the user went to a socket. It is told of
-    one processor, if not of more."""
+    """Runs a command whose call of this name and number, or the calls up to another number, fail with this error. Returns
+    its result, how many calls failed, and how many threads were joined. Expects that all threads were joined and that no
+    text for the user went to a socket. The command sees one processor, unless more are given."""
 
     def __init__(self, room, command, source, call, number, error, last=None, processors=1):
         environment = {"FAIL_CALL": call, "FAIL_NUMBER": str(number), "FAIL_ERROR": str(error), "JOINED": "1"}
@@ -70,7 +70,7 @@ class Run:
             raise AssertionError(f"{self.what}: wanted {wanted!r:.300}, found {self.found!r:.600}")
 
     def expect_report(self, text, size):
-        """It wrote this text and ended well, and the equations of its report hold; it answers the report."""
+        """Expects success, this output, and a report whose equations hold. Returns the report."""
         self.expect(0, text, self.found[2])
         report = Report(self.found[2])
         report.expect_total(text)
@@ -79,8 +79,8 @@ class Run:
         return report
 
     def expect_workers(self, text, size, left, without=0):
-        """It ended well with so many workers left, and no line of theirs was closed. Each has a thread, and so has
-        each ferry of a round but one, `without` those that couldn't be started."""
+        """Expects success with so many workers left and no closed line. Each worker has a thread, and so has each ferry of
+        a round except one, `without` those that couldn't be started."""
         report = self.expect_report(text, size)
         rounds = 0 if size == PLAIN else report.rounds + 1
         alone = 0 if left else rounds * size[1]
@@ -89,9 +89,9 @@ class Run:
             raise AssertionError(f"{self.what}: {left} workers are left and {threads} threads: {self.threads}, {vars(report)}")
 
 
-def each_place(room, command, source, call, errors, in_turn=1, processors=1):
-    """Fails a call of this name, or so many in turn, at one place after another, by these errors in turn, until none is
-    left to fail, and answers these runs. In the last no call failed."""
+def each_position(room, command, source, call, errors, in_turn=1, processors=1):
+    """Makes a call of this name, or so many in a row, fail at one position after another, with these errors in turn.
+    Returns these runs. In the last run no call failed, because there were no more."""
     runs = []
     while not runs or runs[-1].failed:
         number = len(runs) + 1
@@ -101,48 +101,48 @@ def each_place(room, command, source, call, errors, in_turn=1, processors=1):
 
 
 def each_error(room, size, graph, call, errors, more=(), processors=1):
-    """The runs over so many workers and shards in which a call of this name failed, for each error a list of them. On
-    the small net each place is failed by each error, and on others by one."""
+    """Returns the runs over so many workers and shards in which a call of this name failed, as a list for each error. On
+    the small network each position fails with each error, and on the others with one."""
     file, _ = graph
-    command = [Program.path, *words_for(size), "--report", *more]
+    command = [Program.path, *arguments_for(size), "--report", *more]
     turns = [[it] for it in errors] if file == SMALL_NET else [errors]
     source = b"" if more else file
-    return [each_place(room, command, source, call, turn, processors=processors) for turn in turns]
+    return [each_position(room, command, source, call, turn, processors=processors) for turn in turns]
 
 
-def expect_places(runs, count):
+def expect_positions(runs, count):
     if len(runs) - 1 != count:
         raise AssertionError(f"{runs[-1].what}: {len(runs) - 1} calls failed in turn, and not {count}")
 
 
 def graphs():
-    # (shards of the second go out with weights of 64 bits)
+    # (the shards of the second have weights of 64 bits)
     return [(SMALL_NET, SMALL_FOREST), drawn_graph(7, 3000, 10_000, 2**40)]
 
 
 @case
 def each_call_that_makes_a_worker_fails_by_each_error(room):
-    # it is left out, and the others answer all
+    # it is left out, and the others answer every ask
     for graph in graphs():
         for size in OVER_WORKERS:
             for call, count in MAKING.items():
-                # (EINPROGRESS tells of a connection that isn't begun)
+                # (EINPROGRESS means that the connection is pending)
                 errors = [*ERRORS, EINPROGRESS] if call == "connect" else ERRORS
                 for runs in each_error(room, size, graph, call, errors):
-                    expect_places(runs, count * size[0])
+                    expect_positions(runs, count * size[0])
                     for run in runs:
                         is_lost = run.failed and not costs_nothing(call, run.error)
                         run.expect_workers(graph[1], size, size[0] - is_lost)
 
 
 @case
-def a_pair_is_tried_again_after_up_to_four_strangers(room):
-    # somebody else connects first to so many listeners in turn, also by the very port of the one who is due
+def a_worker_is_tried_again_after_up_to_four_strangers(room):
+    # somebody else connects first to so many listeners in turn, also from the port of the expected client
     for file, text in graphs():
         for size, strangers, call in itertools.product(OVER_WORKERS, [1, 4, 5], ["stranger", "namesake"]):
-            command = [Program.path, *words_for(size), "--report"]
-            runs = each_place(room, command, file, call, [0], strangers)
-            expect_places(runs, size[0])
+            command = [Program.path, *arguments_for(size), "--report"]
+            runs = each_position(room, command, file, call, [0], strangers)
+            expect_positions(runs, size[0])
             for run in runs[:-1]:
                 if run.failed != strangers:
                     raise AssertionError(f"{run.what}: {run.failed} strangers connected, and not {strangers}")
@@ -154,18 +154,18 @@ def a_pair_is_tried_again_after_up_to_four_strangers(room):
 def no_socket_and_no_thread_by_one_thread(room):
     for call in [*MAKING, "recv", "send", "shutdown", "thread"]:
         for runs in each_error(room, PLAIN, (SMALL_NET, SMALL_FOREST), call, [ENOMEM]):
-            expect_places(runs, 0)
+            expect_positions(runs, 0)
             runs[0].expect_workers(SMALL_FOREST, PLAIN, 0)
 
 
 @case
 def each_thread_fails_to_start_by_each_error(room):
-    # that of a worker, which is left out, or of a ferry, whose round goes on without it
+    # the thread of a worker, which is left out, or of a ferry, without which the round continues
     for graph in graphs():
         for size in OVER_WORKERS:
             workers = size[0]
             for runs in each_error(room, size, graph, "thread", ERRORS):
-                expect_places(runs, runs[-1].threads)
+                expect_positions(runs, runs[-1].threads)
                 for run in runs:
                     is_lost = run.failed and run.number <= workers
                     run.expect_workers(graph[1], size, workers - is_lost, run.failed - is_lost)
@@ -173,35 +173,35 @@ def each_thread_fails_to_start_by_each_error(room):
 
 @case
 def each_close_fails_by_each_error(room):
-    # of FILE, of what looks whether the standard descriptors are open, of each listener and of both ends of each line
+    # closes of FILE, of the check of the standard descriptors, of each listener, and of both ends of each line
     for file, text in graphs():
         name = written(f"{room}/net.gr", file)
         for size in [PLAIN, *OVER_WORKERS]:
             for runs in each_error(room, size, (file, text), "close", ERRORS, [name]):
-                expect_places(runs, 1 if size == PLAIN else 2 + 3 * size[0])
+                expect_positions(runs, 1 if size == PLAIN else 2 + 3 * size[0])
                 for run in runs:
                     run.expect_workers(text, size, size[0])
 
 
 @case
 def each_shutdown_fails_by_each_error(room):
-    # of both ends of each line, which are closed then all the same
+    # for both ends of each line, which are closed anyway
     for graph in graphs():
         for size in OVER_WORKERS:
             for runs in each_error(room, size, graph, "shutdown", ERRORS):
-                expect_places(runs, 2 * size[0])
+                expect_positions(runs, 2 * size[0])
                 for run in runs:
                     run.expect_workers(graph[1], size, size[0])
 
 
 @case
 def a_close_that_leaves_its_socket_open_keeps_nobody_waiting(room):
-    # of each listener and of both ends of each line: one of these, and then all
+    # for each listener and both ends of each line: first one call, and then all
     for file, text in graphs():
         for size in OVER_WORKERS:
-            command = [Program.path, *words_for(size), "--report"]
-            runs = each_place(room, command, file, "unclosed", [EIO])
-            expect_places(runs, 3 * size[0])
+            command = [Program.path, *arguments_for(size), "--report"]
+            runs = each_position(room, command, file, "unclosed", [EIO])
+            expect_positions(runs, 3 * size[0])
             runs.append(Run(room, command, file, "unclosed", 1, EIO, FAR))
             if runs[-1].failed != 3 * size[0]:
                 raise AssertionError(f"{runs[-1].what}: {runs[-1].failed} calls failed")
@@ -211,7 +211,7 @@ def a_close_that_leaves_its_socket_open_keeps_nobody_waiting(room):
 
 @case
 def each_read_and_write_of_a_line_fails_by_each_error(room):
-    # its line is closed, and the others answer what it didn't
+    # its line is closed, and the others answer its asks
     for graph in graphs():
         for size in OVER_WORKERS:
             for call in ["recv", "send"]:
@@ -226,7 +226,7 @@ def each_read_and_write_of_a_line_fails_by_each_error(room):
 
 
 @case
-def a_worker_whose_session_ended_ill_begins_no_other(room):
+def a_worker_whose_session_failed_begins_no_other(room):
     # a hello begins each session
     for call in ["recv", "send"]:
         number = failed = 1
@@ -243,13 +243,13 @@ def a_worker_whose_session_ended_ill_begins_no_other(room):
 
 @case
 def each_open_fails_by_each_error(room):
-    # of FILE first, and then of what looks whether the standard descriptors are open, without which no worker starts
+    # first the open of FILE, and then that of the check of the standard descriptors, without which no worker starts
     for file, text in graphs():
         name = written(f"{room}/net.gr", file)
         unopened = f"boruvka: cannot open {name}\n".encode()
         for size in [PLAIN, *OVER_WORKERS]:
             for runs in each_error(room, size, (file, text), "open", ERRORS, [name]):
-                expect_places(runs, 1 if size == PLAIN else 2)
+                expect_positions(runs, 1 if size == PLAIN else 2)
                 for run in runs:
                     if not run.failed or costs_nothing("open", run.error):
                         run.expect_workers(text, size, size[0])
@@ -261,7 +261,7 @@ def each_open_fails_by_each_error(room):
 
 @case
 def what_holds_a_closed_descriptor_cannot_be_opened(room):
-    # then no socket gets its number, since none is made; where the open is tried again there are workers as ever
+    # then no socket gets its number, since none is made; if the open is retried, there are workers as usual
     unread = b"boruvka: line 1: read failed\n"
     rows = [
         ("<&-", 2, unread),
@@ -272,10 +272,10 @@ def what_holds_a_closed_descriptor_cannot_be_opened(room):
     ]
     for closed, opens, errors in rows:
         for size in OVER_WORKERS:
-            command = ["sh", "-c", f'exec "$0" "$@" {closed}', Program.path, *words_for(size)]
+            command = ["sh", "-c", f'exec "$0" "$@" {closed}', Program.path, *arguments_for(size)]
             for error in ERRORS:
-                runs = each_place(room, command, SMALL_NET, "open", [error])
-                expect_places(runs, opens)
+                runs = each_position(room, command, SMALL_NET, "open", [error])
+                expect_positions(runs, opens)
                 for run in runs:
                     run.expect(3, b"", errors)
                     if bool(run.threads) != (not run.failed or costs_nothing("open", error)):
@@ -284,16 +284,16 @@ def what_holds_a_closed_descriptor_cannot_be_opened(room):
 
 @case
 def each_read_of_a_file_and_of_standard_input_fails(room):
-    # it is told with the line that it would have gone on with; the read behind it would pass
+    # it is reported with the line that it would have continued; the next read would succeed
     for file, text in [(SMALL_NET, SMALL_FOREST), drawn_graph(16, 20_000, 15_000)]:
         name = written(f"{room}/net.gr", file)
         reads = -(-len(file) // READ_ROOM) + 1
         for size in [PLAIN, *OVER_WORKERS]:
             for shell in ['exec "$@" "$0"', 'exec "$@" < "$0"']:
-                command = ["sh", "-c", shell, name, Program.path, *words_for(size)]
+                command = ["sh", "-c", shell, name, Program.path, *arguments_for(size)]
                 for error in [*ERRORS, EIO, ETIMEDOUT]:
-                    runs = each_place(room, command, b"", "read", [error])
-                    expect_places(runs, reads)
+                    runs = each_position(room, command, b"", "read", [error])
+                    expect_positions(runs, reads)
                     for run in runs[:-1]:
                         line = file[: READ_ROOM * (run.number - 1)].count(b"\n") + 1
                         run.expect(3, b"", f"boruvka: line {line}: read failed\n".encode())
@@ -301,8 +301,9 @@ def each_read_of_a_file_and_of_standard_input_fails(room):
 
 
 def expect_writes(runs, text):
-    """Of runs in which the first write fails, the second, and so on, and then none: what was taken before is told. The text's
-    first line is a write of its own, and each other but the last has 8 KiB less a line."""
+    """Expects of runs in which the first write fails, the second, and so on, and then none, that the bytes written before are
+    reported. The first line of the text is a write of its own. Every other write except the last has at least 8 KiB less a
+    line."""
     first = text.index(b"\n") + 1
     before = -first
     for run in runs[:-1]:
@@ -319,17 +320,17 @@ def expect_writes(runs, text):
 
 @case
 def each_write_of_a_forest_fails(room):
-    # what was taken before it is told, and nothing goes out after it; the write behind it would pass
+    # the bytes written before it are reported, and nothing is written after it; the next write would succeed
     for file, text in [(SMALL_NET, SMALL_FOREST), drawn_graph(17, 6000, 12_000)]:
         for size in [PLAIN, *OVER_WORKERS]:
             for error in [*ERRORS, EIO, ENOSPC, NOTHING]:
-                runs = each_place(room, [Program.path, *words_for(size)], file, "write", [error])
+                runs = each_position(room, [Program.path, *arguments_for(size)], file, "write", [error])
                 expect_writes(runs, text)
 
 
 @case
-def what_standard_error_does_not_take_changes_no_status(room):
-    # (words, a file, the first and the last write that fail, status, output)
+def a_failed_write_to_standard_error_changes_no_status(room):
+    # (arguments, a file, the first and the last write that fail, status, output)
     missing = f"{room}/none.gr"
     rows = [
         (["--report"], SMALL_NET, 3, 3, 0, SMALL_FOREST),
@@ -341,7 +342,7 @@ def what_standard_error_does_not_take_changes_no_status(room):
     ]
     for more, file, first, last, status, output in rows:
         for size in [PLAIN, *OVER_WORKERS]:
-            words = more if "--shards" in more else [*words_for(size), *more]
+            words = more if "--shards" in more else [*arguments_for(size), *more]
             for error in [*ERRORS, EIO, NOTHING]:
                 run = Run(room, [Program.path, *words], file, "write", first, error, last)
                 run.expect(status, output, b"")
@@ -351,7 +352,7 @@ def what_standard_error_does_not_take_changes_no_status(room):
 
 @case
 def each_call_of_a_scan_by_threads_fails(room):
-    # (the scan asks how many processors there are, which a file tells too)
+    # (the scan asks for the number of processors, for which a file is read too)
     size = (2, 1)
     graph = drawn_graph(11, 700, 140_000)
     for call in ["open", "sched_getaffinity", "thread", "close"]:
@@ -360,7 +361,7 @@ def each_call_of_a_scan_by_threads_fails(room):
                 raise AssertionError(f"{call}: no call failed")
             for run in runs:
                 report = run.expect_report(graph[1], size)
-                # (the first open is of what looks whether the standard descriptors are open)
+                # (the first open is that of the check of the standard descriptors)
                 is_alone = call == "open" and run.number == 1 and not costs_nothing(call, run.error)
                 if report.closed or bool(report.alone) != is_alone:
                     raise AssertionError(f"{run.what}: a worker was lost: {vars(report)}")

@@ -1,5 +1,5 @@
-"""What README, docs/RECIPES.md and the manual page show, run as it stands there; the session that docs/PROTOCOL.md
-shows; README's call of a library; what the manual page, the promises and the map name; how long sentences are."""
+"""The documents: runs what README, docs/RECIPES.md and the manual page show, and README's call of a library. Checks the
+session in docs/PROTOCOL.md, the names in the manual page, the promises and the map, and the length of sentences."""
 import glob
 import gzip
 import math
@@ -25,7 +25,7 @@ def text_of(name):
 
 
 def blocks_of(name, heading=""):
-    """The fenced blocks of a page, or of the part of it below a heading, each with its language."""
+    """Returns the fenced blocks of a page, or of the part below a heading, each with its language."""
     text = text_of(name)
     if heading:
         text = text.split(f"\n## {heading}\n")[1].split("\n## ")[0]
@@ -33,8 +33,8 @@ def blocks_of(name, heading=""):
 
 
 def shown(language, block):
-    """The commands of a block, each with what it writes. A `sh` block is one command, which writes nothing; in a `console`
-    block `$ ` begins a command, of one line."""
+    """Returns the commands of a block, each with its output. A `sh` block is one command without output. In a `console` block
+    each line after `$ ` is a command."""
     if language == "sh":
         return [(block, "")]
     if language != "console" or not block.startswith("$ "):
@@ -44,13 +44,13 @@ def shown(language, block):
 
 
 def shell_recipes():
-    """The blocks of docs/RECIPES.md that a shell runs; the last takes away what the others leave."""
+    """Returns the blocks of docs/RECIPES.md that a shell runs. The last removes what the others leave."""
     return [it for it in blocks_of("docs/RECIPES.md") if it[0] != "python"]
 
 
 def pasted(room, command, shell="sh"):
-    """What a command of a page does in a copy of the repository's top that has the examples alone: its status, and what it
-    writes to either stream."""
+    """Runs a command of a page in a copy of the repository that has only the examples. Returns its exit status, and its
+    output with standard error."""
     if not os.path.isdir(f"{room}/examples"):
         shutil.copytree(f"{ROOT}/examples", f"{room}/examples")
         os.makedirs(f"{room}/bin", exist_ok=True)
@@ -61,7 +61,7 @@ def pasted(room, command, shell="sh"):
 
 
 def expect_shown(room, blocks, shell="sh"):
-    """Runs each command of the blocks, in their order."""
+    """Runs each command of the blocks in order, and expects what the blocks show."""
     count = 0
     for language, block in blocks:
         for command, output in shown(language, block):
@@ -81,8 +81,8 @@ def the_first_screen_of_the_readme(room):
         raise AssertionError(f"{count} commands were found")
 
 
-def awk_rooms(room):
-    """A folder for each awk that is there, in which it goes by that name."""
+def awk_folders(room):
+    """Returns a folder for each awk that is installed, with a link `awk` to it."""
     found = {it: shutil.which(it) for it in ("mawk", "gawk", "original-awk", "busybox")}
     for name, path in found.items():
         if path:
@@ -94,7 +94,7 @@ def awk_rooms(room):
 @case
 def the_recipes(room):
     *blocks, last = shell_recipes()
-    for room in awk_rooms(room):
+    for room in awk_folders(room):
         count = expect_shown(room, blocks)
         if count < 25:
             raise AssertionError(f"only {count} commands were found")
@@ -106,7 +106,7 @@ def the_recipes(room):
                 counts = picture.count('class="node"'), picture.count('class="edge"'), picture.count('stroke-width="3"')
                 if counts != (10, 13, 8):
                     raise AssertionError(f"villages, roads and roads of the forest: {counts}")
-        # the last block takes away whatever the others left
+        # the last block removes whatever the others left
         expect_shown(room, [last])
         left = sorted(os.listdir(room)), sorted(os.listdir(f"{room}/examples"))
         if left != (["bin", "examples"], sorted(os.listdir(f"{ROOT}/examples"))):
@@ -115,7 +115,8 @@ def the_recipes(room):
 
 @case
 def the_recipes_in_other_shells(room):
-    """In zsh what has both a file and a pipe goes to either. With `pipefail` a pipe fails just if its graph can't be read."""
+    """In zsh, output that is redirected to a file and a pipe goes to both. With `pipefail` a pipe fails exactly if its graph
+    can't be read."""
     *blocks, last = shell_recipes()
     [setting] = re.findall(r"`(set -o \w+)`", text_of("docs/RECIPES.md"))
     for shell in filter(shutil.which, ["bash", "zsh"]):
@@ -129,7 +130,7 @@ def the_recipes_in_other_shells(room):
 
 @case
 def a_clean_up_without_parts(room):
-    """In zsh a pattern that matches nothing takes its command along, and no other."""
+    """In zsh a pattern that matches nothing fails its own command, and no other."""
     _, last = shell_recipes()[-1]
     for shell in filter(shutil.which, ["sh", "bash", "zsh"]):
         names = set(re.findall(r"\w+\.\w+", last))
@@ -141,7 +142,7 @@ def a_clean_up_without_parts(room):
 
 
 def recipe(room, *headings):
-    """Makes the files of these recipes, and answers the commands of the last that show something."""
+    """Makes the files of these recipes, and returns the commands of the last one that show output."""
     commands = [it for heading in headings for language, block in blocks_of("docs/RECIPES.md", heading) for it in shown(language, block)]
     for command, output in commands:
         if pasted(room, command) != (0, output):
@@ -150,14 +151,14 @@ def recipe(room, *headings):
 
 
 def csv_recipe(room):
-    """The commands of the recipe of a CSV that show something, after those that it needs the files of."""
+    """Makes the files that the recipe of a CSV needs, and returns its commands that show output."""
     for heading in ["Clusters", "Decimal weights", "Names instead of numbers"]:
         recipe(room, heading)
     return recipe(room, "A CSV with ids")
 
 
 def expect_refused(room, command, name, rows, line, told):
-    """With these lines in its file the command fails, and tells just the line's number, the line, and why."""
+    """Expects the command to fail with these lines in its file, and to report exactly the line, its number and the reason."""
     with open(f"{room}/{name}", "w", encoding="utf-8", newline="") as it:
         it.write("\n".join([*rows, ""]))
     status, output = pasted(room, command)
@@ -166,9 +167,9 @@ def expect_refused(room, command, name, rows, line, told):
 
 
 @case
-def ways_between_what_is_no_vertex(room):
-    """They are refused, as is a graph that can't be read; no length is told."""
-    for room in awk_rooms(room):
+def paths_between_what_is_no_vertex(room):
+    """They are rejected, and so is a graph that can't be read. No length is printed."""
+    for room in awk_folders(room):
         recipe(room, "A bottleneck")
         for file, start, goal, told in [
             *(("roads.gr", *it, "start and goal are vertices, 1 to 10\n") for it in [(11, 12), (1, 11), (0, 8), (11, 11), (1, "x"), ("01", 1), ("", ""), ("1 ", 1)]),
@@ -180,9 +181,9 @@ def ways_between_what_is_no_vertex(room):
 
 
 @case
-def forests_that_were_cut_off(room):
-    """A run that ends while it writes leaves a part of a forest, or nothing: no cluster and no missing way is told of that."""
-    for room in awk_rooms(room):
+def truncated_forests(room):
+    """A run that ends while it writes leaves a part of a forest, or nothing. No cluster and no missing path is printed then."""
+    for room in awk_folders(room):
         recipe(room, "Clusters")
         recipe(room, "A bottleneck")
         clusters, way = "awk -v clusters=2 -f clusters.awk", "awk -v start=1 -v goal=8 -f bottleneck.awk"
@@ -191,16 +192,16 @@ def forests_that_were_cut_off(room):
                 found = pasted(room, f"boruvka --plain examples/roads.gr > forest.gr && head -n {lines} forest.gr | {command}")
                 if found != (1, told):
                     raise AssertionError(f"{lines} lines, {command}: {found!r:.600}")
-        # a way that was found before the cut is that of the whole forest
+        # a path that was found before the end is that of the whole forest
         found = pasted(room, "head -n 4 forest.gr | awk -v start=1 -v goal=3 -f bottleneck.awk")
         if found != (0, "3\n"):
             raise AssertionError(f"{found!r:.600}")
 
 
 @case
-def counts_that_the_recipes_refuse(room):
-    """A count that is mistyped or missing has no answer: neither other clusters, nor weights whose point has moved."""
-    for room in awk_rooms(room):
+def counts_that_the_recipes_reject(room):
+    """A count that is mistyped or missing is an error: no other clusters, and no weights with a moved point."""
+    for room in awk_folders(room):
         recipe(room, "Clusters")
         csv = csv_recipe(room)[0]
         for count in ["O4", "4x", "2,5", "1.5", "-2", "two", ""]:
@@ -223,7 +224,7 @@ def counts_that_the_recipes_refuse(room):
 def counts_that_no_clusters_have(room):
     """The roads have ten vertices and two components: by hand."""
     of_components = "".join(f"{v} {1 if v < 9 else 9}\n" for v in range(1, 11))
-    for room in awk_rooms(room):
+    for room in awk_folders(room):
         recipe(room, "Clusters")
         for count, status, output in [
             ("20", 1, "20 clusters are more than the 10 vertices\n"), ("11", 1, "11 clusters are more than the 10 vertices\n"),
@@ -240,8 +241,8 @@ def counts_that_no_clusters_have(room):
 
 
 def forest_of_names(rows):
-    """The ids of the forest of rows (id, name, name, weight), lightest first, if names are ranked as bytes; of equal links the
-    least id counts."""
+    """Returns the ids of the forest of rows (id, name, name, weight), lightest first, with names ranked as bytes. Of equal
+    links the least id counts."""
     rank = {it: at for at, it in enumerate(sorted({name for _, *ends, _ in rows for name in ends}, key=str.encode), 1)}
     least = {}
     for id_, u, v, weight in rows:
@@ -259,7 +260,7 @@ def the_order_of_rows_changes_nothing(room):
     rank, ids = forest_of_names(rows)
     row = {id_: (u, v, weight) for id_, u, v, weight in rows}
     links = "".join(" ".join((*sorted(row[it][:2], key=rank.get), str(row[it][2]))) + "\n" for it in ids)
-    for room in awk_rooms(room):
+    for room in awk_folders(room):
         command = csv_recipe(room)[0]
         show, _ = recipe(room, "Names instead of numbers")
         grouped = set()
@@ -284,8 +285,8 @@ def the_order_of_rows_changes_nothing(room):
 
 @case
 def no_rows_with_names(room):
-    """They have no names, no links and no clusters, whatever was there before."""
-    for room in awk_rooms(room):
+    """They have no names, no links and no clusters, whatever files were there before."""
+    for room in awk_folders(room):
         csv = csv_recipe(room)[0]
         show, _ = recipe(room, "Names instead of numbers")
         written(f"{room}/trains.txt", b"")
@@ -296,9 +297,9 @@ def no_rows_with_names(room):
 
 
 @case
-def weights_that_the_recipes_refuse(room):
+def weights_that_the_recipes_reject(room):
     wrong = ["1,9", "x7", "7x", "", "0.755", "1e3", "nan", "0x1F", "-", ".", "1.", ".5", "+1", "1.2.3", "--1", "1 2", "1.-5", "\u0661"]
-    for room in awk_rooms(room):
+    for room in awk_folders(room):
         plain, _, quoted = csv_recipe(room)
         [decimals] = recipe(room, "Decimal weights")
         for weight in wrong:
@@ -310,9 +311,9 @@ def weights_that_the_recipes_refuse(room):
 
 
 @case
-def lines_that_the_recipe_of_a_csv_refuses(room):
+def lines_that_the_recipe_of_a_csv_rejects(room):
     head = "id,from,to,metres"
-    for room in awk_rooms(room):
+    for room in awk_folders(room):
         plain, _, quoted = csv_recipe(room)
         for rows, line in [
             (["p1,Old Mill,Gate,1"], 1),
@@ -331,11 +332,11 @@ def lines_that_the_recipe_of_a_csv_refuses(room):
             (["id;from;to;metres", "p1;Old Mill;Gate;1"], 1),
         ]:
             expect_refused(room, plain, "pipes.csv", rows, line, rows[line - 1])
-        # with semicolons in place of commas
+        # with semicolons instead of commas
         semicolons = plain.replace("-F ,", "-F ';'")
         for row in ['p1;"Old Mill";Gate;1', "p\t1;Old Mill;Gate;1"]:
             expect_refused(room, semicolons, "pipes.csv", [head.replace(",", ";"), "p0;Old Mill;Gate;2", row], 3, row)
-        # (csv takes a quote behind a space for a part of the field)
+        # (csv treats a quote after a space as a part of the field)
         for row, told in [('p1, "Old Mill",Gate,1', 'p1\t "Old Mill"\tGate\t1'), ('p1,"Old Mill","Gate ",1', "p1\tOld Mill\tGate \t1")]:
             expect_refused(room, quoted, "quoted.csv", [head, row], 2, told)
         for row in ['p1,"Old\tMill",Gate,1', 'p1,"Old\nMill",Gate,1', 'p1,"Old\r\nMill",Gate,1']:
@@ -352,15 +353,15 @@ def lines_that_the_recipe_of_a_csv_refuses(room):
 @case
 def decimals_that_no_float_tells_apart(room):
     weights = ["90071992547409.93", "90071992547409.92", "-0.01", "-0.00", "0.010", "-92233720368547758.08", "92233720368547758.07"]
-    for room in awk_rooms(room):
+    for room in awk_folders(room):
         [command] = recipe(room, "Decimal weights")
         with open(f"{room}/decimals.gr", "w", encoding="utf-8", newline="") as it:
             it.write("p sp 5 6\r\n" + "".join(f"a {u} {v} {weights[w]}\r\n" for u, v, w in [(1, 2, 0), (2, 1, 1), (2, 3, 5), (3, 4, 6), (4, 5, 3), (5, 4, 2)]))
         wanted = "p sp 5 4\na 2 3 -92233720368547758.08\na 4 5 -0.01\na 1 2 90071992547409.92\na 3 4 92233720368547758.07\n"
         if pasted(room, command) != (0, wanted):
             raise AssertionError(f"wanted {wanted}\n    found  {pasted(room, command)}")
-        # without digits after a point there is none, as the recipe itself asks of a weight; and if a
-        # count has a leading zero some awks count by eights
+        # a point needs digits after it, as the recipe itself requires of a weight; and some awks read a count with a leading
+        # zero as octal
         with open(f"{room}/decimals.gr", "w", encoding="utf-8") as it:
             it.write("p sp 2 1\na 1 2 0.0000000019\n")
         found = pasted(room, command.replace("digits=2", "digits=010"))
@@ -372,7 +373,7 @@ def decimals_that_no_float_tells_apart(room):
             found = pasted(room, command.replace("digits=2", f"digits={digits}"))
             if found != (0, "p sp 3 2\na 2 3 -70\na 1 2 0\n"):
                 raise AssertionError(f"{digits} digits: {found!r:.600}")
-        # past 64 bits it is the program that refuses, and tells the same line
+        # beyond 64 bits the program rejects the weight, and reports the same line
         with open(f"{room}/decimals.gr", "w", encoding="utf-8") as it:
             it.write("c a line more\np sp 2 1\na 1 2 92233720368547758.08\n")
         if pasted(room, command) != (1, "boruvka: line 3: WeightOutOfRange\n"):
@@ -381,8 +382,8 @@ def decimals_that_no_float_tells_apart(room):
 
 @case
 def weights_as_the_program_reads_them(room):
-    """Wherever a carriage return stands, a weight is turned or has its point moved; what is no weight is refused."""
-    for room in awk_rooms(room):
+    """Wherever a carriage return is, a weight is negated or its point is moved, and what isn't a weight is rejected."""
+    for room in awk_folders(room):
         [turned] = recipe(room, "A maximum spanning forest")
         [scaled] = recipe(room, "Decimal weights")
         for end in ["\n", "\r\n", "\n\r"]:
@@ -405,10 +406,10 @@ def weights_as_the_program_reads_them(room):
 
 @case
 def names_in_files_of_others(room):
-    """A byte order mark, tabs, line ends of two bytes and a last line without one are no part of a name; a column more is refused."""
+    """A byte order mark, tabs, CR LF and a last line without LF aren't part of a name. Another column is rejected."""
     trains = ["Brno Praha 205", "Brno\tOlomouc 80", "Olomouc Praha 250", "Wien Brno 9007199254740993", "Wien  Brno 9007199254740992"]
     wanted = "Brno Olomouc 80\nBrno Praha 205\nBrno Wien 9007199254740992\n"
-    for room in awk_rooms(room):
+    for room in awk_folders(room):
         recipe(room, "Clusters")
         show, _ = recipe(room, "Names instead of numbers")
         number = "awk -f names.awk -f number.awk trains.txt > trains.gr"
@@ -425,12 +426,12 @@ def names_in_files_of_others(room):
 
 @case
 def the_links_that_a_picture_draws_black(room):
-    """They are the forest's, however the file spells them: by hand."""
+    """They are the forest's edges, however the file spells them: by hand."""
     net = [("1", "2", "9007199254740993"), ("1", "02", "9007199254740992"), ("3", "2", "-007"), ("3", "3", "5"), ("9", "010", "05"), ("10", "9", "5")]
     black = ["1 -- 2 [label=9007199254740992", "2 -- 3 [label=-7", "9 -- 10 [label=5"]
     grey = ["1 -- 2 [label=9007199254740993", "3 -- 3 [label=5", "9 -- 10 [label=5"]
     draw = blocks_of("docs/RECIPES.md", "A picture")[0][1]
-    for room in awk_rooms(room):
+    for room in awk_folders(room):
         pasted(room, draw)
         for end in ["\n", "\r\n"]:
             with open(f"{room}/examples/roads.gr", "w", encoding="utf-8", newline="") as it:
@@ -446,7 +447,7 @@ def the_links_that_a_picture_draws_black(room):
 
 @case
 def points_of_any_unit(room):
-    """The clusters of points don't depend on the unit, from far below one to far past it: by hand."""
+    """The clusters of points don't depend on the unit, from far below one to far above it: by hand."""
     recipe(room, "Clusters")
     recipe(room, "Points")
     for unit in ["1e-300", "1e-9", "0.0001", "1", "1e6", "1e15", "1e100"]:
@@ -460,7 +461,7 @@ def points_of_any_unit(room):
 
 @case
 def points_far_from_zero(room):
-    """Times in nanoseconds, which doubles have 256 apart, most of them at one: how far the nearest two of each are, by all pairs."""
+    """Times in nanoseconds, where doubles are 256 apart. Most are equal. The distances to the nearest two come from all pairs."""
     recipe(room, "Clusters")
     recipe(room, "Points")
     for seed in (8, 35):
@@ -479,7 +480,7 @@ def points_far_from_zero(room):
 
 @case
 def lines_that_are_no_points(room):
-    """They are reported by their number and at once: a header, an empty line, and coordinates that lie nowhere."""
+    """They are reported at once, with their number: a header, an empty line, and infinite or huge coordinates."""
     recipe(room, "Clusters")
     recipe(room, "Points")
     number, range_ = "a line is x,y: two numbers", "coordinates are finite, and at most 1e150"
@@ -493,7 +494,7 @@ def lines_that_are_no_points(room):
         found = pasted(room, "timeout 10 python3 nearest.py 1 < points.csv")
         if found != (1, f"line {line}: {told}: {why}\n"):
             raise AssertionError(f"{rows}: {found!r:.600}")
-    for rows, count, told in [("", 2, "there are no points\n"), ("0,0\n", 0, "how many are nearest is 1 or more\n"), ("0,0\n", -1, "how many are nearest is 1 or more\n")]:
+    for rows, count, told in [("", 2, "there are no points\n"), ("0,0\n", 0, "the number of nearest points is 1 or more\n"), ("0,0\n", -1, "the number of nearest points is 1 or more\n")]:
         written(f"{room}/points.csv", rows.encode())
         if pasted(room, f"python3 nearest.py {count} < points.csv") != (1, told):
             raise AssertionError(f"{rows!r}, {count}: {pasted(room, f'python3 nearest.py {count} < points.csv')!r:.600}")
@@ -504,7 +505,7 @@ def lines_that_are_no_points(room):
 
 @case
 def the_lengths_of_a_tree_of_points(room):
-    """All pairs of drawn points, by Kruskal's algorithm: each length, and their sum."""
+    """All pairs of random points, by Kruskal's algorithm: each length, and their sum."""
     recipe(room, "Clusters")
     recipe(room, "Points")
     draw = random.Random(12)
@@ -520,7 +521,7 @@ def the_lengths_of_a_tree_of_points(room):
 
 @case
 def the_ids_of_a_drawn_csv(room):
-    # no two lengths are equal, so that the forest is the same however names are numbered
+    # no two lengths are equal, so the forest doesn't depend on how names are numbered
     draw = random.Random(79)
     lengths = draw.sample(range(100_000), 900)
     links = [(draw.randint(1, 200), draw.randint(1, 200), length) for length in lengths]
@@ -528,7 +529,7 @@ def the_ids_of_a_drawn_csv(room):
     rows = [f"id {at},{name[u]},{name[v]},{length // 100}.{length % 100:02}" for at, (u, v, length) in enumerate(links)]
     id_of = {length: f"id {at}" for at, (_, _, length) in enumerate(links)}
     wanted = "".join(f"{id_of[length]}\n" for length, _, _ in forest_of(200, links))
-    for room in awk_rooms(room):
+    for room in awk_folders(room):
         command = csv_recipe(room)[0]
         with open(f"{room}/pipes.csv", "w", encoding="utf-8", newline="") as it:
             it.write("\r\n".join(["\ufeffid,from,to,km", *rows, ""]))
@@ -537,14 +538,14 @@ def the_ids_of_a_drawn_csv(room):
 
 
 @case
-def faults_of_a_graph_in_parts(room):
-    """What is wrong with the file is told before it is cut, or with its part, as the program tells it, and no forest is
+def errors_of_a_graph_in_parts(room):
+    """Errors of the file are reported before it is split, or with its part, as the program reports them. No forest is
     written."""
     p, *arcs = "p sp 4 5", "a 1 2 3", "a 2 3 4", "a 3 4 1", "a 4 1 2", "a 1 3 9"
     problems = ["p sp 1O 5", "p sp 4 5x", "p sp 4", "p sp 4 5 0", "p edge 4 5", "p sp -4 5", "p sp 4.0 5", "p sp 0x4 5", "p sp four 5", "p sp 4 5e0", "p"]
-    for room in awk_rooms(room):
+    for room in awk_folders(room):
         cut, solved = (it.replace(".gr 5 &&", ".gr 3 &&") for it in recipe(room, "Parts of a large graph"))
-        # (three lines a part, to each a problem line is added)
+        # (three lines per part; a problem line is added to each)
         for rows, part, told in [
             ([p, *arcs[:3], "a 4 1 x", arcs[4]], "ab", "line 3: BadArc"),
             ([p, *arcs[:3], "a 4 1 2 5", arcs[4]], "ab", "line 3: BadArc"),
@@ -561,7 +562,7 @@ def faults_of_a_graph_in_parts(room):
                 os.remove(name)
             with open(f"{room}/examples/roads.gr", "w", encoding="utf-8") as it:
                 it.write("".join(f"{row}\n" for row in rows))
-            # with its part's name, and where the part is solved alone without it
+            # with the name of the part, and if the part is solved alone, without it
             wanted = [(cut, f"boruvka: part.{part}.gr: {told}\n"), (solved, f"boruvka: {told}\n")] if part else [(cut, f"{told}\n")]
             for command, line in wanted:
                 status, output = pasted(room, command)
@@ -571,8 +572,8 @@ def faults_of_a_graph_in_parts(room):
 
 @case
 def a_graph_in_parts_is_the_same_graph(room):
-    """Drawn graphs, one with line ends of two bytes, in parts of some lines and of one, beside the reference."""
-    for room in awk_rooms(room):
+    """Random graphs, one with CR LF, in parts of several lines and of one, compared with the reference."""
+    for room in awk_folders(room):
         recipe(room, "Parts of a large graph")
         for seed, size, end in [(91, 7, "\n"), (92, 40, "\r\n"), (93, 1, "\n")]:  # (the first has a count with a leading zero)
             draw = random.Random(seed)
@@ -585,8 +586,8 @@ def a_graph_in_parts_is_the_same_graph(room):
                 os.remove(name)
             wanted = forest_text(30, forest_of(30, arcs)).decode()
             if pasted(room, f"sh parts.sh drawn.gr {size} && boruvka --plain part.*.gr") != (0, wanted):
-                raise AssertionError(f"{size} lines a part: another forest")
-            # a name that awk or split would take for a word of theirs: the vertices aren't those of standard input
+                raise AssertionError(f"{size} lines per part: another forest")
+            # a name that awk or split would take for an argument of theirs: the vertices aren't those of standard input
             for name in ["n=5.gr", "-n.gr"]:
                 for part in glob.glob(f"{room}/part.*"):
                     os.remove(part)
@@ -594,10 +595,10 @@ def a_graph_in_parts_is_the_same_graph(room):
                 found = pasted(room, f"printf 'p sp 99 0\\n' | sh parts.sh {name} {size} && boruvka --plain part.*.gr")
                 if found != (0, wanted):
                     raise AssertionError(f"{name}: {found!r:.600}")
-            # what is there isn't joined to another file's parts
-            if pasted(room, f"sh parts.sh drawn.gr {size}") != (1, "part.aa.gr is there\n"):
-                raise AssertionError("parts were written beside others")
-        # split has 676 names of two letters; past them it fails, and nothing is joined
+            # files that are there already aren't joined with the parts of another file
+            if pasted(room, f"sh parts.sh drawn.gr {size}") != (1, "part.aa.gr exists already\n"):
+                raise AssertionError("parts were written next to others")
+        # split has 676 names of two letters; if it needs more, it fails, and nothing is joined
         for name in glob.glob(f"{room}/part.*"):
             os.remove(name)
         with open(f"{room}/drawn.gr", "w", encoding="utf-8") as it:
@@ -617,13 +618,13 @@ def the_examples_of_the_manual_page(room):
 
 
 def frame(kind, head, *numbers):
-    """A frame whose body has these two bytes first, or none, and then numbers of four bytes."""
+    """Returns a frame whose body has these two bytes first, or none, and then numbers of four bytes."""
     body = head + struct.pack(f">{len(numbers)}I", *(it % 2**32 for it in numbers))
     return struct.pack(">BI", kind, len(body)) + body
 
 
 def offers_of(links, labels):
-    """What a worker offers: for each component that a link leaves, in order, the first place of the least such link."""
+    """Returns a worker's offers: for each component that a link leaves, in order, the first index of the least such link."""
     least = {}
     for index in sorted(range(len(links)), key=lambda it: (links[it], it)):
         _, low, high = links[index]
@@ -634,7 +635,7 @@ def offers_of(links, labels):
 
 
 def session_of(n, links):
-    """The frames of a run over one worker and one shard, whose weights fit 32 bits, each with the end that sends it."""
+    """Yields the frames of a run over one worker and one shard, whose weights fit 32 bits, each with its sender."""
     yield "<", frame(1, bytes([0, 2]), 0)
     yield ">", frame(2, b"", 0, len(links), *(it for weight, low, high in links for it in (low, high, weight)))
     components, offers, number = Components(n), [None], 0
@@ -659,7 +660,7 @@ def the_session_of_the_protocol(_room):
         shape = re.match(r"([<>])((?: +(?:[0-9a-f]{8}|[0-9a-f]{4}|[0-9a-f]{2})\b)+)(?:   |$)", line)
         if not shape:
             raise AssertionError(f"no bytes are shown: {line}")
-        # a line that goes on with a frame is indented
+        # a line that continues a frame is indented
         if line[2] != " ":
             found.append([shape[1], b""])
         found[-1][1] += bytes.fromhex(shape[2])
@@ -670,7 +671,7 @@ def the_session_of_the_protocol(_room):
 
 @case
 def the_call_of_a_library_is_proved(room):
-    """README's crate, by its line of crates.txt, over what was built of the libraries that it stands on."""
+    """README's crate, with its line of crates.txt, over the built libraries that it depends on."""
     libraries()
     shape = r"with the line `(\w+): (\w+)` in `crates.txt`:\n\n```rust\n(.*?)^```$"
     name, library, code = re.search(shape, text_of("README.md"), re.M | re.S).groups()
@@ -692,7 +693,7 @@ def the_call_of_a_library_is_proved(room):
 
 @case
 def packed_files_that_are_broken(room):
-    """A pipe has the status of its last command: gzip tells of a wrong sum after the whole text has gone into it."""
+    """A pipe has the exit status of its last command, and gzip reports a wrong checksum only after the whole text."""
     packed = gzip.compress(b"p sp 2 1\na 1 2 17\n", 0)
     page = text_of("man/boruvka.1").replace("\\-", "-")
     for name, found in [("road.gr.gz", re.findall(r"`(gzip [^`]*)`", text_of("README.md"))), ("FILE.gz", re.findall(r"\\fB(gzip .*?)\\fR", page))]:
@@ -724,16 +725,16 @@ def the_manual_page_names_what_the_help_does(_room):
         expect(run(["groff", "-man", "-Tutf8", "-ww", "-z", f"{ROOT}/man/boruvka.1"]), 0, b"", b"")
 
 
-# the documents whose prose is looked at
+# the documents whose sentences are counted
 DOCUMENTS = ["README.md", "SECURITY.md", "CONTRIBUTING.md", "CHANGELOG.md", "man/boruvka.1", "python/README.md", "python/PARTS.md", "python/COMING_FROM.md"]
 DOCUMENTS += [f"docs/{name}.md" for name in ("ARCHITECTURE", "DECISIONS", "GR_FORMAT", "HEADLINE", "PERFORMANCE", "PROMISES", "PROTOCOL", "RECIPES")]
-# how many words a sentence may have
+# the most words of a sentence
 MOST_IN_A_SENTENCE = 30
 
 
 def prose_of(name):
-    """What a document tells: its text without fenced blocks, without the synopsis and the examples of the manual page,
-    and without the table in which docs/HEADLINE.md names definitions in place of quoting them."""
+    """Returns the prose of a document: its text without fenced blocks, without the synopsis and the examples of the manual
+    page, and without the table of docs/HEADLINE.md, which names definitions."""
     text = text_of(name)
     if name.endswith(".1"):
         return re.sub(r"^\.EX\n.*?^\.EE$|^\.SH SYNOPSIS\n.*?(?=^\.SH)", "", text, flags=re.M | re.S)
@@ -742,7 +743,7 @@ def prose_of(name):
 
 
 def thoughts(name):
-    """The paragraphs, bullets and cells of a document, each as one text."""
+    """Returns the paragraphs, bullets and cells of a document, each as one text."""
     macro = r"\.(SH|SS|PP|P|LP|TP|IP|RS|RE|EX|EE)\b" if name.endswith(".1") else None
     found, now = [], []
     for line in [*prose_of(name).splitlines(), ""]:
@@ -773,8 +774,8 @@ def the_sentences_are_short(_room):
 
 
 def ensured(path, text):
-    """The names of what functions ensure: of their clauses, and of the fields of records that are a clause without a name, also
-    by another name of such a record."""
+    """Returns the names of what functions ensure: of their clauses, and of the fields of a record, or of its abbreviation,
+    that is a clause without a name."""
     names, specs = set(re.findall(r"ensures (\w+) ", text)), f"{ROOT}/{path.partition('/src/')[0]}/specs"
     records = set(re.findall(r"ensures \{ ([A-Z]\w+)", text))
     texts = [text_of(f"{os.path.relpath(specs, ROOT)}/{name}") for name in os.listdir(specs)] if records else []
@@ -787,8 +788,8 @@ def ensured(path, text):
 
 
 @case
-def the_promises_name_what_stands(_room):
-    """Each function, definition and clause that docs/PROMISES.md names stands in the file that it links."""
+def the_promises_name_what_is_there(_room):
+    """Each function, definition and clause that docs/PROMISES.md names is in the file that it links."""
     missed, count = [], 0
     for row in re.findall(r"^\| .* \| (\[.*) \|$", text_of("docs/PROMISES.md"), re.M):
         for name, path, clauses in re.findall(r"\[`([^`]+)`\]\(\.\./([^)]+)\)(: `[^\[;]*`)?", row):
@@ -805,9 +806,9 @@ def the_promises_name_what_stands(_room):
 
 
 @case
-def the_map_names_what_stands(_room):
-    """docs/ARCHITECTURE.md names each crate, and lists those of the product after all that they stand on. Each module that
-    its table names stands in the crate that is named before it, each statement in the file of specs/ before it."""
+def the_map_names_what_is_there(_room):
+    """docs/ARCHITECTURE.md names each crate, and lists those of the product after all that they depend on. Each module that
+    its table names is in the crate named before it, and each statement in the file of specs/ named before it."""
     text, lines = text_of("docs/ARCHITECTURE.md"), crate_lines()
     section = text.split("\n## Crates\n")[1].split("\n## ")[0]
     listed = re.findall(r"^- `(\w+)`: ", section, re.M)
@@ -829,7 +830,7 @@ def the_map_names_what_stands(_room):
         text = text_of(name) if os.path.isfile(f"{ROOT}/{name}") else ""
         missed += [f"{name} has no {it}" for it in its if not re.search(rf"^(abbrev pub|unfoldable pub|pub record|pub data) {it}\b", text, re.M)]
         count += len(its)
-    # a row whose change is in no statement says so
+    # a row whose change needs no statement says `none`
     missed += [f"no statement is named: {subject}" for subject, _, cell in table[1:] if cell != "none" and "`: `" not in cell]
     if missed or count < 120:
         raise AssertionError(f"{count} were looked at\n    " + "\n    ".join(missed))

@@ -1,21 +1,21 @@
-/* Calls the built library, and compares what it does with a forest by Kruskal's algorithm over qsort.
+/* Calls the built library, and compares its results with a forest by Kruskal's algorithm over qsort.
  *
- *     embedding list            links on standard input, as `n m` and then m times `low high weight`: their forest's text
- *     embedding text ROOM       a .gr text on standard input: so much of its forest's text as ROOM bytes have room for,
- *                               and to standard error `answer kind line` and the text of the kind
- *     embedding places BASE     the same list as arcs whose vertices are numbered from BASE on: the places of the forest
- *     embedding limits          empty lists, null pointers to no elements, loops alone, each error of links, the largest n,
- *                               rooms of all sizes
+ *     embedding list            links on standard input, as `n m` and then m times `low high weight`: prints the forest's text
+ *     embedding text ROOM       a .gr text on standard input: prints what fits ROOM bytes of its forest's text, and to standard
+ *                               error `result kind line` and the text of the kind
+ *     embedding places BASE     the same list as arcs with vertices numbered from BASE on: prints the forest's indices
+ *     embedding limits          empty lists, null pointers to no elements, only loops, each error of links, the largest n,
+ *                               buffers of all sizes
  *     embedding inlines         what the header itself defines: outputs that overlap inputs, keys of doubles
- *     embedding threads         four threads at once, each over lists of its own
- *     embedding stack           each call by a thread that has 128 KiB of stack in all
+ *     embedding threads         four threads at once, each with lists of its own
+ *     embedding stack           each call in a thread with a stack of 128 KiB
  *     embedding many            ten million links
- *     embedding memory          a list and a text; where memory is refused, it says so and looks that nothing changed
- *     embedding again           each call 10,000 times with each of its ends, after which the process holds no more
- *                               memory than after the first hundred
- *     embedding bytes           lists of two sizes, each call with no more memory than its documentation names
+ *     embedding memory          a list and a text; if memory runs out, it reports that and checks that nothing changed
+ *     embedding again           each call 10,000 times with each of its outcomes, after which the process has no more memory
+ *                               than after the first hundred
+ *     embedding bytes           lists of two sizes, each call with no more memory than its documentation states
  *
- * A wrong answer ends it by status 1, and says what was wrong. */
+ * If a result is wrong, the program says what was wrong and exits with status 1. */
 #define _GNU_SOURCE
 #include <boruvka.h>
 #include <fcntl.h>
@@ -32,18 +32,18 @@
 
 #define CHECK(holds) ((holds) ? (void)0 : wrong(#holds, __LINE__))
 
-/* A small net and its forest, as a text and as links. */
+/* A small network and its forest, as a text and as links. */
 static const char given_text[] = "p sp 6 8\na 1 2 17\na 1 3 10\na 2 4 2\na 3 5 0\na 4 3 0\na 4 6 3\na 5 2 0\na 5 6 20\n";
 static const char found_text[] = "p sp 6 5\na 2 5 0\na 3 4 0\na 3 5 0\na 4 6 3\na 1 3 10\n";
 static const struct boruvka_link net[] = {{17, 1, 2}, {10, 1, 3}, {2, 2, 4}, {0, 3, 5}, {0, 4, 3}, {3, 4, 6}, {0, 5, 2}, {20, 5, 6}};
 static const struct boruvka_link forest[] = {{0, 2, 5}, {0, 3, 4}, {0, 3, 5}, {3, 4, 6}, {10, 1, 3}};
 
-/* The net's arcs as columns whose vertices are 0 to 5, and the places of its forest, with what is behind them. */
+/* The network's arcs as columns with vertices 0 to 5, and the indices of its forest, with what comes after them. */
 static const uint32_t tails[] = {0, 0, 1, 2, 3, 3, 4, 4}, heads[] = {1, 2, 3, 4, 2, 5, 1, 5};
 static const int64_t weights[] = {17, 10, 2, 0, 0, 3, 0, 20};
 static const uint32_t forest_places[] = {6, 4, 3, 5, 1, 9, 9, 9}, no_places[] = {9, 9, 9, 9, 9, 9, 9, 9};
 
-/* Links between the most vertices that there may be, whose higher ends don't ascend: a table of all vertices is wanted. */
+/* Links between as many vertices as allowed. Their higher endpoints don't ascend, so the call needs a table of all vertices. */
 static const struct boruvka_link wide[] = {{INT64_MAX, BORUVKA_MAX_VERTICES, 1}, {INT64_MIN, 1, BORUVKA_MAX_VERTICES}, {0, 2, BORUVKA_MAX_VERTICES}};
 static const char wide_text[] = "p sp 67108864 3\na 67108864 1 9\na 1 67108864 -9\na 2 67108864 0\n";
 
@@ -117,7 +117,7 @@ static uint64_t drawn(uint64_t *seed) {
     return *seed;
 }
 
-/* Links between drawn vertices, loops and repeats among them, in the width of weights that is asked for. */
+/* Random links with loops and repeats, with weights of the given width. */
 static struct boruvka_link *draw(uint64_t seed, uint32_t n, size_t m, uint64_t weights) {
     struct boruvka_link *links = taken(m, sizeof *links);
     for (size_t i = 0; i < m; i++) {
@@ -128,7 +128,7 @@ static struct boruvka_link *draw(uint64_t seed, uint32_t n, size_t m, uint64_t w
     return links;
 }
 
-/* The forest of a drawn list, beside that by Kruskal's algorithm; what isn't the forest's stays as it was. */
+/* Compares the forest of a random list with that by Kruskal's algorithm. The other elements stay unchanged. */
 static void compare(uint64_t seed, uint32_t n, size_t m, uint64_t weights) {
     struct boruvka_link *given = draw(seed, n, m, weights), *links = taken(m, sizeof *links);
     memcpy(links, given, m * sizeof *links);
@@ -142,7 +142,7 @@ static void compare(uint64_t seed, uint32_t n, size_t m, uint64_t weights) {
     free(first);
 }
 
-/* The arcs of links in columns, their vertices from `base` on; what is behind them in `places` stays as it was. */
+/* The links in columns, with vertices from `base` on. The elements of `places` after the indices stay unchanged. */
 struct columns {
     uint32_t *u, *v, *places;
     int64_t *w;
@@ -171,7 +171,7 @@ static void free_columns(struct columns of) {
     free(of.places);
 }
 
-/* The columns say what they said before. */
+/* The columns are unchanged. */
 static int are_those_of(const struct columns *of, const struct boruvka_link *given, size_t m, uint32_t base) {
     for (size_t i = 0; i < m; i++) {
         if (of->u[i] != given[i].low - 1 + base || of->v[i] != given[i].high - 1 + base || of->w[i] != given[i].weight) {
@@ -181,7 +181,7 @@ static int are_those_of(const struct columns *of, const struct boruvka_link *giv
     return 1;
 }
 
-/* A link with the place of its arc. */
+/* A link with the index of its arc. */
 struct placed {
     struct boruvka_link link;
     uint32_t place;
@@ -193,7 +193,7 @@ static int by_key_and_place(const void *one, const void *other) {
     return keys ? keys : (a->place > b->place) - (a->place < b->place);
 }
 
-/* The first of sorted links that is this one. */
+/* The first of the sorted links that equals this one. */
 static const struct placed *first_of(const struct placed *all, size_t m, const struct boruvka_link *link) {
     size_t from = 0, to = m;
     while (from < to) {
@@ -207,7 +207,7 @@ static const struct placed *first_of(const struct placed *all, size_t m, const s
     return from < m && !by_key(&all[from].link, link) ? all + from : 0;
 }
 
-/* The places of a list's forest, beside those that sorting finds; the columns and what is behind stay. It frees the list. */
+/* Compares the indices of a list's forest with those that sorting finds. Columns and later elements stay. Frees the list. */
 static void compare_places_of(struct boruvka_link *given, uint32_t n, size_t m, uint32_t base) {
     struct columns of = columns_of(given, m, base);
     size_t count;
@@ -247,9 +247,9 @@ static void compare_places(uint64_t seed, uint32_t n, size_t m, uint64_t weights
     compare_places_of(draw(seed, n, m, weights), n, m, base);
 }
 
-/* Lists that somebody may choose: stars round the first and the last vertex, a path, one arc again and again, either way
- * round, and ends and weights that are multiples of large powers of two. Each has all its arcs once, in a drawn order, and
- * then all of them again the other way round, with loops between. */
+/* Lists that an attacker may choose: stars around the first and the last vertex, a path, one arc again and again in both
+ * directions, and endpoints and weights that are multiples of large powers of two. Each has all its arcs once in random order,
+ * and then all of them reversed, with loops in between. */
 static void chosen_places(size_t arcs, int equal) {
     enum { FIRST, LAST, PATH, ONE, POWERS, SHAPES };
     for (int shape = FIRST; shape < SHAPES; shape++) {
@@ -278,13 +278,13 @@ static void chosen_places(size_t arcs, int equal) {
     }
 }
 
-/* So many bytes, of which no page is ever touched; or none. */
+/* So many bytes, whose pages are never touched, or null. */
 static void *unread(size_t bytes) {
     void *block = mmap(0, bytes, PROT_READ | PROT_WRITE, MAP_PRIVATE | MAP_ANONYMOUS | MAP_NORESERVE, -1, 0);
     return block == MAP_FAILED ? 0 : block;
 }
 
-/* One link more than there may be; or none. */
+/* One link more than allowed, or null. */
 static struct boruvka_link *too_many(void) {
     return unread((BORUVKA_MAX_LINKS + (size_t)1) * sizeof net[0]);
 }
@@ -308,12 +308,12 @@ static void limits_of_places(void) {
     expect_places_refused(0, 7, u, v, 4, BORUVKA_BAD_END);
     expect_places_refused(BORUVKA_MAX_VERTICES + 1, 8, u, v, 4, BORUVKA_TOO_MANY_VERTICES);
     expect_places_refused(UINT32_MAX, 0, u, v, 4, BORUVKA_TOO_MANY_VERTICES);
-    /* vertices whose last numbers are past those of 32 bits: none of them is 0 */
+    /* the last vertices don't fit 32 bits, and don't wrap around to 0 */
     const uint32_t first[] = {UINT32_MAX, UINT32_MAX - 1}, wrapped[] = {0, UINT32_MAX};
     expect_places_refused(3, UINT32_MAX - 1, first, wrapped, 2, BORUVKA_BAD_END);
     expect_places_refused(BORUVKA_MAX_VERTICES, UINT32_MAX - 1, wrapped, first, 2, BORUVKA_BAD_END);
     CHECK(boruvka_places(3, UINT32_MAX - 1, first + 1, wrapped + 1, w, 1, places) == 1 && places[0] == 0);
-    /* one column serves as all three: it is only read */
+    /* one column as all three, since it is only read */
     const void *column = unread((BORUVKA_MAX_LINKS + (size_t)1) * sizeof *w);
     if (column) {
         const size_t m = (size_t)BORUVKA_MAX_LINKS + 1;
@@ -336,7 +336,7 @@ static void limits_of_places(void) {
     }
 }
 
-/* The least vertex of each vertex's component, by going from each link's higher root to its lower one. */
+/* The least vertex of each vertex's component, by linking each higher root to the lower one. */
 static uint32_t *least_vertices(uint32_t n, const struct boruvka_link *links, size_t k) {
     uint32_t *parents = taken((size_t)n + 1, sizeof *parents);
     for (uint32_t v = 0; v <= n; v++) {
@@ -362,8 +362,8 @@ static void expect_cycle(uint32_t n, const struct boruvka_link *links, size_t k,
     }
 }
 
-/* The labels by parts of a drawn list's forest, in a drawn order and with ends turned, beside those of union-find; and of
- * all of it with one link more. */
+/* Compares the labels by parts of a random list's forest, in random order and with endpoints exchanged, with those of
+ * union-find. Adding one link to the whole forest is an error. */
 static void compare_labels(uint64_t seed, uint32_t n, size_t m, uint64_t weights) {
     struct boruvka_link *given = draw(seed, n, m, weights);
     size_t count;
@@ -402,7 +402,7 @@ static void compare_labels(uint64_t seed, uint32_t n, size_t m, uint64_t weights
     free(links);
 }
 
-/* The merges by union-find, whose roots know their clusters' numbers and sizes. */
+/* The merges by union-find, whose roots have their clusters' numbers and sizes. */
 static struct boruvka_merge *merges_of(uint32_t n, const struct boruvka_link *links, size_t k) {
     uint32_t *parents = taken((size_t)n + 1, sizeof *parents), *number = taken((size_t)n + 1, sizeof *number);
     uint32_t *size = taken((size_t)n + 1, sizeof *size);
@@ -452,8 +452,8 @@ static void expect_merges(uint32_t n, const struct boruvka_link *links, size_t k
     free(wanted);
 }
 
-/* The merges of a drawn list's forest, with ends turned and links of equal weight exchanged, beside those of union-find; of
- * its first half; and none with one link more, or with the lightest link last. */
+/* Compares the merges of a random list's forest, with endpoints and links of equal weight exchanged, with those of union-find;
+ * also of its first half. One link more, or the lightest link at the end, is an error. */
 static void compare_merges(uint64_t seed, uint32_t n, size_t m, uint64_t weights) {
     struct boruvka_link *given = draw(seed, n, m, weights);
     size_t count;
@@ -537,7 +537,7 @@ static void limits_of_labels(void) {
         CHECK(boruvka_labels(BORUVKA_MAX_VERTICES + 1, many, (size_t)BORUVKA_MAX_LINKS + 1, wide_label) == BORUVKA_TOO_MANY_VERTICES);
         CHECK(boruvka_labels(3, many, (size_t)BORUVKA_MAX_LINKS + 1, label) == BORUVKA_TOO_MANY_LINKS && label[0] == untouched);
     }
-    /* of one weight or of two, a triangle and a pair of links between the same vertices are cycles */
+    /* a triangle and two links between the same vertices are cycles, with equal weights or not */
     const struct boruvka_link triangle[] = {{1, 1, 2}, {1, 2, 3}, {1, 3, 1}}, pair[] = {{1, 1, 2}, {2, 2, 1}}, same[] = {{1, 1, 2}, {5, 3, 2}, {1, 2, 1}}, loop[] = {{1, 3, 3}};
     expect_cycle(3, triangle, 3, label);
     expect_cycle(3, pair, 2, label);
@@ -549,7 +549,7 @@ static void limits_of_labels(void) {
     }
 }
 
-/* The sum of the weights of links, beside that in words of 32 bits each. */
+/* Compares the sum of weights with one that is computed in parts of 32 bits. */
 static void compare_total(const struct boruvka_link *links, size_t k) {
     int64_t high = 0, low = 0;
     for (size_t i = 0; i < k; i++) {
@@ -588,7 +588,7 @@ static void limits_of_total(void) {
     free(many);
 }
 
-/* The first bad link of a drawn list, and the first bad number of its columns, beside those found by hand. */
+/* Compares the first bad link of a random list, and the first bad endpoint of its columns, with those of a plain search. */
 static void compare_bad_ends(uint64_t seed, uint32_t n, size_t m) {
     struct boruvka_link *given = draw(seed, n, m, 9);
     struct columns of = columns_of(given, m, (uint32_t)seed);
@@ -614,7 +614,7 @@ static void limits_of_ends(void) {
     const uint32_t column[] = {7, 9, 8, 10, 6, UINT32_MAX, 0};
     CHECK(boruvka_bad_end(3, 7, column, 3) == 3 && boruvka_bad_end(3, 7, column, 7) == 3 && boruvka_bad_end(4, 7, column, 7) == 4);
     CHECK(boruvka_bad_end(3, 8, column, 7) == 0 && boruvka_bad_end(0, 7, column, 7) == 0 && boruvka_bad_end(0, 7, column, 0) == 0);
-    /* numbers past 32 bits don't begin at 0 again */
+    /* numbers beyond 32 bits don't wrap around to 0 */
     CHECK(boruvka_bad_end(9, UINT32_MAX, column + 5, 2) == 1 && boruvka_bad_end(UINT32_MAX, 1, column, 7) == 6);
     for (uint64_t seed = 1; seed <= 60; seed++) {
         compare_bad_ends(seed, 1 + (uint32_t)seed % 9, seed * 7 % 100);
@@ -622,7 +622,7 @@ static void limits_of_ends(void) {
     compare_bad_ends(5, 1000, 1000000);
 }
 
-/* As Go, C# and Java have them for arrays of no elements. */
+/* Such pointers as Go, C# and Java have for empty arrays. */
 static void null_pointers(void) {
     uint32_t label[3] = {untouched, untouched, untouched};
     struct boruvka_sum total = {1, 1};
@@ -642,7 +642,7 @@ static void null_pointers(void) {
     CHECK(boruvka_fault_text(BORUVKA_NO_MEMORY, 0, 0) == 9);
 }
 
-/* An output in an input's memory is an error, and nothing is written; one that begins where an input ends is none. */
+/* An output that overlaps an input is an error, and nothing is written. One that begins where an input ends is allowed. */
 static void overlaps(void) {
     enum { ARCS = 4 };
     union {
@@ -670,14 +670,14 @@ static void overlaps(void) {
         CHECK((boruvka_places(5, 1, u, v, at.weights + ARCS, ARCS, places) == BORUVKA_OVERLAP) == of_weights);
         at = before;
     }
-    /* of five vertices four places are written, of two one, and of none none */
+    /* for five vertices four indices are written, for two one, and for none none */
     CHECK(boruvka_places(2, 1, u, v, w, ARCS, u + 3) == BORUVKA_OVERLAP && boruvka_places(0, 1, u, v, w, ARCS, u) == BORUVKA_BAD_END);
     CHECK(boruvka_places(3, 1, u, v, w, 0, u) == 0);
     for (size_t i = 0; i < ARCS; i++) {
         at.links[i] = (struct boruvka_link){.weight = (int64_t)i, .low = (uint32_t)i + 1, .high = (uint32_t)i + 2};
     }
     before = at;
-    /* four links have sixteen words, five labels five of them */
+    /* four links have sixteen numbers of 32 bits, and five labels have five */
     uint32_t *const words = at.columns;
     CHECK(boruvka_labels(5, at.links, ARCS, words) == BORUVKA_OVERLAP && boruvka_labels(5, at.links, ARCS, words + 15) == BORUVKA_OVERLAP);
     CHECK(boruvka_labels(5, at.links + 1, 3, words) == BORUVKA_OVERLAP && !memcmp(&at, &before, sizeof at));
@@ -704,12 +704,12 @@ static uint64_t bits_of(double weight) {
 /* The bits of infinity, and of a sign. */
 static const uint64_t infinite = (uint64_t)0x7ff << 52, sign = (uint64_t)1 << 63;
 
-/* (isnan may be taken away by a compiler's options) */
+/* (a compiler's options may remove isnan) */
 static int is_number(uint64_t bits) {
     return (bits & ~sign) <= infinite;
 }
 
-/* Keys have the order of the doubles, and a key's double is that of the key; what isn't a number has no other key. */
+/* Keys are ordered as their doubles are, and a key gives its double back. Every NaN has the same key. */
 static void keys(void) {
     const double ascending[] = {-double_of(infinite), -DBL_MAX, -1.5, -1.0, -DBL_MIN, -DBL_MIN / 2, 0.0, DBL_MIN / 2, DBL_MIN, 0.1, 1.0, 1.0 + DBL_EPSILON, DBL_MAX, double_of(infinite)};
     const size_t count = sizeof ascending / sizeof *ascending;
@@ -720,7 +720,7 @@ static void keys(void) {
     CHECK(boruvka_key(0.0) == 0 && boruvka_key(double_of(sign)) == 0 && bits_of(boruvka_weight(0)) == 0);
     CHECK(boruvka_key(double_of(1)) == 1 && boruvka_key(double_of(sign | 1)) == -1);
     CHECK(boruvka_key(double_of(infinite)) < INT64_MAX && boruvka_key(double_of(sign | infinite)) > BORUVKA_NAN);
-    /* the greatest and the least of those that aren't numbers, of either sign, and the usual one */
+    /* the greatest and the least NaN of each sign, and the usual one */
     const uint64_t none[] = {infinite + 1, sign - 1, infinite | (uint64_t)1 << 51, sign | (infinite + 1), UINT64_MAX};
     for (size_t i = 0; i < sizeof none / sizeof *none; i++) {
         CHECK(boruvka_key(double_of(none[i])) == BORUVKA_NAN);
@@ -816,7 +816,7 @@ static void threads(void) {
     }
 }
 
-/* Calls of more than a few links and lines; the system ends the process if the stack is too small. */
+/* Calls with more than a few links and lines. The system ends the process if the stack is too small. */
 static void *with_little_stack(void *_) {
     static const int64_t kinds[] = {BORUVKA_BAD_END, 0};
     static char line[64];
@@ -830,7 +830,7 @@ static void *with_little_stack(void *_) {
         length += (size_t)sprintf((char *)text + length, "a %d %d %d\n", v, v + 1, v);
     }
     struct boruvka_fault fault = {1, 1};
-    /* (each lower end comes first, and the weights ascend: the forest's text is the file's) */
+    /* (each lower endpoint comes first, and the weights ascend, so the forest has the text of the file) */
     CHECK(boruvka_forest_text(text, length, into, length, &fault) == (int64_t)length && !memcmp(into, text, length));
     /* the last arc without its weight */
     CHECK(boruvka_forest_text(text, length - 6, into, length, &fault) == BORUVKA_BAD_ARC);
@@ -916,7 +916,7 @@ static void text(size_t room) {
     free(into);
 }
 
-/* Takes no memory itself. */
+/* Allocates no memory itself. */
 static void memory(void) {
     struct boruvka_link links[8];
     memcpy(links, net, sizeof net);
@@ -942,8 +942,8 @@ static void memory(void) {
     fputs(count < 0 || length < 0 || placed < 0 || labelled < 0 ? some : all, stdout);
 }
 
-/* The memory that the process holds now, in KiB, without the pages of files: these come and go by themselves. The kernel
- * counts the pages for this; its other figures may be out of date. */
+/* The memory of the process in KiB, without the pages of files, which come and go by themselves. The kernel counts the pages for
+ * this figure; its other figures may be out of date. */
 static long held(void) {
     static char told[1 << 12];
     const int file = open("/proc/self/smaps_rollup", O_RDONLY);
@@ -955,7 +955,7 @@ static long held(void) {
     return strtol(at + sizeof "\nAnonymous:" - 1, 0, 10);
 }
 
-/* Calls it 100 times and then 10,000 times, which take no more memory. */
+/* Calls it 100 times, and then 10,000 times, after which the process has no more memory. */
 static void repeat(const char *what, void (*once)(void)) {
     for (int i = 0; i < 100; i++) {
         once();
@@ -979,7 +979,7 @@ static void a_small_list(void) {
     CHECK(boruvka_forest(6, links, 8) == 5 && are_same(links, forest, 5) && are_same(links + 5, net + 5, 3));
 }
 
-/* What is made once, before the calls that are repeated: a list, its forest, and more links than there may be. */
+/* Made once, before the repeated calls: a list, its forest, and more links than allowed. */
 static struct boruvka_link *drawn_links, *drawn_forest, *many_links;
 static size_t drawn_count;
 enum { DRAWN_VERTICES = 300, DRAWN_LINKS = 1000 };
@@ -1057,7 +1057,7 @@ static void expect_fault(const char *given, int64_t kind, uint64_t line) {
     CHECK(fault.kind == kind && fault.line == line && into[0] == 0);
 }
 
-/* Each fault of a line, most of them after links that were taken. */
+/* Each error of a line, most of them after valid links. */
 static void faulty_texts(void) {
     expect_fault("p sp 3 2\na 1 2 5\nx\n", BORUVKA_UNKNOWN_LINE, 3);
     expect_fault("c\na 1 2 5\n", BORUVKA_NO_PROBLEM_YET, 2);
@@ -1095,7 +1095,7 @@ static void bad_ends(void) {
     CHECK(boruvka_bad_end(5, 0, heads, 8) == 5 && boruvka_bad_end(6, 0, heads, 8) == 8);
 }
 
-/* Each call with each of its ends, but a text of more than 2^40 bytes, which can't be had. */
+/* Each call with each of its outcomes, except a text of more than 2^40 bytes, which would be too large. */
 static void again(void) {
     drawn_links = draw(7, DRAWN_VERTICES, DRAWN_LINKS, 50);
     drawn_forest = kruskal(DRAWN_VERTICES, drawn_links, DRAWN_LINKS, &drawn_count);
@@ -1118,7 +1118,7 @@ static void again(void) {
     REPEAT(no_refusals_text);
     REPEAT(the_version);
     REPEAT(bad_ends);
-    /* with so little a table of the most vertices is refused, which is asked for after memory for the links */
+    /* so little memory isn't enough for a table of the most vertices, which is allocated after the links */
     const struct rlimit few = {64 << 20, 64 << 20};
     CHECK(!setrlimit(RLIMIT_AS, &few));
     REPEAT(a_list_without_memory);
@@ -1128,7 +1128,7 @@ static void again(void) {
     free(drawn_forest);
 }
 
-/* From now on the process may have so many bytes more than it has, and a quarter of a megabyte for how malloc rounds. */
+/* Limits the process to so many bytes more than it has now, plus a quarter of a megabyte for malloc's rounding. */
 static void leave(size_t bytes) {
     unsigned long pages = 0;
     FILE *file = fopen("/proc/self/statm", "r");
@@ -1137,7 +1137,7 @@ static void leave(size_t bytes) {
     CHECK(!setrlimit(RLIMIT_AS, &space));
 }
 
-/* 16 bytes a link for the list that a call works in, 13 beside it, and 12 a vertex. What is freed goes back at once. */
+/* A call needs 16 bytes per link for its list, 13 more per link, and 12 per vertex. Freed memory is returned at once. */
 static void bytes(void) {
     const struct rlimit any = {RLIM_INFINITY, RLIM_INFINITY};
     CHECK(mallopt(M_MMAP_THRESHOLD, 1 << 17));

@@ -1,5 +1,5 @@
-/* Calls the built library by boruvka.hpp, with exceptions or, with BORUVKA_EXPECTED, without: a small net, empty spans whose
- * pointers are null, and refusals. A wrong answer ends it by status 1, and says what was wrong. */
+/* Calls the built library through boruvka.hpp, with exceptions or, with BORUVKA_EXPECTED, without: a small network, empty spans
+ * with null pointers, and errors. If a result is wrong, the program says what was wrong and exits with status 1. */
 #include <boruvka.hpp>
 #include <cstdio>
 #include <cstdlib>
@@ -14,7 +14,7 @@ static void wrong(const char *what, int line) {
 
 using numbers = std::vector<std::uint32_t>;
 
-/* Whether the call is refused so. */
+/* Whether the call has this error. */
 template <class Call> static bool is_refused(std::int64_t why, std::string_view text, Call call) {
 #ifdef BORUVKA_EXPECTED
     const auto answer = call();
@@ -57,7 +57,7 @@ int main() {
     CHECK(is_refused(BORUVKA_CYCLE, "links contain a cycle", [&] { return boruvka::labels(6, given); }));
     CHECK(is_refused(BORUVKA_TOO_MANY_VERTICES, "too many vertices", [&] { return boruvka::labels(BORUVKA_MAX_VERTICES + 1, given); }));
     CHECK(is_refused(BORUVKA_BAD_END, "an endpoint isn't a vertex", [&] { return boruvka::forest(5, net); }));
-    /* numbers that 32 bits would make 6 vertices, or 1 for the first, and a negative one */
+    /* numbers that would be 6 vertices in 32 bits, or a first vertex of 1, and a negative one */
     for (const long long past : {0x100000000LL, -0x100000000LL}) {
         CHECK(is_refused(BORUVKA_TOO_MANY_VERTICES, "too many vertices", [&] { return boruvka::forest(past + 6, net); }));
         CHECK(is_refused(BORUVKA_TOO_MANY_VERTICES, "too many vertices", [&] { return boruvka::places(past + 6, 1, u, v, w); }));

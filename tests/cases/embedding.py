@@ -1,5 +1,5 @@
-"""The built libraries: their names, the examples of examples/embed, and tests/cases/embedding.c over them, whose lists and
-texts are compared with the program's answers and with the forests that are computed here."""
+"""The built libraries: their symbols, the examples of examples/embed, and tests/cases/embedding.c. The lists and texts that it
+gets are compared with the program's output and with forests that are computed here."""
 import os
 import re
 import shutil
@@ -12,16 +12,16 @@ LIBRARIES = f"{ROOT}/crates/boruvka_c/out"
 INCLUDE = f"-I{ROOT}/include"
 NAMES = {"boruvka_bad_end", "boruvka_bad_link", "boruvka_fault_text", "boruvka_forest", "boruvka_forest_text", "boruvka_labels_in",
          "boruvka_merges_in", "boruvka_places_in", "boruvka_release", "boruvka_total", "boruvka_version"}
-MINUTES = 90  # it took 19 where nothing had been built before
+MINUTES = 90  # it took 19 when nothing had been built before
 ENVIRONMENT = {it: word for it, word in os.environ.items() if it not in ("MAKEFLAGS", "MAKELEVEL", "MFLAGS", "DESTDIR")}
-# What is wrong with each of these texts, by the names of docs/GR_FORMAT.md, and where.
+# The error of each of these texts, by its name in docs/GR_FORMAT.md, and its line.
 FAULTY = [
     (b"x\n", "UnknownLine", 1), (b"c\na 1 2 3\n", "NoProblemYet", 2), (b"p sp 2 0\np sp 2 0\n", "SecondProblem", 2),
     (b"p sp two 0\n", "BadProblem", 1), (b"p sp 67108865 0\n", "TooLarge", 1), (b"p sp 2 1\na 1 2\n", "BadArc", 2),
     (b"p sp 2 1\na 1 3 1\n", "EndOutOfRange", 2), (b"p sp 2 1\na 1 2 9223372036854775808\n", "WeightOutOfRange", 2),
     (b"p sp 2 0\na 1 2 3\n", "TooManyArcs", 2), (b"", "MissingProblem", 1), (b"p sp 2 1\n", "MissingArcs", 2),
 ]
-# Each refusal, from the code -1 on: its name in include/boruvka.h, and its text. Those of a line are FAULTY's.
+# Each error, from the code -1 on: its name in include/boruvka.h, and its text. Those of a line are FAULTY's.
 REFUSALS = [
     ("NO_MEMORY", "no memory"), ("BAD_END", "an endpoint isn't a vertex"), ("TOO_MANY_VERTICES", "too many vertices"),
     ("TOO_MANY_LINKS", "too many links"), ("TOO_LONG", "the text is too long"),
@@ -33,7 +33,7 @@ NO_CODE = "not an error code"
 # A line for each number from -22 to 3, and its text.
 TEXTS = "".join(f"{-code} {REFUSALS[code - 1][1] if 0 < code <= len(REFUSALS) else NO_CODE}\n" for code in range(22, -4, -1)).encode()
 
-# Two files of one program, which ask boruvka.hpp for the same in both of its ways.
+# Two files of one program, which use boruvka.hpp in both of its modes.
 KINDS = {
     "thrown": b"""#include <boruvka.hpp>
 #include <cstdio>
@@ -73,16 +73,16 @@ def compiler():
 
 
 def libraries():
-    """Builds the libraries, where they aren't built, and answers their paths."""
+    """Builds the libraries if they aren't built, and returns their paths."""
     status, said, told = run(["make", "-s", "-C", ROOT, "lib"], env=ENVIRONMENT, seconds=60 * MINUTES)
-    # where they are built which crate is under way goes to standard error
+    # if they are built here, the progress goes to standard error
     built = b"built crates/boruvka_c/out/libboruvka.a, crates/boruvka_c/out/libboruvka.so and crates/boruvka_within/out/libboruvka_within.a\n"
     expect((status, said, told if status else b""), 0, built, b"")
     return f"{LIBRARIES}/libboruvka.a", f"{LIBRARIES}/libboruvka.so"
 
 
 def caller(room):
-    """The program of tests/cases/embedding.c; built once."""
+    """Returns the program of tests/cases/embedding.c, which is built once."""
     made = f"{room}/../embedding"
     if not os.path.exists(made):
         words = [compiler(), "-O1", "-Wall", "-Wextra", "-Werror", INCLUDE, "-o", made, f"{ROOT}/tests/cases/embedding.c", libraries()[0], "-lpthread"]
@@ -91,7 +91,7 @@ def caller(room):
 
 
 def listed(source):
-    """The arcs of a text as the caller reads a list of links."""
+    """Returns the arcs of a text in the form in which tests/cases/embedding.c reads a list of links."""
     lines = [it.split() for it in source.decode().splitlines()]
     arcs = [it[1:] for it in lines if it and it[0] == "a"]
     vertices = next(it[2] for it in lines if it and it[0] == "p")
@@ -99,7 +99,7 @@ def listed(source):
 
 
 def worked():
-    """The worked graphs: how many vertices, the arcs and the links of the forest of each, made by hand."""
+    """Returns the worked graphs, made by hand: the number of vertices, the arcs, and the links of the forest of each."""
     with open(f"{ROOT}/crates/worked_graphs/src/lib.rt", encoding="utf-8") as it:
         told = re.findall(r": Worked = Worked \{\n    n: ([\d_]+),(.*?)\n\};", it.read(), re.DOTALL)
     rows = [[re.findall(r"\(([\d_]+), ([\d_]+), (-?[\d_]+|i64::M\w+)\)", part) for part in re.split("\n    forest: ", text)] for _, text in told]
@@ -109,20 +109,20 @@ def worked():
 
 
 def expect_text(room, source, forest):
-    """The forest's text in rooms of several sizes, of which none is passed."""
+    """The forest's text fits buffers of several sizes, and no byte after them is written."""
     for size in {0, 1, len(forest) - 1, len(forest), len(forest) + 9}:
         expect(run([caller(room), "text", str(size)], source), 0, forest[:size], f"{len(forest)} 0 0 {NO_CODE}\n".encode())
 
 
 @case
-def the_libraries_have_just_their_names(room):
+def the_libraries_export_only_their_names(room):
     archive, shared = libraries()
     if shutil.which("nm"):
         found = subprocess.run(["nm", "-D", "--defined-only", shared], check=True, capture_output=True, text=True).stdout
         expect((set(re.findall(r" [A-Z] (\S+)", found)), b"", b""), NAMES, b"", b"")
         found = subprocess.run(["nm", "--defined-only", archive], check=True, capture_output=True, text=True).stdout
         expect((set(re.findall(r" [A-Z] (\S+)", found)), b"", b""), NAMES, b"", b"")
-    # names that the toolchain gives its own code are free for a program, which may be made by it too
+    # a program may define the names that the toolchain uses for its own code, since it may be built by it too
     source = b"""#include <boruvka.h>
 #include <stdlib.h>
 void *rattle_alloc(void) { abort(); }
@@ -178,7 +178,7 @@ for n, links in [
 
 @case
 def buffers_of_other_layouts(_room):
-    """The example of Python refuses what isn't links of whole weights, and a number of vertices past 32 bits."""
+    """The Python example rejects what isn't links with whole weights, and a number of vertices beyond 32 bits."""
     wanted = ["[(10, 1, 2)]"] * 2 + ["4294967298 vertices", "-1 vertices", "links of the layout q, of 24 bytes", "links of the layout d, of 32 bytes"]
     wanted += ["links of the layout Q, of 32 bytes", "links of the layout i, of 16 bytes", "links of the layout B, of 16 bytes"]
     words = [sys.executable, "-B", "-", f"{ROOT}/examples/embed", libraries()[1]]
@@ -206,13 +206,14 @@ def calls_over_spans(room):
 
 
 def with_expected(of):
-    """Whether a compiler for C++ has std::expected."""
+    """Returns whether a compiler for C++ has std::expected."""
     return not run([of, "-std=c++23", "-fsyntax-only", "-x", "c++", "-"], b"#include <expected>\nstd::expected<int, int> one = 1;\n")[0]
 
 
 @case
-def both_kinds_of_answers_in_one_program(room):
-    """One file has exceptions, the other std::expected. Unoptimized each has functions of its own, of which a linker keeps one."""
+def both_kinds_of_errors_in_one_program(room):
+    """One file uses exceptions, the other std::expected. Without optimization each has its own functions, and a linker that
+    mixed them up would keep one."""
     archive, _ = libraries()
     compilers = [it for it in ("g++", "clang++") if shutil.which(it)]
     expecting = [it for it in compilers if with_expected(it)]
@@ -235,7 +236,7 @@ def both_kinds_of_answers_in_one_program(room):
 
 @case
 def the_header_for_spans_says_what_it_needs(_room):
-    """It says so once, and nothing else."""
+    """The error is printed once, and nothing else."""
     for of in (it for it in ("g++", "clang++") if shutil.which(it)):
         words = [of, "-Wall", "-Wextra", INCLUDE, "-fsyntax-only", "-x", "c++"]
         asked = [(standard, [], b"boruvka.hpp needs C++20") for standard in ("c++98", "c++11", "c++17")]
@@ -247,8 +248,8 @@ def the_header_for_spans_says_what_it_needs(_room):
 
 
 @case
-def the_headers_stand_behind_macros_of_common_names(_room):
-    """Those of headers of other systems, after the library's own headers, and so that each header is read twice."""
+def the_headers_after_macros_of_common_names(_room):
+    """Macros of headers of other systems, before the library's headers. Each header is included twice."""
     names = ["#define min(a, b) ((a) < (b) ? (a) : (b))", "#define max(a, b) ((a) > (b) ? (a) : (b))", "#define small char", "#define linux 1", "#define interface struct"]
     before = ["algorithm", "cstddef", "cstdint", "span", "stdexcept", "string", "type_traits", "vector"]
     words = ["-Wall", "-Wextra", "-pedantic", "-Werror", INCLUDE, "-fsyntax-only", "-x"]
@@ -263,7 +264,7 @@ def the_headers_stand_behind_macros_of_common_names(_room):
 
 @case
 def the_header_for_spans_calls_no_function_of_one_file(room):
-    """What is inline has one meaning in all files of a program ([basic.def.odr]), so it may call none that each has for itself."""
+    """An inline function has one meaning in all files of a program ([basic.def.odr]), so it may not call static functions."""
     if not shutil.which("nm"):
         raise Skipped("no nm is there")
     source = b"""#include <boruvka.hpp>
@@ -278,8 +279,8 @@ auto of_net(std::span<boruvka_link> net) { return boruvka::forest(9, net).size()
 
 
 @case
-def a_dropped_answer_is_warned_of(_room):
-    """It may be a refusal, or how many links the forest has."""
+def a_warning_about_a_dropped_result(_room):
+    """It may be an error, or the number of links of the forest."""
     of = next(filter(shutil.which, ("g++", "clang++")), None)
     if not of:
         raise Skipped("no g++ or clang++ is there")
@@ -292,7 +293,7 @@ def a_dropped_answer_is_warned_of(_room):
 
 
 @case
-def its_names_stand_beside_those_of_the_system(_room):
+def its_names_with_those_of_the_system(_room):
     source = b"""#include <%s>
 #include <%s>
 using namespace boruvka;
@@ -319,7 +320,7 @@ def lists_and_texts_have_the_programs_forests(room):
 
 
 @case
-def places_are_those_of_the_worked_forests(room):
+def indices_are_those_of_the_worked_forests(room):
     graphs = worked()
     expect((len(graphs) > 7, b"", b""), True, b"", b"")
     for vertices, arcs, forest in graphs:
@@ -331,7 +332,7 @@ def places_are_those_of_the_worked_forests(room):
 
 
 @case
-def faulty_texts_are_told_as_the_program_tells_them(room):
+def malformed_texts_have_the_errors_of_the_program(room):
     with open(f"{ROOT}/include/boruvka.h", encoding="utf-8") as it:
         codes = {name.replace("_", "").lower(): int(code) for name, code in re.findall(r"BORUVKA_(\w+) = (-\d+)", it.read())}
     for source, kind, line in FAULTY:
@@ -346,7 +347,7 @@ def calls_at_their_limits(room):
 
 
 @case
-def each_refusal_has_its_code_in_the_header(room):
+def each_error_has_its_code_in_the_header(room):
     with open(f"{ROOT}/include/boruvka.h", encoding="utf-8") as it:
         found = re.findall(r"BORUVKA_(\w+) = (-\d+)", it.read())
     expect((found, b"", b""), [(name, str(-place)) for place, (name, _) in enumerate(REFUSALS, 1)], b"", b"")
@@ -354,7 +355,7 @@ def each_refusal_has_its_code_in_the_header(room):
 
 @case
 def the_example_of_the_header(room):
-    """Its head shows a call; the links are those that it says, as is the count."""
+    """The head of the header shows a call. Its count and its links are right."""
     with open(f"{ROOT}/include/boruvka.h", encoding="utf-8") as it:
         head = it.read().split("#ifndef")[0]
     code = "".join(re.findall(r"^ \*     (.*\n)", head, re.M))
@@ -372,8 +373,28 @@ int main(void) {{
 
 
 @case
+def the_example_of_the_header_for_cpp(room):
+    with open(f"{ROOT}/include/boruvka.hpp", encoding="utf-8") as it:
+        head = it.read().split("#ifndef")[0]
+    code = "".join(re.findall(r"^ \*     (.*\n)", head, re.M))
+    told = re.search(r"has two links, \{(.*?)\} and \{(.*?)\}, which are the first of links", head).groups()
+    source = f"""#include <boruvka.hpp>
+#include <cstdio>
+int main() {{
+{code}    for (const boruvka_link &it : found) std::printf("%d, %u, %u\\n", (int)it.weight, it.low, it.high);
+    return found.data() != links.data();
+}}
+"""
+    compilers = [it for it in ("g++", "clang++") if shutil.which(it)]
+    if not compilers:
+        raise Skipped("no g++ or clang++ is there")
+    expect(run([compilers[0], "-std=c++20", "-Wall", "-Wextra", "-Werror", INCLUDE, "-o", f"{room}/head", "-x", "c++", "-", "-x", "none", libraries()[0]], source.encode()), 0, b"", b"")
+    expect(run([f"{room}/head"]), 0, "".join(f"{it}\n" for it in told).encode(), b"")
+
+
+@case
 def what_the_header_itself_defines(room):
-    """Outputs that overlap inputs, and keys of doubles; also if a compiler takes every double for a number."""
+    """Outputs that overlap inputs, and keys of doubles, also if a compiler assumes that every double is a number."""
     made = f"{room}/inlines"
     for of in filter(shutil.which, ("gcc", "clang")):
         for more in (["-O0"], ["-O2", "-ffinite-math-only"], ["-O3", "-ffast-math"]):
@@ -384,7 +405,7 @@ def what_the_header_itself_defines(room):
 
 @case
 def the_release_is_that_of_the_program(room):
-    """Of the header, of each library, and in the program's words."""
+    """In the header, in each library, and in the output of --version."""
     told = [int(it) for it in ran(["--version"])[1].decode().split()[1].split(".")]
     number = 10000 * told[0] + 100 * told[1] + told[2]
     with open(f"{ROOT}/include/boruvka.h", encoding="utf-8") as it:
@@ -418,16 +439,16 @@ def calls_take_the_bytes_that_are_documented(room):
 
 
 @case
-def refused_memory_is_told_and_nothing_changed(room):
+def out_of_memory_is_reported_and_nothing_changed(room):
     for is_alone in (False, True):
         first, refused = 1, True
         while refused:
             environment = {"REFUSE_FIRST": str(first), **({"REFUSE_LAST": str(first)} if is_alone else {})}
             found, told = told_by(room, [caller(room), "memory"], b"", environment, library="refusing")
             refused = bool(told)
-            # a refused growth may be made good by a smaller one
+            # a smaller growth may succeed after one that failed
             wanted = found[1] if refused and is_alone else b"some refused\n" if refused else b"answered\n"
             expect(found, 0, wanted, b"")
             first += 1
         if first < 10:
-            raise AssertionError(f"only {first - 2} allocations were refused: is the library preloaded?")
+            raise AssertionError(f"only {first - 2} allocations failed: is the library preloaded?")

@@ -1,4 +1,4 @@
-"""Several FILEs: the forest of all their arcs together, which file is told at a fault, and that none behind it is opened."""
+"""Several FILEs: the forest of all their arcs together, which file an error names, and that no file after it is opened."""
 import errno
 import os
 import random
@@ -7,7 +7,7 @@ import resource
 import socket
 from errno import EINTR, EIO
 
-from cases.calls import ERRORS, each_place, expect_places, expect_writes
+from cases.calls import ERRORS, each_position, expect_positions, expect_writes
 from cases.memory import grown_space, in_space, refused
 from cases.progress import COMMENT
 from cases.running import (
@@ -48,7 +48,7 @@ THREADS_ALONE = b"error: --threads needs --plain" + USAGE
 TOO_MANY = b"error: at most 65536 FILEs\n"
 MAX_FILES = 65_536
 
-# each fault of a file for six vertices, and what is told of it
+# files with errors, for six vertices, and the text that is reported
 FAULTS = [
     (b"x\n", b"line 1: UnknownLine"),
     (b"\x1f\x8b\x08\0", b"line 1: UnknownLine"),
@@ -67,21 +67,21 @@ FAULTS = [
 
 
 def files_in(room, texts):
-    """The names of new files with these texts, in the folder."""
+    """Writes files with these texts into the folder, and returns their names."""
     for at, text in enumerate(texts):
         written(f"{room}/{at}.gr", text)
     return [f"{at}.gr" for at in range(len(texts))]
 
 
 def pipe_in(room):
-    """The name of a pipe that nobody writes to: whoever opens it waits."""
+    """Returns the name of a pipe that nobody writes to. Whoever opens it waits."""
     if not os.path.exists(f"{room}/nobody"):
         os.mkfifo(f"{room}/nobody")
     return "nobody"
 
 
 def expect_joined(room, names, text, report=None, source=b"", **more):
-    """In each mode these files give this text, and the report, or one with the text's total."""
+    """Expects this text from these files in each mode, and the report, or one with the text's total."""
     for words in MODES:
         status, output, errors = ran([*words, "--report", *names], source, cwd=room, **more)
         expect((status, output, b""), 0, text, b"")
@@ -90,15 +90,15 @@ def expect_joined(room, names, text, report=None, source=b"", **more):
         Report(errors).expect_total(text)
 
 
-def expect_first_fault(room, names, status, told, source=b""):
-    """In each mode these files are refused so, with and without a report, and so they are if a pipe follows them."""
+def expect_first_error(room, names, status, told, source=b""):
+    """Expects this error of these files in each mode, with and without a report, and also if a pipe follows them."""
     for words in MODES:
         for given in [names, [*names, pipe_in(room)], ["--report", *names]]:
             expect(ran([*words, *given], source, cwd=room, seconds=10), status, b"", b"boruvka: " + told + b"\n")
 
 
 def parts_of(draw, arcs, count):
-    """The arcs in so many lists, at random."""
+    """Divides the arcs into so many lists at random."""
     parts = [[] for _ in range(count)]
     for arc in arcs:
         draw.choice(parts).append(arc)
@@ -106,7 +106,7 @@ def parts_of(draw, arcs, count):
 
 
 def drawn_arcs(draw, vertices, count, most):
-    """Arcs with loops and equal weights, a fifth of them again or back."""
+    """Draws arcs with loops and equal weights. A fifth of them is repeated or reversed."""
     arcs = []
     for _ in range(count):
         u, v, w = draw.randint(1, vertices), draw.randint(1, vertices), draw.randint(-most, most)
@@ -155,7 +155,7 @@ def standard_input_among_files(room):
         given = [*names[:place], "-", *names[place + 1 :]]
         expect_joined(room, given, SMALL_FOREST, SMALL_REPORT, THIRDS[place])
         expect_joined(room, ["--", *given], SMALL_FOREST, SMALL_REPORT, THIRDS[place])
-    # a file of that name, and standard input by another
+    # a file named `-`, and standard input by another name
     written(f"{room}/-", THIRDS[2])
     expect_joined(room, ["0.gr", "-", "./-"], SMALL_FOREST, SMALL_REPORT, THIRDS[1])
     expect_joined(room, ["/dev/stdin", "1.gr", "./-"], SMALL_FOREST, SMALL_REPORT, THIRDS[0])
@@ -165,10 +165,10 @@ def standard_input_among_files(room):
 def standard_input_twice(room):
     names = files_in(room, HALVES)
     for given in [["-", "-"], ["-", "0.gr", "-"], ["0.gr", "-", "-"], ["-", "-", "none.gr"], ["--", "-", "-"]]:
-        expect_first_fault(room, given, 3, b"cannot open -", SECOND)
-    # what is wrong before it is told first
-    expect_first_fault(room, ["-", *names, "-"], 1, b"-: line 2: BadArc", b"p sp 6 1\na 1 2\n")
-    expect_first_fault(room, [names[0], "-", "-"], 1, b"-: 5 vertices in place of 6", b"p sp 5 0\n")
+        expect_first_error(room, given, 3, b"- is given twice", SECOND)
+    # an error before it is reported first
+    expect_first_error(room, ["-", *names, "-"], 1, b"-: line 2: BadArc", b"p sp 6 1\na 1 2\n")
+    expect_first_error(room, [names[0], "-", "-"], 1, b"-: 5 vertices in place of 6", b"p sp 5 0\n")
 
 
 @case
@@ -214,7 +214,7 @@ def three_hundred_drawn_files(room):
 
 @case
 def large_files(room):
-    # each is read in pieces, and by threads where they are asked for; of the second graph most links are dropped early
+    # each is read in pieces, and by threads if they are asked for; most links of the second graph are dropped early
     for seed, vertices, count in [(34, 120_000, 400_000), (35, 900, 500_000)]:
         draw = random.Random(seed)
         arcs = [(draw.randint(1, vertices), draw.randint(1, vertices), draw.randint(-(10**6), 10**6)) for _ in range(count)]
@@ -229,8 +229,8 @@ def large_files(room):
 
 @case
 def files_of_more_than_a_million_links(room):
-    # a path of light links, and heavier ones beside it, which close cycles: the forest is the path. Neither file has so many
-    # links that some are dropped while it is read
+    # a path of light links, and heavier links that close cycles: the forest is the path. Neither file has so many links that
+    # some are dropped while it is read
     vertices = 600_000
     path = [(v, v + 1, v % 7) for v in range(1, vertices)]
     beside = [(v, v + 2, 10 + v % 5) for v in range(1, vertices - 1)]
@@ -244,8 +244,8 @@ def files_of_more_than_a_million_links(room):
 
 @case
 def many_arcs_of_a_million_vertices_take_no_more_memory(room):
-    # each file has too few arcs a vertex for links to be dropped while it is read, so what is kept of them has its bound where
-    # they are joined
+    # each file has too few arcs per vertex for links to be dropped while it is read, so the list is only bounded when the files
+    # are joined
     vertices, arcs = 2**20 + 1, 7_000_000
     with open(f"{room}/net.gr", "wb") as it:
         it.write(b"p sp %d %d\n" % (vertices, arcs))
@@ -275,7 +275,7 @@ def forests_of_parts_make_the_forest_of_the_whole(room):
             expect(ran(["--plain"], file_of(vertices, part)), 0, forests[-1], b"")
         names = files_in(room, forests)
         expect_joined(room, names, whole)
-        # again in two steps, and the whole with its parts
+        # again in two steps, and the whole graph together with its parts
         for name, some in [("low", names[:2]), ("high", names[2:] or names[:1])]:
             status, output, errors = ran(["--plain", *some], cwd=room)
             expect((status, b"", errors), 0, b"", b"")
@@ -300,7 +300,7 @@ def more_files_than_descriptors(room):
 
 @case
 def many_arcs_a_vertex_take_no_more_memory(room):
-    # what is kept has a bound by the vertices, however many files there are
+    # memory is bounded by the vertices, however many files there are
     file, text = drawn_graph(46, 1000, 60_000, 10**6)
     name = written(f"{room}/net.gr", file)
     peaks = {}
@@ -327,7 +327,7 @@ def as_many_files_as_there_may_be(room):
         raise Skipped(f"the system takes no {MAX_FILES} words") from error
 
 
-# What is refused, and by which name
+# Errors, and the name of the file in them
 
 
 @case
@@ -337,38 +337,38 @@ def another_number_of_vertices(room):
     for at, vertices in [(2, b"5"), (3, b"7"), (4, b"0"), (5, b"67108864")]:
         told = b"%d.gr: %s vertices in place of 6" % (at, vertices)
         for given in [[names[0], names[at]], [names[0], names[1], names[at]], [names[0], names[at], names[1]], [names[0], names[at], "none.gr"]]:
-            expect_first_fault(room, given, 1, told)
-    expect_first_fault(room, ["4.gr", "0.gr"], 1, b"0.gr: 6 vertices in place of 0")
-    expect_first_fault(room, ["3.gr", "3.gr", "-"], 1, b"-: 6 vertices in place of 7", FIRST)
-    # the first that differs is told, and not the one that is alone
-    expect_first_fault(room, ["2.gr", "0.gr", "1.gr"], 1, b"0.gr: 6 vertices in place of 5")
+            expect_first_error(room, given, 1, told)
+    expect_first_error(room, ["4.gr", "0.gr"], 1, b"0.gr: 6 vertices in place of 0")
+    expect_first_error(room, ["3.gr", "3.gr", "-"], 1, b"-: 6 vertices in place of 7", FIRST)
+    # the error names the first file that differs, even if the file before it is the odd one out
+    expect_first_error(room, ["2.gr", "0.gr", "1.gr"], 1, b"0.gr: 6 vertices in place of 5")
 
 
 @case
-def each_fault_in_the_first_file_and_in_later_ones(room):
+def each_error_in_the_first_file_and_in_later_ones(room):
     good = files_in(room, THIRDS)
     for text, told in FAULTS:
         written(f"{room}/bad.gr", text)
-        # alone it is told without its name
+        # a single file is reported without its name
         for words in MODES:
             expect(ran([*words, "bad.gr"], cwd=room), 1, b"", b"boruvka: " + told + b"\n")
         for place in range(4):
             for name, source in [("bad.gr", b""), ("-", text)]:
                 given = [*good[:place], name, *good[place:]]
-                expect_first_fault(room, given, 1, name.encode() + b": " + told, source)
+                expect_first_error(room, given, 1, name.encode() + b": " + told, source)
 
 
 @case
-def a_fault_that_comes_late_in_a_later_file(room):
-    # it is past the first MiB, which threads read otherwise
+def an_error_late_in_a_later_file(room):
+    # it is after the first MiB, where threads read in another way
     late = b"p sp 6 300001\n" + 300_000 * b"a 1 2 3\n" + b"a 1 7 3\n"
     names = files_in(room, [FIRST, late, SECOND])
-    expect_first_fault(room, names, 1, b"1.gr: line 300002: EndOutOfRange")
-    expect_first_fault(room, [names[0], names[2], "-"], 1, b"-: line 300002: EndOutOfRange", late)
+    expect_first_error(room, names, 1, b"1.gr: line 300002: EndOutOfRange")
+    expect_first_error(room, [names[0], names[2], "-"], 1, b"-: line 300002: EndOutOfRange", late)
 
 
 @case
-def the_first_of_two_faults(room):
+def the_first_of_two_errors(room):
     texts = {"good": FIRST, "bad": b"x\n", "short": b"p sp 6 1\n", "few": b"p sp 5 0\n", "both": b"p sp 5 0\nx\n"}
     for name, text in texts.items():
         written(f"{room}/{name}", text)
@@ -381,11 +381,11 @@ def the_first_of_two_faults(room):
         (["good", "bad", "none"], 1, b"bad: line 1: UnknownLine"),
         (["none", "nought"], 3, b"cannot open none"),
         (["few", "good", "none"], 1, b"good: 6 vertices in place of 5"),
-        # of one file that is malformed the number doesn't count
+        # the number of vertices of a malformed file doesn't matter
         (["good", "both"], 1, b"both: line 2: UnknownLine"),
         (["good", "few", "both"], 1, b"few: 5 vertices in place of 6"),
     ]:
-        expect_first_fault(room, given, status, told)
+        expect_first_error(room, given, status, told)
 
 
 @case
@@ -393,7 +393,7 @@ def a_file_among_others_that_cannot_be_opened(room):
     names = files_in(room, HALVES)
     os.mkdir(f"{room}/folder")
     with socket.socket(socket.AF_UNIX) as it:
-        # (which nobody opens as a file)
+        # (`-` isn't opened as a file)
         it.bind(f"{room}/socket")
     written(f"{room}/closed.gr", FIRST)
     os.chmod(f"{room}/closed.gr", 0)
@@ -401,10 +401,10 @@ def a_file_among_others_that_cannot_be_opened(room):
     unopened += [] if os.access(f"{room}/closed.gr", os.R_OK) else ["closed.gr"]
     for name in unopened:
         for given in [[name, *names], [names[0], name, names[1]], [*names, name], [name, name]]:
-            expect_first_fault(room, given, 3, b"cannot open " + name.encode())
-    # a folder is opened, and can't be read
+            expect_first_error(room, given, 3, b"cannot open " + name.encode())
+    # a directory can be opened but not read
     for given in [["folder", *names], [names[0], "folder", names[1]], [*names, "folder"]]:
-        expect_first_fault(room, given, 3, b"folder: line 1: read failed")
+        expect_first_error(room, given, 3, b"folder: line 1: read failed")
 
 
 @case
@@ -425,12 +425,12 @@ def names_of_all_sorts(room):
             (".few", 1, shown + b".few: 1 vertices in place of %d" % count),
             (".none", 3, b"cannot open " + shown + b".none"),
         ]:
-            expect_first_fault(room, ["--", names[0], name + end], status, told)
+            expect_first_error(room, ["--", names[0], name + end], status, told)
 
 
 @case
 def a_long_name_among_others(room):
-    # the line is longer than any that is written at once
+    # the line is longer than what is written at once
     deep = "/".join(["\x1b\u0085" * 80] * 16)
     for name in ["n" * 250, deep]:
         os.makedirs(f"{room}/{name}")
@@ -439,11 +439,11 @@ def a_long_name_among_others(room):
         written(f"{room}/{name}/c.gr", b"p sp 6 1\n")
         expect_joined(room, [f"{name}/a.gr", f"{name}/b.gr"], SMALL_FOREST, SMALL_REPORT)
         shown = name.replace("\x1b", "\\x1b").replace("\u0085", "\\xc2\\x85").encode()
-        expect_first_fault(room, [f"{name}/a.gr", f"{name}/c.gr"], 1, shown + b"/c.gr: line 2: MissingArcs")
-        expect_first_fault(room, [f"{name}/a.gr", f"{name}/d.gr"], 3, b"cannot open " + shown + b"/d.gr")
+        expect_first_error(room, [f"{name}/a.gr", f"{name}/c.gr"], 1, shown + b"/c.gr: line 2: MissingArcs")
+        expect_first_error(room, [f"{name}/a.gr", f"{name}/d.gr"], 3, b"cannot open " + shown + b"/d.gr")
 
 
-# Wrong words
+# Invalid arguments
 
 
 @case
@@ -452,14 +452,14 @@ def several_files_without_plain(room):
     pipe = pipe_in(room)
     for words in [["net.gr", "net.gr"], ["net.gr", "-"], ["-", "-"], [pipe, pipe, pipe], ["none.gr", "--workers", "0", "none.gr"], ["--report", "--", "a", "b"]]:
         expect(ran(words, SMALL_NET, cwd=room, seconds=10), 2, b"", SEVERAL_ALONE)
-    # with two things wrong either is told
+    # of two errors either is reported
     for words in [["--threads", "2", "net.gr", "net.gr"], ["net.gr", pipe, "--threads=1"]]:
         found = ran(words, SMALL_NET, cwd=room, seconds=10)
         expect((found[0], found[1], found[2] in (SEVERAL_ALONE, THREADS_ALONE)), 2, b"", True)
 
 
 @case
-def other_words_beside_several_files(room):
+def other_arguments_with_several_files(room):
     names = files_in(room, HALVES)
     for more in [[], ["--plain"]]:
         for word in ["--help", "-h", "--version", "-V"]:
@@ -469,13 +469,13 @@ def other_words_beside_several_files(room):
                 expect(ran(words, SMALL_NET, cwd=room), 0, told[1], b"")
         status, output, errors = ran([*more, *names, "--wrong"], cwd=room)
         expect((status, output, errors.partition(b"\n")[0]), 2, b"", b"error: unexpected argument '--wrong' found")
-        expect(ran([*more, names[0], b"\xff.gr"], cwd=room), 2, b"", b"boruvka: a word is not UTF-8\n")
+        expect(ran([*more, names[0], b"\xff.gr"], cwd=room), 2, b"", b"boruvka: an argument is not UTF-8\n")
     for number in ["0", "65", "x"]:
         status, output, errors = ran(["--plain", *names, "--threads", number], cwd=room)
         expect((status, output, errors[:7]), 2, b"", b"error: ")
 
 
-# What is told meanwhile
+# Progress
 
 
 @case
@@ -498,17 +498,17 @@ def how_much_was_read_of_several_files(room):
     # threads read more at a time
     status, output, errors = ran(["--plain", "--progress", "--threads", "4", *names[:2]], cwd=room)
     expect((status, output, bool(re.fullmatch(rb"read 1[6-9] MB\rread 3[2-9] MB\rread 40 MB\n", errors))), 0, SMALL_FOREST, True)
-    # a fault begins a line of its own
+    # an error begins a new line
     for name, status, line in [("6.gr", 1, b"6.gr: line 1: UnknownLine"), ("none.gr", 3, b"cannot open none.gr")]:
         expect(ran(["--plain", "--progress", "0.gr", name, "1.gr"], cwd=room), status, b"", b"read 16 MB\r\nboruvka: " + line + b"\n")
 
 
-# Calls that fail, and refused memory
+# Calls and allocations that fail
 
 
 @case
 def each_read_of_several_files_fails(room):
-    # of files, and of standard input in the middle
+    # reads of files, and of standard input between them
     texts = [FIRST, drawn_graph(47, 6, 20_000)[0], SECOND]
     names = [f"{room}/{it}" for it in files_in(room, texts)]
     arcs = [tuple(map(int, line.split()[1:])) for text in texts for line in text.splitlines()[1:]]
@@ -520,8 +520,8 @@ def each_read_of_several_files_fails(room):
         for words in MODES:
             command = ["sh", "-c", shell, names[place or 0], Program.path, *words, *given]
             for error in [*ERRORS, EIO]:
-                runs = each_place(room, command, b"", "read", [error])
-                expect_places(runs, len(places))
+                runs = each_position(room, command, b"", "read", [error])
+                expect_positions(runs, len(places))
                 for run, (name, line) in zip(runs, places):
                     run.expect(3, b"", f"boruvka: {name}: line {line}: read failed\n".encode())
                 runs[-1].expect(0, joined, b"")
@@ -531,12 +531,12 @@ def each_read_of_several_files_fails(room):
 def each_open_and_each_close_of_several_files_fails(room):
     names = [f"{room}/{it}" for it in files_in(room, THIRDS)]
     for error in ERRORS:
-        opens, closes = (each_place(room, [Program.path, "--plain", *names], b"", call, [error]) for call in ["open", "close"])
-        expect_places(opens, 3)
+        opens, closes = (each_position(room, [Program.path, "--plain", *names], b"", call, [error]) for call in ["open", "close"])
+        expect_positions(opens, 3)
         for run, name in zip(opens, names):
-            # (an open that is interrupted is tried again)
+            # (an interrupted open is retried)
             run.expect(*((0, SMALL_FOREST, b"") if error == EINTR else (3, b"", f"boruvka: cannot open {name}\n".encode())))
-        expect_places(closes, 3)
+        expect_positions(closes, 3)
         for run in [opens[-1], *closes]:
             run.expect(0, SMALL_FOREST, b"")
 
@@ -547,7 +547,7 @@ def each_write_of_several_files_fails(room):
     names = [f"{room}/{it}" for it in files_in(room, [file_of(6000, arcs[at::2]) for at in range(2)])]
     text = forest_text(6000, forest_of(6000, arcs))
     for error in [*ERRORS, EIO, NOTHING]:
-        expect_writes(each_place(room, [Program.path, "--plain", *names], b"", "write", [error]), text)
+        expect_writes(each_position(room, [Program.path, "--plain", *names], b"", "write", [error]), text)
 
 
 @case
@@ -571,26 +571,26 @@ def an_output_that_is_full_or_closed(room):
             shell = ["sh", "-c", f'exec "$0" "$@" {closed}']
             found, told = told_by(room, [*shell, Program.path, *words, *given], b"", {}, seconds=10)
             expect((found, told, b""), (status, output, errors), b"", b"")
-    # no file took the place of what was closed
+    # no file got the number of a closed descriptor
     for name, text in zip(names, HALVES, strict=True):
         with open(name, "rb") as it:
             expect((it.read(), b"", b""), text, b"", b"")
 
 
 def stages_of(lines, names):
-    """Of each line of a run without memory which part of the work it tells of: 0 before the first file, the number of the
-    file that it names, or one more behind the last."""
+    """Maps each out-of-memory line to the part of the work: 0 before the first file, the number of the file that it names, or
+    one more after the last."""
     line_of = {f"boruvka: {name}: no memory\n".encode(): at for at, name in enumerate(names, 1)}
     stages = []
     for line in lines:
         if line != NO_MEMORY and line not in line_of:
-            raise AssertionError(f"no line of a run without memory: {line!r:.300}")
+            raise AssertionError(f"not an out-of-memory line: {line!r:.300}")
         stages.append(line_of.get(line, len(names) + 1 if any(stages) else 0))
     return stages
 
 
 @case
-def each_allocation_of_several_files_refused(room):
+def each_allocation_of_several_files_fails(room):
     drawn = drawn_arcs(random.Random(49), 800, 3000, 50)
     nets = [(HALVES, SMALL_FOREST), ([file_of(800, drawn[at::3]) for at in range(3)], forest_text(800, forest_of(800, drawn)))]
     for texts, text in nets:
@@ -600,7 +600,7 @@ def each_allocation_of_several_files_refused(room):
                 lines, first, count = [], 1, 1
                 while count:
                     found, count = refused(room, [*words, *names], b"", first, first if is_alone else None)
-                    # a refused growth may be made good by a smaller one
+                    # a smaller growth may succeed after one that failed
                     if count and not (is_alone and found[0] == 0):
                         expect(found, 4, b"", found[2])
                         lines.append(found[2])
@@ -609,18 +609,18 @@ def each_allocation_of_several_files_refused(room):
                     first += 1
                 stages = stages_of(lines, names)
                 if stages != sorted(stages) or not is_alone and not set(stages) >= set(range(len(names) + 1)):
-                    raise AssertionError(f"allocations that were refused in turn told of these parts of the work: {stages}")
+                    raise AssertionError(f"allocations that failed in turn were reported in these parts of the work: {stages}")
 
 
 @case
-def each_allocation_of_several_files_without_plain_refused(room):
+def each_allocation_of_several_files_without_plain_fails(room):
     first = count = 1
     while count:
         found, count = refused(room, ["a.gr", "b.gr", "c.gr"], b"", first, None)
         expect(found, *((4, b"", NO_MEMORY) if count else (2, b"", SEVERAL_ALONE)))
         first += 1
     if first < 5:
-        raise AssertionError(f"only {first - 1} allocations were refused: is the library preloaded?")
+        raise AssertionError(f"only {first - 1} allocations failed: is the library preloaded?")
 
 
 @case
@@ -633,7 +633,7 @@ def threads_that_do_not_start_for_several_files(room):
         found, told = told_by(room, [Program.path, "--plain", "--threads", "7", *names], b"", environment)
         expect(found, 0, text, b"")
         if b"x" not in told or b"J" in told:
-            raise AssertionError(f"from the {first}th thread on refused: told {told!r:.300}")
+            raise AssertionError(f"from the {first}th thread on refused: recorded {told!r:.300}")
 
 
 @case

@@ -1,5 +1,5 @@
-"""Files round the sizes from which `--plain` keeps fewer links than it reads: of more than 65,536 arcs, and of more than 15
-a vertex, a list of 32,768 links and of 10 a vertex becomes its forest."""
+"""Files near the sizes from which `--plain` keeps fewer links than it reads. If there are more than 65,536 arcs, and more than
+15 per vertex, then a list of 32,768 links, and of 10 per vertex, is replaced by its forest."""
 import os
 import random
 
@@ -25,13 +25,13 @@ def expect_forest(vertices, arcs, all_words=THREADS):
 
 
 def drawn(seed, vertices, arcs, weights):
-    """Arcs between any vertices, loops and repeats among them."""
+    """Draws arcs between any vertices, with loops and repeats."""
     draw = random.Random(seed)
     return [(draw.randint(1, vertices), draw.randint(1, vertices), WEIGHTS[weights](draw, place)) for place in range(arcs)]
 
 
 def by_rows(seed, vertices, each, weights):
-    """Arcs from each vertex in turn to near ones, in both directions beside each other."""
+    """Draws arcs from each vertex in turn to near ones, both directions next to each other."""
     draw = random.Random(seed)
     rows = []
     for v in range(vertices):
@@ -51,7 +51,7 @@ def as_many_arcs_as_are_kept_whole_and_one_more(_room):
 
 @case
 def lists_that_end_as_long_as_the_bound(_room):
-    # of a star each link is in the forest: a list is long at its last link, one before, one behind
+    # all links of a star are in the forest: the list gets long at its last link, one before, or one after it
     for vertices in (3_000, 4_000):
         long = max(LONG, 10 * vertices)
         star = [(1, v, v) for v in range(2, vertices + 1)]
@@ -72,7 +72,7 @@ def many_arcs_of_each_order_of_weights(_room):
 
 @case
 def heavy_arcs_that_join_what_light_ones_leave_apart(_room):
-    # far behind many light arcs within two halves one heavy arc joins these, and then a lighter one
+    # many light arcs within two halves; long after them a heavy arc joins the halves, and then a lighter one
     draw = random.Random(5)
     light = [(2 * draw.randint(1, 200) - half, 2 * draw.randint(1, 200) - half, draw.randint(1, 1_000)) for half in (0, 1) for _ in range(45_000)]
     draw.shuffle(light)
@@ -82,8 +82,8 @@ def heavy_arcs_that_join_what_light_ones_leave_apart(_room):
 
 
 @case
-def edges_that_stand_several_times_side_by_side(_room):
-    # all of them, or only those in a stretch of the file, so that a look at a few misses some
+def repeated_edges_next_to_each_other(_room):
+    # all of them, or only those in a part of the file, so that a sample misses some
     for seed, (vertices, edges) in enumerate([(2, 40_000), (300, 20_000), (5_000, 30_000), (20_000, 90_000)]):
         draw = random.Random(seed)
         for first, last in [(0, edges), (edges // 3, edges // 2), (edges - 50, edges)]:
@@ -109,8 +109,8 @@ def edges_in_both_directions_take_the_memory_of_one(room):
 
 
 @case
-def many_arcs_of_a_million_vertices_take_the_memory_of_ten_a_vertex(room):
-    # 40 million arcs, which would take 640 MB: of two links in turns, so that none repeats the one before it
+def many_arcs_of_a_million_vertices_take_the_memory_of_ten_per_vertex(room):
+    # 40 million arcs, which would take 640 MB: two links in turn, so that none repeats the link before it
     vertices, arcs = 2**20 + 1, 40_000_000
     name = f"{room}/long.gr"
     with open(name, "wb") as it:

@@ -1,38 +1,37 @@
-/* The least memory that a call needs, compared with what it takes from malloc. For each graph it writes a line
+/* Finds the least memory that a call needs, and compares it with what the call allocates by malloc. For a graph it prints a line
  *
  *     SHAPE N M  LEAST PEAK  LEAST PEAK  LEAST PEAK  LEAST PEAK  LEAST PEAK
  *
- * of the calls over links, over their text, over their forest for its merges, over them in columns for the indices of the
- * forest, and over the forest for its labels, in this order. LEAST is the size, in whole pages, of the least memory within which the call of libboruvka_within.a has its answer, PEAK how many
- * bytes the call of libboruvka.a had at once from malloc and realloc. Both calls have to find the same, and LEAST is no more
- * than include/boruvka.h calls enough.
+ * for these calls, in this order: the forest of links, the forest of their text, the merges of the forest, the indices of the
+ * forest in columns, and the labels of the forest. LEAST is the least memory, in bytes of whole pages, in which the call of
+ * libboruvka_within.a succeeds. PEAK is the most memory that the call of libboruvka.a had at once from malloc and realloc. Both
+ * calls have to give the same result, and LEAST may not exceed what include/boruvka.h calls enough.
  *
- *     least SHAPE N M    of this graph: grid (M counts for nothing), drawn, star, path, ring, pair, after, or late (N is
- *                        past 300)
+ *     least SHAPE N M    SHAPE is grid (M is ignored), drawn, star, path, ring, pair, after, or late (N is above 300)
  *
- * What a call takes, where blocks come one below the other, and only the last of them goes back:
- * - 16 bytes a link for the list. That of a text grows to twice its size where it lies: so it has up to 32.
- * - 12 bytes and 1 for each link that a part looks at. No part looks at one twice, so that is 13 a link.
- * - 4 bytes a vertex for the numbers of the first part, for those of a later part, and for those of its second round.
- * - 4096 bytes for a while, 64 beside, and less than a page at the end.
- * - For a text, once the second and third numbers are given back, the text of the forest, up to twice its length.
- * A line of an arc has 8 bytes at the least, so 45 bytes a link are less than 6 times the length of a text; the lines of a
- * large forest are longer. `late` takes all of it for a list: the first part has nearly all links, between two vertices, and
- * the second needs two rounds. `pair` takes it for a text: two short lines in turn, just more of them than a power of two.
+ * What a call needs, since blocks are placed one below the other and only the last one can be freed:
+ * - 16 bytes per link for the list. The list of a text doubles in place, so it has up to 32.
+ * - 12 bytes and 1 byte for each link that a part looks at. No two parts look at the same link, so that is 13 per link.
+ * - 4 bytes per vertex for the numbers of the first part, for those of a later part, and for those of its second round.
+ * - 4096 bytes temporarily, 64 more, and less than a page at the end.
+ * - For a text, after the second and third numbers are freed, the text of the forest, up to twice its length.
+ * An arc line has at least 8 bytes, so 45 bytes per link are less than 6 times the length of a text; the lines of a large forest
+ * are longer. `late` needs all of this for a list: the first part has nearly all links, between two vertices, and the second
+ * part needs two rounds. `pair` needs it for a text: two short lines by turns, slightly more of them than a power of two.
  *
- * Merges take blocks that stay until the end: 16 bytes a link for the list, 4 and 8 a vertex for parents and roots, and 12
- * for each link or each vertex, the fewer of the two.
+ * Merges need blocks that stay until the end: 16 bytes per link for the list, 4 and 8 per vertex for parents and roots, and 12
+ * for each link or for each vertex, whichever are fewer.
  *
- * Indices take 24 bytes for each link of the forest and one a vertex once the forest is there. By then all of a list stays
- * taken but for the numbers of later parts: 4 bytes a vertex are those of the first. `after` takes all of that: its first part
- * has links between two vertices, and its second joins all others.
+ * Indices need 24 bytes for each link of the forest and one byte per vertex after the forest is found. The blocks of the list
+ * are still there then, except the numbers of later parts: 4 bytes per vertex are those of the first part. `after` needs all of
+ * this: its first part has links between two vertices, and its second part joins all others.
  *
- * Labels take 29 bytes a link and 4 a vertex as a list does, then 4 for each component and 4 a vertex for the labels. A forest
- * has as many components as it has vertices more than links: so that is 25 bytes a link and 12 a vertex. Links that contain a
- * cycle take 29 a link until it is found.
+ * Labels need 29 bytes per link and 4 per vertex as a list does, then 4 for each component and 4 per vertex for the labels. A
+ * forest has one component for each vertex that it has more than links, so that is 25 bytes per link and 12 per vertex. Links
+ * that contain a cycle need 29 per link until it is found.
  *
  * A_LINK, A_VERTEX, A_BYTE, PLACED_LINK, PLACED_VERTEX, MERGED_LINK, MERGED_VERTEX and MORE are the figures of
- * include/boruvka.h. It is linked with --wrap=malloc, --wrap=realloc and --wrap=free. */
+ * include/boruvka.h. The program is linked with --wrap=malloc, --wrap=realloc and --wrap=free. */
 #include <boruvka.h>
 #include <inttypes.h>
 #include <stdio.h>
@@ -54,7 +53,7 @@ static void wrong(const char *what, int line) {
     exit(1);
 }
 
-/* Before each block stands its size. */
+/* The size of each block is stored before it. */
 static void *counted(unsigned char *block, size_t size) {
     if (block == 0) {
         return 0;
@@ -82,7 +81,7 @@ void __wrap_free(void *block) {
     }
 }
 
-/* What a block grows by counts, as where it stays in its place. */
+/* A growing block counts only what it grows by, as if it grew in place. */
 void *__wrap_realloc(void *block, size_t size) {
     if (block == 0) {
         return __wrap_malloc(size);
@@ -142,7 +141,7 @@ static void put_grid(struct graph *graph, uint64_t *seed) {
     }
 }
 
-/* The solver tells the weight up to which links are light by every so many of them. All others here are lighter than these. */
+/* The solver samples every so many links to choose the weight up to which links are light. All others are lighter than these. */
 static void put_late(struct graph *graph) {
     const size_t step = graph->m / 256 + 1, last = (graph->n / step + 1) * step;
     uint32_t at = 2;
@@ -220,8 +219,8 @@ static struct graph graph_of(const char *shape, uint32_t n, size_t m) {
     return graph;
 }
 
-/* What a call answers within so many bytes, or with malloc if there is no block; the links or the text go to `out`. */
-typedef int64_t answer_of(const struct graph *graph, void *block, size_t size, void *out);
+/* The result of a call in so many bytes, or with malloc if there is no block. The links or the text go to `out`. */
+typedef int64_t result_of(const struct graph *graph, void *block, size_t size, void *out);
 
 static int64_t of_links(const struct graph *graph, void *block, size_t size, void *out) {
     memcpy(out, graph->links, graph->m * sizeof *graph->links);
@@ -258,7 +257,7 @@ static int64_t of_labels(const struct graph *graph, void *block, size_t size, vo
                       : boruvka_labels_within((struct boruvka_memory){block, size}, graph->forest, graph->count, out, graph->n);
 }
 
-static void tell(const struct graph *graph, answer_of *answer, size_t out_size, size_t told) {
+static void tell(const struct graph *graph, result_of *answer, size_t out_size, size_t told) {
     unsigned char *out = block_of(out_size), *wanted = block_of(out_size);
     live = peak = 0;
     const int64_t count = answer(graph, 0, 0, wanted);

@@ -1,6 +1,5 @@
-"""The programs around the proofs, over small repositories with stand-ins for `rt`: that the gate fails if a part of it ends
-ill, what it keeps for a release, that nothing is proved over a crate that isn't, and which wrong bodies are counted as
-refused."""
+"""The scripts around the proofs, in small repositories with stand-ins for `rt`: `make test` fails if a part of it fails, it
+keeps a record for a release, no crate is proved before those that it depends on, and wrong bodies are counted correctly."""
 import collections
 import json
 import os
@@ -46,25 +45,25 @@ class Folder:
             return it.read()
 
     def commit(self):
-        """Commits all of it, and answers the commit."""
+        """Commits everything, and returns the commit."""
         git = ["git", "-C", self.room, "-c", "user.name=a name", "-c", "user.email=", "-c", "commit.gpgsign=false"]
         for words in [["init", "-q"], ["add", "-A"], ["commit", "-q", "-m", "all"]]:
             subprocess.run([*git, *words], check=True, timeout=SECONDS)
         return subprocess.run([*git, "rev-parse", "HEAD"], check=True, capture_output=True, text=True, timeout=SECONDS).stdout.strip()
 
 
-# ---- the gate
+# ---- make test
 
 
 class Gated(Folder):
-    """One with the gate alone, and a program that was built."""
+    """A repository with only tests/gate.py, and a built program."""
 
     def __init__(self, room):
         super().__init__(room, ["tests/gate.py", "tools/record.py", "tools/stamp.py", "tools/crates.py", "tools/toolchain.py"])
         self.put_program("crates/boruvka/out/boruvka", "exit 1")
 
     def run(self, of_ci, of_program, of_web=("0", "0 passed, 0 failed")):
-        """Status and lines of the gate, when `rt` prints these lines and ends with this status, and then the two of tests/."""
+        """Returns the exit status and the lines of tests/gate.py, if `rt`, program.py and web.py print and exit like this."""
         shown = " ".join(f"'{it}'" for it in of_ci[1:])
         self.put_program("bin/rt", f"[ \"$*\" = ci ] || exit 9\nprintf '%s\\n' {shown}\nexit {of_ci[0]}")
         for name, (status, *lines) in [("program", of_program), ("web", of_web)]:
@@ -75,7 +74,7 @@ class Gated(Folder):
         return ended.returncode, ended.stdout.splitlines()
 
     def expect(self, of_ci, of_program, status, last, *of_web):
-        """The status and the last line, and no line of results before it but tests/program.py's."""
+        """Expects this status and last line, and no other line of results."""
         found = self.run(of_ci, of_program, *of_web)
         results = [it for it in found[1] if re.fullmatch(r"\d+ passed, \d+ failed", it)]
         before = [it for it in of_program[1:] if re.fullmatch(r"\d+ passed, \d+ failed", it)]
@@ -85,7 +84,7 @@ class Gated(Folder):
 
 
 @case
-def the_gate_fails_if_a_part_ends_ill_or_tells_nothing(room):
+def make_test_fails_if_a_part_fails_or_reports_nothing(room):
     it = Gated(room)
     passed, program = ["0", "rt: all is proved", "12 passed, 0 failed"], ["0", "3 passed, 0 failed"]
     expect(it.expect(passed, program, 0, "15 passed, 0 failed")[:1], ["rt: all is proved"])
@@ -104,7 +103,7 @@ def the_gate_fails_if_a_part_ends_ill_or_tells_nothing(room):
 
 
 @case
-def the_gate_says_last_what_was_skipped(room):
+def make_test_lists_last_what_was_skipped(room):
     it = Gated(room)
     passed = ["0", "12 passed, 0 failed"]
     program = ["0", "program: one: ok, 0.1 s", "program: two: skipped: there is no fish", "program: three: skipped: no Python has numpy", "3 passed, 0 failed"]
@@ -115,7 +114,7 @@ def the_gate_says_last_what_was_skipped(room):
 
 
 @case
-def the_gate_keeps_what_a_commit_passed(room):
+def make_test_records_what_a_commit_passed(room):
     if not shutil.which("git"):
         raise Skipped("there is no git")
     it = Gated(room)
@@ -132,7 +131,7 @@ def the_gate_keeps_what_a_commit_passed(room):
 
 
 @case
-def the_gate_puts_back_what_was_built(room):
+def make_test_restores_what_was_built(room):
     it = Gated(room)
     it.put("crates/boruvka_c/out/libboruvka.so.1", "an old one")
     it.put("crates/boruvka_within/out/boruvka.wasm", "a module")
@@ -168,7 +167,7 @@ def an_interrupted_run_says_so_in_one_line(room):
 
 
 class Begun(Folder):
-    """One with .ci/run alone, and stand-ins for what it calls; `calls` has the calls of apt-get."""
+    """A repository with only .ci/run, and stand-ins for what it calls. `calls` has the calls of apt-get."""
 
     def __init__(self, room):
         super().__init__(room, [".ci/run"])
@@ -193,7 +192,7 @@ class Begun(Folder):
                 os.symlink(shutil.which(name), f"{self.room}/bin/{name}")
 
     def run(self):
-        """The lines that it prints, the last of them of `make`, and the calls of apt-get."""
+        """Returns the lines that it prints, the last of which is printed by `make`, and the calls of apt-get."""
         self.put("calls", "")
         env = {"PATH": f"{self.room}/bin", "PYTHON": f"{self.room}/bin/python"}
         ended = subprocess.run([f"{self.room}/.ci/run"], env=env, stdin=subprocess.DEVNULL, capture_output=True, text=True, timeout=SECONDS, check=False)
@@ -215,10 +214,10 @@ def what_cases_would_skip_is_installed(room):
     modules = ("scipy", "sklearn", "pandas", "matplotlib", "pytest", "psycopg2", "gdal", "dask", "distributed", "networkx", "mypy")
     lacking = ["fish", "chromium-driver", "webkit2gtk-driver", "libwebkit2gtk-4.1-0", "node-typescript", *(f"python3-{name}" for name in modules)]
     lacking += ["postgresql-16-pgrouting"]
-    expect(it.run(), ([f"installs {' '.join(lacking)}"], ["update", *lacking]))
-    # no network, a package that isn't known, and no apt-get: the gate runs all the same
+    expect(it.run(), ([f"installing {' '.join(lacking)}"], ["update", *lacking]))
+    # without a network, with an unknown package, and without apt-get, `make test` runs anyway
     it.put_apt_get("exit 100")
-    expect(it.run(), ([f"installs {' '.join(lacking)}", *(f"{name} can't be installed here" for name in lacking)], ["update", *lacking]))
+    expect(it.run(), ([f"installing {' '.join(lacking)}", *(f"{name} can't be installed here" for name in lacking)], ["update", *lacking]))
     it.put_apt_get('case "$*" in *fish) exit 100;; esac')
     expect(it.run()[0][1:], ["fish can't be installed here"])
     os.remove(f"{room}/bin/pg_config")
@@ -231,7 +230,7 @@ def what_cases_would_skip_is_installed(room):
 
 
 class Made(Folder):
-    """One with the Makefile and its tools, and libraries that were built."""
+    """A repository with the Makefile and its tools, and built libraries."""
 
     def __init__(self, room):
         tools = [f"tools/{it}" for it in os.listdir(f"{ROOT}/tools") if it.endswith(".py")]
@@ -242,7 +241,7 @@ class Made(Folder):
             os.utime(f"{room}/crates/boruvka_c/out/{name}", (0, 0))
 
     def make(self, target, rt):
-        """Status, standard output and standard error, with this command for `rt`."""
+        """Returns exit status, standard output and standard error, with this command as `rt`."""
         env = {it: word for it, word in os.environ.items() if it not in ("MAKEFLAGS", "MAKELEVEL", "MFLAGS")}
         ended = subprocess.run(["make", "-C", self.room, "--no-print-directory", target], env={**env, "RT": rt}, capture_output=True, text=True, timeout=SECONDS, check=False)
         return ended.returncode, ended.stdout, ended.stderr
@@ -260,7 +259,7 @@ def what_needs_the_toolchain_says_so(room):
             status, output, errors = it.make(target, rt)
             told = [line for line in errors.splitlines() if not line.startswith("make: ")]
             expect((target, status != 0, told, output), (target, True, [wanted], "0 passed, 1 failed\n" if target == "test" else ""))
-    # nothing that was built is lost by it
+    # nothing that was built is lost
     expect(sorted(os.listdir(f"{room}/crates/boruvka_c/out")), ["libboruvka.a", "libboruvka.so"])
 
 
@@ -288,7 +287,7 @@ def what_a_library_needs_is_looked_for_first(room):
         ended = subprocess.run(["make", "-C", room, "lib"], env={"PATH": f"{room}/bin", "RT": f"{room}/bin/rt"}, capture_output=True, text=True, timeout=SECONDS, check=False)
         expect((name, ended.returncode != 0, wanted in ended.stderr), (name, True, True))
         os.symlink(shutil.which(name), f"{room}/bin/{name}")
-    # the toolchain was asked for its release alone
+    # the toolchain was only asked for its release
     expect(it.read("calls"), "called\n" * 3)
 
 
@@ -312,11 +311,11 @@ def a_try_has_the_forest_of_the_example(_room):
     expect((ended.returncode, ended.stdout[: len(SMALL_FOREST)], is_told), (0, SMALL_FOREST, True))
 
 
-# ---- what is proved before what
+# ---- tools/prove.py
 
-# It notes each call in CALLS: its words and its crate. A crate is proved where what stands below it was built beside it, and
-# BAD doesn't name it; then it has out/rlib. Where MEET names crates, each of those waits until all of them are under way.
-# `run` writes what it is given to out/ran.
+# It appends each call to CALLS: its arguments and its crate. A crate is proved if those that it depends on were built next to
+# it, and BAD doesn't name it; then it gets out/rlib. If MEET names crates, each of them waits until all have started. `run`
+# writes its arguments and its input to out/ran.
 RT = r"""
 import os, re, sys, time
 if sys.argv[1] == "version":
@@ -351,7 +350,7 @@ CRATES = "# a comment\nlow:\nleft: low\nright: low\nprogram: left right\narchive
 
 
 class Chain(Folder):
-    """One with a program and a static library over three libraries, and one more."""
+    """A repository with a program and a static library over three libraries, and one more library."""
 
     def __init__(self, room):
         super().__init__(room, ["tools/prove.py", "tools/crates.py", "tools/toolchain.py"])
@@ -364,7 +363,7 @@ class Chain(Folder):
         self.put("crates/program/stdin", "what it reads\n")
 
     def run(self, words, **more):
-        """Status, standard error, and each call of `rt`, without the number of its processes."""
+        """Returns exit status, standard error, and each call of `rt`, without the number of its processes."""
         self.put("calls", "")
         env = {**os.environ, "RT": f"'{sys.executable}' '{self.room}/rt.py'", "CALLS": f"{self.room}/calls", **more}
         words = [sys.executable, f"{self.room}/tools/prove.py", "--jobs", "2", *words]
@@ -374,14 +373,14 @@ class Chain(Folder):
         return ended.returncode, ended.stderr, [" ".join([it[0], it[-1]]) for it in calls]
 
     def built(self):
-        """The crates that have been built, where they stand; and that no room is left."""
+        """Returns the crates that were built in their folders. Expects that no build directory is left."""
         crates = f"{self.room}/crates"
         expect([it for it, folders, _ in os.walk(self.room) if "rooms" in folders], [])
         return {it for it in os.listdir(crates) if os.path.isfile(f"{crates}/{it}/out/rlib/{it}")}
 
 
 @case
-def a_program_and_a_static_library_come_after_what_they_stand_on(room):
+def a_program_and_a_static_library_come_after_their_dependencies(room):
     it = Chain(room)
     status, told, calls = it.run(["program"], MEET="left right")
     expect((status, calls[:1], sorted(calls[1:3]), calls[3:]), (0, ["lib low"], ["lib left", "lib right"], ["run program"]))
@@ -392,7 +391,7 @@ def a_program_and_a_static_library_come_after_what_they_stand_on(room):
     expect(said[:2], ["proves 4 crates, then builds; 10 to 30 minutes on four processors, once", "0 of 4 crates proved, 0 min; at work on low"])
     status, _, calls = it.run(["archive"])
     expect((status, calls[-1:], "archive" in it.built()), (0, ["lib archive"], True))
-    # the library for C tells a time of its own
+    # the library for C has another estimate
     _, told, _ = it.run(["boruvka_c"])
     expect(told.splitlines()[0], "proves 3 crates, then builds; 5 to 15 minutes on four processors, once; 3 of them after `make run`")
 
@@ -416,7 +415,7 @@ def nothing_is_proved_over_a_crate_that_is_not(room):
     expect((status, sorted(calls)), (1, ["lib left", "lib low", "lib right"]))
     expect(told.endswith("a goal is left\nleft is not proved, so nothing was built\n"), True)
     expect(it.built() & {"left", "program"}, set())
-    # what was proved stays, and the next run goes on
+    # what was proved stays, and the next run continues
     expect("low" in it.built(), True)
     expect(it.run(["program"])[0], 0)
     expect(it.built(), {"low", "left", "right", "program"})
@@ -428,8 +427,8 @@ def nothing_is_proved_over_a_crate_that_is_not(room):
 
 # ---- wrong bodies
 
-# It judges each function of src/lib.rt by its body: right is `give(N)`, where its clause says N. It notes each check in
-# CALLS. Of a copy, it ends as ENDS says (a status and a last line).
+# It judges each function of src/lib.rt by its body: `give(N)` is right if the clause says N. It appends each check to CALLS. In
+# a copy, it ends as ENDS says (an exit status and a last line).
 PROVER = r"""
 import os, re, sys
 if sys.argv[1] == "version":
@@ -480,7 +479,7 @@ def turned(old, new, why="why: `one`: its clause refuses it\n", file="src/lib.rt
 
 
 class Bodies(Folder):
-    """One with the crates `small`, of three functions, and `other`, of one."""
+    """A repository with the crates `small`, which has three functions, and `other`, which has one."""
 
     def __init__(self, room):
         super().__init__(room, ["tests/wrong_bodies.py", "tools/crates.py", "tools/toolchain.py"])
@@ -493,7 +492,7 @@ class Bodies(Folder):
         self.put(f"crates/{crate}/{folder}/{name}.edit", text)
 
     def expect(self, status, lines, checks, words=("--jobs", "1"), **more):
-        """Runs it: its status, its lines but the one of its times (in any order, but the last), and the number of checks."""
+        """Returns its exit status, its lines without the one with times (sorted, except the last), and the number of checks."""
         self.put("calls", "")
         env = {**os.environ, "RT": f"'{sys.executable}' '{self.room}/prover.py'", "CALLS": f"{self.room}/calls", **more}
         words = [sys.executable, f"{self.room}/tests/wrong_bodies.py", *words]
@@ -523,7 +522,7 @@ def wrong_bodies_of_several_functions_share_a_copy(room):
 
 @case
 def each_wrong_body_can_be_tried(_room):
-    """As far as that is seen without the prover: `make wrong`, which the gate doesn't run, tries them."""
+    """Only what can be seen without the prover: `make wrong` tries them, but `make test` doesn't."""
     count = collections.Counter()
     for crate in crate_lines():
         texts = wrong_bodies.texts_of(f"{ROOT}/crates/{crate}")
@@ -536,9 +535,9 @@ def a_body_that_is_proved_survives(room):
     it = Bodies(room)
     it.put_edit("a", turned("give(1)", "give(7)"))
     it.put_edit("b", turned("give(2)", "passes()"))
-    # it is tried once more, alone
+    # it is tried again, alone
     it.expect(1, [f"small/a: refused: src/lib.rt:4:5: {GOAL}", "small/b: SURVIVED", "1 wrong bodies refused, 1 survived"], 3)
-    # what is said beside a verdict that all is proved refuses nothing
+    # if the verdict says that all is proved, other lines refuse nothing
     it.put_edit("a", turned("give(1)", "noted()"))
     os.remove(f"{room}/crates/small/wrong-bodies/b.edit")
     it.expect(1, ["small/a: SURVIVED", "0 wrong bodies refused, 1 survived"], 2)
@@ -566,12 +565,12 @@ def a_body_is_refused_by_its_closures_proof(room):
 
 
 @case
-def a_wrong_body_that_cannot_be_tried_is_told(room):
+def a_wrong_body_that_cannot_be_tried_is_reported(room):
     it = Bodies(room)
     right = turned("give(1)", "give(7)")
     for name, text, why in [
-        ("a", turned("give(9)", "give(7)"), "an old text doesn't stand once in its file"),
-        ("b", turned("give", "take"), "an old text doesn't stand once in its file"),
+        ("a", turned("give(9)", "give(7)"), "an old text doesn't occur exactly once in its file"),
+        ("b", turned("give", "take"), "an old text doesn't occur exactly once in its file"),
         ("c", turned("give(1)", "give(7)", why=""), "it has no line that says why"),
         ("d", turned("give(1)", "give(7)", file="src/gone.rt"), "there is no file src/gone.rt of code"),
         ("e", "why: `one`: its clause\nfile: src/lib.rt\nnew: give(7)\n", "a new text has no old one before it"),
@@ -584,7 +583,7 @@ def a_wrong_body_that_cannot_be_tried_is_told(room):
     it.put_edit("b", right, folder="wrong_bodies")
     it.put_edit("c", right, crate="third")
     told = ["small/wrong-bodies/a.edits: BAD EDIT: its name doesn't end in .edit"]
-    told += [f"{it}.edit: BAD EDIT: it stands in no folder whose edits are tried" for it in ("small/wrong_bodies/b", "third/wrong-bodies/c")]
+    told += [f"{it}.edit: BAD EDIT: it is in a folder whose edits are not tried" for it in ("small/wrong_bodies/b", "third/wrong-bodies/c")]
     it.expect(1, [*told, "3 could not be tried", "0 wrong bodies refused, 0 survived"], 1)
     it.expect(2, ["tests/wrong_bodies.py: crates.txt has no crate third"], 0, ["third"])
 
@@ -616,9 +615,9 @@ def the_crates_that_changed_since_a_commit_are_tried(room):
     it.expect(2, ["tests/wrong_bodies.py: git knows no commit nowhere"], 0, ["--since", "nowhere"])
 
 
-# ---- shorter proofs
+# ---- tools/shorten.py
 
-# It proves each line that doesn't search for what is hard, and notes each check in CALLS. A last check ends as LAST says.
+# It proves each line that doesn't search for `hard`, and appends each check to CALLS. A last check ends as LAST says.
 SEARCHER = r"""
 import os, sys
 with open(os.environ["CALLS"], "a", encoding="utf-8") as calls:
@@ -668,7 +667,7 @@ by_cases a1 = search arith
 
 
 class Proofs(Folder):
-    """One with a crate of three lemmas that are written out, of which a search proves two."""
+    """A repository with a crate of three lemmas that are written out. A search proves two of them."""
 
     def __init__(self, room):
         super().__init__(room, ["tools/shorten.py", "tools/crates.py", "tools/toolchain.py"])
@@ -677,7 +676,7 @@ class Proofs(Folder):
         self.put("crates/small/proofs/Small.antt", LONG)
 
     def run(self, *words, **more):
-        """Status, standard output and error of the tool, and the lines of the proof file and of the checks."""
+        """Returns exit status, standard output and standard error, and the lines of the proof file and of the checks."""
         self.put("calls", "")
         env = {**os.environ, "RT": f"'{sys.executable}' '{self.room}/searcher.py'", "CALLS": f"{self.room}/calls", **more}
         words = [sys.executable, f"{self.room}/tools/shorten.py", *words]
@@ -690,17 +689,17 @@ def proofs_that_a_search_finds_get_shorter(room):
     it = Proofs(room)
     told = "small, check 1: 2 of 3 edits kept, 3 lines fewer\nsmall, check 1: 1 lemmas taken out, 0 needed\n"
     expect(it.run("small"), (0, "small: 2 of 3 edits, 1 lemmas, 7 of 20 lines gone, proved\n", told, SHORT, 3))
-    # nothing is left but what is hard
+    # only the hard one is left
     expect(it.run("small")[1:2], ("small: 0 of 1 edits, 0 lemmas, 0 of 13 lines gone, proved\n",))
     expect(it.run("large")[:3], (1, "", "tools/shorten.py: crates.txt has no crate large\n"))
 
 
 @case
-def what_the_last_check_refuses_is_put_back(room):
+def what_the_last_check_rejects_is_undone(room):
     it = Proofs(room)
     status, said, told, text, _ = it.run("small", LAST="logic=not-proved functions=1")
     expect((status, said, text), (1, "small: 2 of 3 edits, 1 lemmas, 0 of 20 lines gone, NOT PROVED, put back\n", LONG))
     expect(told.endswith("logic=not-proved functions=1\n"), True)
-    # nor is anything left of a check without a verdict
+    # a check without a verdict leaves nothing either
     it.put("searcher.py", "print('no room is left')")
     expect(it.run("small")[:4], (1, "", "tools/shorten.py: no verdict on small:\nno room is left\n\n", LONG))

@@ -1,4 +1,4 @@
-"""Refused memory: each allocation in turn, alone and with all that follow; little address space."""
+"""Failing allocations: each in turn, alone and with all that follow; and small address spaces."""
 import re
 import resource
 
@@ -7,20 +7,20 @@ from cases.workers import healthy_report, over
 
 
 def refused(room, words, source, first, last, size=0):
-    """What the program did with the allocations from the first to the last refused, and how many were. Those of fewer
-    bytes than the size aren't counted."""
+    """Runs the program with the allocations from the first to the last failing, and returns its result and how many failed.
+    Allocations of fewer bytes than the size aren't counted."""
     environment = {"REFUSE_FIRST": str(first), "COUNT_FROM": str(size), **({"REFUSE_LAST": str(last)} if last else {})}
     found, told = told_by(room, [Program.path, *words], source, environment, library="refusing")
     return found, len(told)
 
 
-def each_refused(room, words, source, output, errors, status=0):
-    """Refuses each allocation in turn, alone and with all that follow, until none is left to refuse."""
+def each_fails(room, words, source, output, errors, status=0):
+    """Makes each allocation fail in turn, alone and with all that follow, until there are no more."""
     for is_alone in (False, True):
         first = 1
         while True:
             found, count = refused(room, words, source, first, first if is_alone else None)
-            # a refused growth may be made good by a smaller one
+            # a smaller growth may succeed after one that failed
             if not count or is_alone and found[0] == status:
                 expect(found, status, output, errors)
             else:
@@ -32,9 +32,9 @@ def each_refused(room, words, source, output, errors, status=0):
             raise AssertionError(f"only {first - 1} allocations were refused: is the library preloaded?")
 
 
-def each_refused_over_workers(room, source, output, workers, shards, size=0, fewest=50):
-    """The same over workers: one that finds no memory is left out, or its line closed, and then the run goes on. Of
-    allocations of the size or more there are at least the fewest."""
+def each_fails_over_workers(room, source, output, workers, shards, size=0, fewest=50):
+    """Does the same over workers. If a worker runs out of memory, it is left out or its line is closed, and the run continues.
+    At least `fewest` allocations have the size or more."""
     words = [*over(workers, shards), "--report"]
     for is_alone in (False, True):
         first = 1
@@ -57,41 +57,41 @@ def expect_right_or_no_memory(found, output, workers, shards):
 
 
 @case
-def the_first_allocation_refused(room):
+def the_first_allocation_fails(room):
     found, count = refused(room, ["--plain"], SMALL_NET, 1, None)
     expect((found[0], found[1], found[2]), 4, b"", NO_MEMORY)
     expect((count > 0, b"", b""), True, b"", b"")
 
 
 @case
-def each_allocation_of_a_run_refused(room):
-    each_refused(room, ["--plain", "--report"], SMALL_NET, SMALL_FOREST, SMALL_REPORT)
+def each_allocation_of_a_run_fails(room):
+    each_fails(room, ["--plain", "--report"], SMALL_NET, SMALL_FOREST, SMALL_REPORT)
 
 
 @case
-def each_allocation_of_a_longer_run_refused(room):
+def each_allocation_of_a_longer_run_fails(room):
     file, text = drawn_graph(5, 800, 3000)
-    each_refused(room, ["--plain"], file, text, b"")
+    each_fails(room, ["--plain"], file, text, b"")
 
 
 @case
-def each_allocation_of_a_named_file_refused(room):
+def each_allocation_of_a_named_file_fails(room):
     name = written(f"{room}/net.gr", SMALL_NET)
-    each_refused(room, ["--plain", name], b"", SMALL_FOREST, b"")
+    each_fails(room, ["--plain", name], b"", SMALL_FOREST, b"")
 
 
 @case
-def each_allocation_of_a_run_over_workers_refused(room):
-    each_refused_over_workers(room, SMALL_NET, SMALL_FOREST, 2, 4)
-    each_refused_over_workers(room, SMALL_NET, SMALL_FOREST, 0, 2)
+def each_allocation_of_a_run_over_workers_fails(room):
+    each_fails_over_workers(room, SMALL_NET, SMALL_FOREST, 2, 4)
+    each_fails_over_workers(room, SMALL_NET, SMALL_FOREST, 0, 2)
     # (with weights of 64 bits)
-    each_refused_over_workers(room, *drawn_graph(9, 6, 9, 2**40), 2, 2)
+    each_fails_over_workers(room, *drawn_graph(9, 6, 9, 2**40), 2, 2)
 
 
 @case
-def a_worker_that_finds_no_memory_is_given_up(room):
-    # each allocation of its thread is refused alone: its line is closed, but for the few that a scan does without, and
-    # the run goes on (which number an allocation has differs from run to run)
+def a_worker_that_runs_out_of_memory_is_left_out(room):
+    # each allocation of its thread fails alone. Then its line is closed, unless a scan can do without that allocation, and the
+    # run continues (the numbers of allocations differ from run to run)
     words = [Program.path, *over(1, 1), "--report"]
     closed, number, told = [], 1, b"x"
     while told:
@@ -104,20 +104,20 @@ def a_worker_that_finds_no_memory_is_given_up(room):
             closed.append(report.closed)
         number += 1
     if sum(closed) < 10 or closed.count(0) > sum(closed) // 2:
-        raise AssertionError(f"of a worker's allocations that were refused each closed so many lines: {closed}")
+        raise AssertionError(f"each failed allocation of a worker closed so many lines: {closed}")
 
 
 @case
-def each_large_allocation_of_a_run_by_threads_refused(room):
-    # (many vertices, and so many links of the forest that threads sort them)
+def each_large_allocation_of_a_run_by_threads_fails(room):
+    # (many vertices, and enough links of the forest for threads to sort them)
     file, text = drawn_graph(11, 2**17 + 1, 90_000)
     expect((text.count(b"\na ") > 2**16, b"", b""), True, b"", b"")
-    each_refused_over_workers(room, file, text, 2, 2, 2**19, 10)
+    each_fails_over_workers(room, file, text, 2, 2, 2**19, 10)
 
 
 @case
 def no_allocation_of_twice_the_largest_list(room):
-    # (of 4,096 answers, of 32 bytes each beside its offers)
+    # (for 4,096 answers of 32 bytes each, without the offers)
     words = [Program.path, *over(64, 4096)]
     more = {"REFUSE_ABOVE": str(2 * 4096 * 32 - 1)}
     found, told = told_by(room, words, SMALL_NET, more, library="refusing")
@@ -126,21 +126,21 @@ def no_allocation_of_twice_the_largest_list(room):
 
 
 @case
-def each_allocation_of_the_help_refused(room):
-    each_refused(room, ["--help"], b"", ran(["--help"])[1], b"")
+def each_allocation_of_the_help_fails(room):
+    each_fails(room, ["--help"], b"", ran(["--help"])[1], b"")
 
 
 @case
-def each_allocation_of_wrong_words_refused(room):
+def each_allocation_of_invalid_arguments_fails(room):
     more = b"\n\nFor more information, try '--help'.\n"
     workers = b"error: invalid value '65' for '--workers <N>': 65 is not in 0..=64"
     shards = b"error: invalid value '0' for '--shards <S>': 0 is not in 1..=4096"
-    each_refused(room, ["--workers", "65"], SMALL_NET, b"", workers + more, 2)
-    each_refused(room, ["--shards", "0"], SMALL_NET, b"", shards + more, 2)
+    each_fails(room, ["--workers", "65"], SMALL_NET, b"", workers + more, 2)
+    each_fails(room, ["--shards", "0"], SMALL_NET, b"", shards + more, 2)
 
 
 def in_space(size, words, source=b""):
-    """What the program did with so many bytes of address space."""
+    """Runs the program with so many bytes of address space, and returns its result."""
 
     def limit():
         resource.setrlimit(resource.RLIMIT_AS, (size, size))
@@ -149,7 +149,7 @@ def in_space(size, words, source=b""):
 
 
 def least_space_for_help():
-    """The least address space, in whole pages, in which the help is told."""
+    """Returns the least address space, in whole pages, in which the help is printed."""
     page = resource.getpagesize()
     short, enough = 0, 1 << 18
     while enough - short > 1:
@@ -162,7 +162,7 @@ def least_space_for_help():
 
 
 def grown_space(last):
-    """Thirty sizes of address space, from the least for the help to the last, which grow faster and faster."""
+    """Returns thirty growing sizes of address space, from the least for the help to the last."""
     least = least_space_for_help()
     return [least + (last - least) * step**2 // 29**2 for step in range(30)]
 
@@ -179,9 +179,9 @@ def little_address_space(_room):
 
 @case
 def no_more_memory_than_is_documented(room):
-    # of the table in docs/PERFORMANCE.md what `--plain` takes, and a run over workers, of which there is none: bytes a
-    # link, bytes a vertex, and what is taken beside. Threads take room for their stacks too: of 2^20 vertices alone there
-    # are some, whose stacks are small. Of many arcs a vertex `--plain` keeps some links.
+    # bytes per link and per vertex of `--plain` and of a run over no workers, from the table in docs/PERFORMANCE.md, and a
+    # constant. Threads also need address space for their stacks: only 2^20 vertices start threads here, with small stacks. If
+    # there are many arcs per vertex, `--plain` keeps only some links.
     rows = [(["--plain"], 45, 12), (over(0, 1), 32 + 12, 75)]
     beside = least_space_for_help() + 1_300_000
     one = b"p sp 1048576 1\na 1 1048576 7\n"
@@ -202,7 +202,7 @@ def no_more_memory_than_is_documented(room):
 
 
 def enough_space(words, source, text, most):
-    """A size of address space, at most 64 KiB more than the least, in which the program writes this text."""
+    """Returns a size of address space in which the program writes this text, at most 64 KiB more than the least."""
     short, enough = 0, most >> 16
     while enough - short > 1:
         middle = (short + enough) // 2
@@ -215,8 +215,8 @@ def enough_space(words, source, text, most):
 
 @case
 def threads_take_no_more_address_space_than_is_documented(room):
-    # beside what a run without threads needs. Of few vertices and many arcs the list of links is longer by threads; the last
-    # graph's list is then past a power of two, so that its room is twice as large
+    # compared with a run without threads. With few vertices and many arcs, threads make the list of links longer. The list of the
+    # last graph then exceeds a power of two, so that its buffer is twice as large
     with open(f"{ROOT}/SECURITY.md", encoding="utf-8") as it:
         told = re.search(r"With `--threads`, allow twice the memory of `--plain`, and (\d+) MB more\. For each further thread, allow one stack \(`ulimit -s`\) and (0\.\d) MB\.", it.read())
     beside, each, stack = int(told[1]) * 10**6, int(float(told[2]) * 10**6), 8 << 20
@@ -231,11 +231,11 @@ def threads_take_no_more_address_space_than_is_documented(room):
         alone = enough_space(["--plain", name], b"", text, 100 << 20)
         for threads in [2, 3, 4, 8]:
             documented = 2 * alone + beside + (threads - 1) * (stack + each)
-            # (what is enough may be too little with a little more, since another thread then starts)
+            # (a size may be enough and a slightly larger one not, since another thread starts then)
             for more in [0, 10**6, 3 * 10**6, 6 * 10**6, 10**7, 2 * 10**7, 4 * 10**7]:
                 found = ran(["--plain", "--threads", str(threads), name], preexec_fn=lambda space=documented + more: limit(space))
                 if found != (0, text, b""):
-                    raise AssertionError(f"{vertices} vertices, {threads} threads, {more} bytes more than is documented beside {alone}: {found!r:.300}")
+                    raise AssertionError(f"{vertices} vertices, {threads} threads, {more} bytes more than is documented, compared with {alone}: {found!r:.300}")
 
 
 @case
@@ -244,5 +244,5 @@ def little_address_space_for_workers(_room):
     for size in grown_space(1 << 30):
         found = in_space(size, [*over(2, 4), "--report"], file)
         expect_right_or_no_memory(found, text, 2, 4)
-    # in a gigabyte both workers have their threads
+    # in a gigabyte both workers start
     expect((Report(found[2]).alone, b"", b""), 0, b"", b"")

@@ -1,4 +1,4 @@
-"""What `--progress` tells standard error: how much was read, each 16 million bytes."""
+"""What `--progress` prints to standard error: how much was read, after every 16 million bytes."""
 import os
 import re
 import subprocess
@@ -33,24 +33,24 @@ def how_much_was_read_of_a_file(room):
 
 
 @case
-def nothing_is_told_unasked_or_of_a_short_file(_room):
+def nothing_is_shown_unasked_or_for_a_short_file(_room):
     for words in MODES:
         expect(ran(words, LONG_NET), 0, SMALL_FOREST, b"")
         expect(ran([*words, "--progress"], SMALL_NET), 0, SMALL_FOREST, b"")
-    # one byte less than the first step, and just that
+    # one byte less than the first step, and exactly that
     expect(ran(["--plain", "--progress"], (15_999_999 - len(SMALL_NET)) * b"\n" + SMALL_NET), 0, SMALL_FOREST, b"")
     told = b"read 16 MB\rread 16 MB\n"
     expect(ran(["--plain", "--progress"], (16_000_000 - len(SMALL_NET)) * b"\n" + SMALL_NET), 0, SMALL_FOREST, told)
 
 
 @case
-def a_fault_begins_a_line(_room):
-    # so that a log that is searched for lines of the program has it
+def an_error_begins_a_line(_room):
+    # so that a search in a log finds it as a line of the program
     malformed = 20_000 * COMMENT + b"x\n" + SMALL_NET
     for words in MODES:
         told = b"read 16 MB\r\nboruvka: line 20001: UnknownLine\n"
         expect(ran([*words, "--progress"], malformed), 1, b"", told)
-        # (nothing was told, or its line was ended)
+        # (nothing was shown, or its line was ended)
         expect(ran([*words, "--progress"], COMMENT + b"x\n"), 1, b"", b"boruvka: line 2: UnknownLine\n")
         # (it is reported one line past the end)
         file = LONG_NET[: -len(b"a 6 5 20\n")]
@@ -60,7 +60,7 @@ def a_fault_begins_a_line(_room):
 
 @case
 def a_failed_read_begins_a_line(room):
-    # 300 reads of 65,536 bytes are more than the first step; which line then follows is counted here
+    # 300 reads of 65,536 bytes are more than the first step; the line that follows is computed here
     name = written(f"{room}/long.gr", LONG_NET)
     line = LONG_NET[: 300 * 65_536].count(b"\n") + 1
     environment = {"FAIL_CALL": "read", "FAIL_NUMBER": "301"}
@@ -87,7 +87,7 @@ def a_standard_error_that_is_closed_or_full(room):
     with open("/dev/full", "wb") as full, open(name, "rb") as source:
         ended = subprocess.run(words, stdin=source, stdout=subprocess.PIPE, stderr=full, timeout=60)
     expect((ended.returncode, ended.stdout, b""), 0, SMALL_FOREST, b"")
-    # whoever read it went away
+    # its reader has closed it
     reader, writer = os.pipe()
     os.close(reader)
     try:

@@ -1,6 +1,6 @@
-/* A list that wants more than 64 MiB, within these and within four times as many. Vertex v is joined to the next one by a
- * weight of its own below 2^32, and to the one after that by a greater weight: so the forest is the path, and its lowest ends
- * are known by their weights. A wrong answer ends it by status 1. */
+/* A list that needs more than 64 MiB, in 64 MiB and in four times as much. Vertex v is linked to the next one with a weight of
+ * its own below 2^32, and to the one after that with a greater weight. So the forest is the path, and the weight of a link
+ * gives its lower endpoint. If a result is wrong, the program exits with status 1. */
 #include <boruvka.h>
 #include <stdio.h>
 #include <stdlib.h>
@@ -14,7 +14,7 @@ static void wrong(const char *what, int line) {
     exit(1);
 }
 
-/* an odd factor turns different numbers into different ones */
+/* an odd factor maps different numbers to different numbers */
 static int64_t weight_of(uint32_t v) { return v * UINT32_C(2654435761); }
 
 static void fill(struct boruvka_link *links) {

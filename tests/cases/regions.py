@@ -1,4 +1,4 @@
-"""Large memory that is given up to the library libboruvka_within.a."""
+"""Large caller-provided memory for the library libboruvka_within.a."""
 from cases.embedding import INCLUDE, compiler
 from cases.running import TESTS, case, expect, run
 from cases.within import library

@@ -1,5 +1,5 @@
-"""The version, `make install`, the heads of examples/embed, completions, and the packages of `make dist`, which are made
-out of the built program and libraries, unpacked into empty folders and tried there."""
+"""The version, `make install`, the commands in the heads of examples/embed, completions, and the packages of `make dist`. These
+are made from the built program and libraries, and tested after unpacking them into empty folders."""
 import base64
 import gzip
 import hashlib
@@ -32,10 +32,10 @@ TEXTS = [
     *(f"docs/{it}.md" for it in ("ARCHITECTURE", "DECISIONS", "GR_FORMAT", "HEADLINE", "PERFORMANCE", "PROMISES", "PROTOCOL", "RECIPES")),
     "examples/small.gr", "examples/roads.gr", *(f"examples/embed/forest.{it}" for it in ("c", "cpp", "py", "rs")), "examples/embed/within.c",
 ]
-AT = 1_700_000_000  # 2023-11-14, in place of the commit's time
+AT = 1_700_000_000  # 2023-11-14, instead of the commit's time
 SET = ("PREFIX", "BINDIR", "LIBDIR", "INCLUDEDIR", "MANDIR", "DOCDIR", "PAGEDIR", "BASHDIR", "ZSHDIR", "FISHDIR", "PKG_CONFIG_PATH", "LD_LIBRARY_PATH")
 PLAIN = {it: word for it, word in ENVIRONMENT.items() if it not in SET}
-KIT = {**PLAIN, "SOURCE_DATE_EPOCH": str(AT), "RT": "echo a-kit", "UNPROVED": "1"}  # what says `a-kit version`
+KIT = {**PLAIN, "SOURCE_DATE_EPOCH": str(AT), "RT": "echo a-kit", "UNPROVED": "1"}  # its command `version` prints `a-kit version`
 SHELLS = {"bash": "completions/boruvka.bash", "zsh": "completions/_boruvka", "fish": "completions/boruvka.fish"}
 NUMBERS = {"--workers": [str(2**it) for it in range(7)] + ["0"], "--shards": [str(2**it) for it in range(13)], "--threads": [str(2**it) for it in range(7)]}
 
@@ -46,7 +46,7 @@ def is_so(found, wanted):
 
 
 def needs(name):
-    """The command of this name, without which the case is skipped."""
+    """Returns the command of this name. If it isn't installed, the case is skipped."""
     if not shutil.which(name):
         raise Skipped(f"there is no {name}")
     return name
@@ -57,7 +57,7 @@ def major():
 
 
 def files_below(root):
-    """What lies below a folder, without the folders: where links lead to, and None of files."""
+    """Maps the paths of everything below a folder except folders to the targets of links, and None for files."""
     found = {}
     for at, _, files in os.walk(root):
         for name in files:
@@ -70,7 +70,7 @@ PAGE_AND_MODULE = ["boruvka.html", "boruvka.wasm"]
 
 
 def installed_program(bin_="bin", share="share", man="share/man", zsh="share/zsh/site-functions"):
-    """What an install puts below its prefix of a program."""
+    """Returns what installing the program puts below the prefix."""
     return dict.fromkeys([
         f"{bin_}/boruvka",
         f"{man}/man1/boruvka.1",
@@ -81,7 +81,7 @@ def installed_program(bin_="bin", share="share", man="share/man", zsh="share/zsh
 
 
 def installed_libraries(lib="lib", include="include"):
-    """The same of the libraries."""
+    """Returns what installing the libraries puts there."""
     files = ["libboruvka.a", "libboruvka_within.a", f"libboruvka.so.{version()}"]
     files += [f"pkgconfig/{it}.pc" for it in ("boruvka", "boruvka_within")]
     files += [f"cmake/boruvka/{it}.cmake" for it in ("boruvka-config", "boruvka-config-version")]
@@ -95,13 +95,13 @@ def installed_libraries(lib="lib", include="include"):
 
 
 def installed(bin_="bin", lib="lib", include="include", share="share", man="share/man", zsh="share/zsh/site-functions", doc="share/doc/boruvka/"):
-    """The same of all that is built."""
+    """Returns what installing everything puts there."""
     more = [f"{share}/boruvka/{it}" for it in PAGE_AND_MODULE] + [f"{doc}{it}" for it in TEXTS]
     return {**installed_program(bin_, share, man, zsh), **installed_libraries(lib, include), **dict.fromkeys(more)}
 
 
 def expect_no_dead_links(root, doc, include):
-    """Each link of a document leads to a file, and those to the header and to other documents are there. Each picture is."""
+    """Each link of a document leads to a file. The links to the header and to other documents are there, and all pictures."""
     found = set()
     for path in (it for it in TEXTS if it.endswith(".md")):
         with open(f"{root}/{doc}{path}", encoding="utf-8") as it:
@@ -116,7 +116,7 @@ def expect_no_dead_links(root, doc, include):
 
 
 def make(*words, program=None, library=f"{LIBRARIES}/libboruvka", wasm=None):
-    """Status, standard output and standard error of make, which has to prove and build nothing."""
+    """Returns exit status, standard output and standard error of make, which mustn't prove or build anything."""
     files = {"PROGRAM": program or Program.path, "LIBRARY": library, "WASM": wasm or module()}
     names = [f"{name}={os.path.relpath(path, ROOT)}" for name, path in files.items()]
     told = run(["make", "-s", "-C", ROOT, *names, *words], env={**PLAIN, "RT": "false"})
@@ -126,7 +126,7 @@ def make(*words, program=None, library=f"{LIBRARIES}/libboruvka", wasm=None):
 
 
 def flags(folder, env=PLAIN, name="boruvka"):
-    """What pkg-config tells of the .pc file of a folder, its paths in their plain form; and its version."""
+    """Returns what pkg-config prints for the .pc file of a folder, with normalized paths, and its version."""
     env = {**env, "PKG_CONFIG_PATH": folder}
     told = subprocess.run(["pkg-config", "--cflags", "--libs", name], env=env, check=True, capture_output=True, text=True).stdout
     number = subprocess.run(["pkg-config", "--modversion", name], env=env, check=True, capture_output=True, text=True).stdout
@@ -135,13 +135,13 @@ def flags(folder, env=PLAIN, name="boruvka"):
 
 
 def expect_example(room, include, lib):
-    """The C example compiles against this header and these libraries and runs, with the static and the shared one."""
+    """The C example compiles with this header and runs with the static and with the shared library."""
     source = f"{EMBED}/forest.c"
     os.makedirs(room)
     expect(run([compiler(), f"-I{include}", "-o", f"{room}/static", source, f"{lib}/libboruvka.a"]), 0, b"", b"")
     expect(run([f"{room}/static"], env=PLAIN), 0, SMALL_FOREST, b"")
     expect(run([compiler(), f"-I{include}", "-o", f"{room}/shared", source, f"-L{lib}", "-lboruvka"]), 0, b"", b"")
-    # the program names the library by its first number alone
+    # the program names the library only with its first number
     with open(f"{room}/shared", "rb") as it:
         is_so(f"\0libboruvka.so.{major()}\0".encode() in it.read(), True)
     os.mkdir(f"{room}/lib")
@@ -150,7 +150,7 @@ def expect_example(room, include, lib):
 
 
 def expect_examples(room, doc, include, lib):
-    """The examples that are packed compile against the packed headers and libraries, and run."""
+    """The examples in the package compile with its headers and libraries, and run."""
     embed, flags_of = f"{doc}/examples/embed", ["-Wall", "-Wextra", "-Werror", f"-I{include}", "-o"]
     os.makedirs(room)
     for tool, words in [
@@ -179,7 +179,7 @@ def one_file_has_the_version(_room):
 
 
 @case
-def the_program_tells_the_version(_room):
+def the_program_prints_the_version(_room):
     for words in [["--version"], ["-V"], ["--plain", "--version"]]:
         expect(ran(words, SMALL_NET), 0, f"boruvka {version()}\n".encode(), b"")
 
@@ -219,7 +219,7 @@ def an_install_of_what_is_built(room):
     before = os.listdir(room)
     status, output, errors = make(f"PREFIX={room}/prefix", "install", program=none, library=none, wasm=none)
     is_so((status != 0, output, [it in errors for it in said], b"nothing was installed" in errors), (True, b"", [True] * 3, True))
-    # the static library alone
+    # only the static library
     shutil.copy(f"{LIBRARIES}/libboruvka.a", f"{room}/half.a")
     status, _, errors = make(f"PREFIX={room}/prefix", "install", program=none, library=f"{room}/half", wasm=none)
     is_so((status != 0, said[1] in errors, sorted(os.listdir(room))), (True, True, sorted([*before, "half.a"])))
@@ -229,7 +229,7 @@ def an_install_of_what_is_built(room):
 def an_install_copies_and_is_taken_away(room):
     libraries()
     prefix = f"{room}/a user's prefix"
-    # as old as can be: an install builds nothing anew
+    # as old as possible: an install doesn't build again
     program = shutil.copy(Program.path, f"{room}/program")
     os.utime(program, (0, 0))
     expect(make(f"PREFIX={prefix}", "install", program=program), 0, b"", b"")
@@ -241,7 +241,7 @@ def an_install_copies_and_is_taken_away(room):
     with open(f"{prefix}/share/man/man1/boruvka.1", encoding="utf-8") as it:
         is_so(f'" "boruvka {version()}" "User' in it.readline(), True)
     expect_no_dead_links(prefix, "share/doc/boruvka/", "include")
-    # once more over it, and a file of somebody else's
+    # once more over it, next to a file of somebody else
     written(f"{prefix}/lib/libboruvka_other.so", b"")
     expect(make(f"PREFIX={prefix}", "install", program=program), 0, b"", b"")
     expect(make(f"PREFIX={prefix}", "uninstall"), 0, b"", b"")
@@ -260,7 +260,7 @@ def an_install_into_folders_of_ones_own(room):
         is_so(it.read().splitlines()[:3], ["prefix=${pcfiledir}/../../..", "libdir=${prefix}/lib/x86", "includedir=/srv/include"])
     expect(make(*words, "uninstall"), 0, b"", b"")
     is_so(files_below(f"{room}/root"), {})
-    # a LIBDIR that lies elsewhere says nothing of where PREFIX is
+    # a LIBDIR outside PREFIX doesn't say where PREFIX is
     told = run([sys.executable, f"{ROOT}/tools/stamp.py", "boruvka.pc", "/opt/b", "/usr/lib", "/opt/b/include"], env=PLAIN)
     is_so(told[1].decode().splitlines()[:3], ["prefix=/opt/b", "libdir=/usr/lib", "includedir=${prefix}/include"])
     told_too = run([sys.executable, f"{ROOT}/tools/stamp.py", "boruvka.pc", "/a user/b", "/usr/lib", "/a user/b/include"], env=PLAIN)
@@ -278,7 +278,7 @@ def an_install_into_folders_of_ones_own(room):
 def an_installed_prefix_can_be_moved(room):
     libraries()
     needs("pkg-config")
-    # (pkg-config's older kin can't have a space there)
+    # (older versions of pkg-config can't have a space there)
     for old, new in [("first", "second")] + [("a prefix", "b prefix")] * bool(shutil.which("pkgconf")):
         expect(make(f"PREFIX={room}/{old}", "install"), 0, b"", b"")
         is_so(flags(f"{room}/{old}/lib/pkgconfig"), [f"-I{room}/{old}/include", f"-L{room}/{old}/lib", "-lboruvka"])
@@ -313,7 +313,7 @@ endforeach()
 
 @case
 def cmake_finds_the_libraries(room):
-    """In a prefix with a space in its path, which is moved before; and no version that isn't there."""
+    """In a prefix with a space in its path, which was moved. A version that isn't installed isn't found."""
     libraries()
     needs("cmake")
     needs("c++")
@@ -346,7 +346,7 @@ def cmake_finds_the_libraries(room):
 
 @case
 def cmake_finds_the_libraries_through_links(room):
-    """One from /lib to /usr/lib, where a search for /bin begins, and one from a prefix to libraries that lie elsewhere."""
+    """A link from /lib to /usr/lib, where a search for /bin begins, and a link from a prefix to libraries elsewhere."""
     libraries()
     needs("cmake")
     os.makedirs(f"{room}/root/usr/lib/x86_64-linux-gnu")
@@ -374,7 +374,7 @@ target_link_libraries(forest boruvka::boruvka)
 
 @case
 def the_heads_of_the_examples_say_how_to_run_them(room):
-    """Each paragraph of commands in a head, run as it stands there, over a PREFIX."""
+    """Each paragraph of commands in a head is run as it is, with a PREFIX."""
     libraries()
     prefix = f"{room}/prefix"
     expect(make(f"PREFIX={prefix}", "install"), 0, b"", b"")
@@ -389,7 +389,7 @@ def the_heads_of_the_examples_say_how_to_run_them(room):
             here = f"{room}/{name}{number}"
             os.makedirs(here)
             shutil.copy(f"{EMBED}/{name}", here)
-            # where no PREFIX is named the system finds the libraries
+            # without a PREFIX the system finds the libraries
             env = PLAIN if "PREFIX" in commands else {**PLAIN, "PKG_CONFIG_PATH": f"{prefix}/lib/pkgconfig", "LD_LIBRARY_PATH": f"{prefix}/lib"}
             expect(run(["sh", "-ec", commands.replace("PREFIX", prefix)], cwd=here, env=env), 0, SMALL_FOREST, b"")
     is_so(found, ["forest.c"] * 3 + ["forest.cpp", "forest.rs", "forest.py", "within.c"])
@@ -438,7 +438,7 @@ def completions_of_bash(_room):
 
 
 def shown_by_zsh(room, line, wanted):
-    """What zsh shows once TAB is pressed after a line, until all that is wanted is there or 20 seconds went by."""
+    """Returns what zsh shows when TAB is pressed after a line, until everything wanted is there or 20 seconds are over."""
     env = {**PLAIN, "TERM": "xterm", "HOME": room, "ZDOTDIR": room, "LC_ALL": "C"}
     child, terminal = pty.fork()
     if not child:
@@ -512,7 +512,7 @@ def completions_of_fish(room):
 
 
 def expect_page(room, share):
-    """A folder of a package has the module, and the page as `make page` packs it, with that module in it."""
+    """Expects the module in a folder of a package, and the page as `make page` packs it, with that module in it."""
     built = module()
     expect(run([sys.executable, f"{ROOT}/tools/page.py", built, f"{room}/page.html"]), 0, b"", b"")
     for name, path in zip(PAGE_AND_MODULE, [f"{room}/page.html", built], strict=True):
@@ -524,17 +524,17 @@ def expect_page(room, share):
 
 
 def has_postgres():
-    """Whether the extension for PostgreSQL can be built."""
+    """Returns whether the extension for PostgreSQL can be built."""
     return bool(shutil.which("pg_config")) and os.path.exists(run(["pg_config", "--pgxs"], env=PLAIN)[1].decode().strip())
 
 
 def packages():
-    """How many packages are made: a .tar.gz, a wheel, a .deb, one for Debian's Python, and one of the extension."""
+    """Returns how many packages are made: a .tar.gz, a wheel, a .deb, one for Debian's Python, and one of the extension."""
     return 2 + (2 + bool(has_postgres()) if shutil.which("dpkg-deb") else 0)
 
 
 def packed(into, env=KIT, **more):
-    """Makes the packages, and answers their bytes by their names."""
+    """Makes the packages, and maps their names to their bytes."""
     libraries()
     module()
     words = [sys.executable, f"{ROOT}/tools/dist.py", "--program", Program.path, "--libraries", LIBRARIES, into]
@@ -551,8 +551,8 @@ def packed(into, env=KIT, **more):
 
 
 def expect_proved(path):
-    """PROVED.txt tells the version, the commit, the kit and the gate."""
-    shape = r"boruvka (\S+)\ncommit: ([0-9a-f]{40,}|not known)(, with changes that no commit has)?\nkit: a-kit version\ngate \(make test\): (not known to have )?passed"
+    """PROVED.txt has the version, the commit, the toolchain and the result of `make test`."""
+    shape = r"boruvka (\S+)\ncommit: ([0-9a-f]{40,}|not known)(, with uncommitted changes)?\ntoolchain: a-kit version\nmake test: (not known to have )?passed"
     with open(path, encoding="utf-8") as it:
         text = it.read()
     if not re.match(shape, text) or text.split()[1] != version():
@@ -563,20 +563,20 @@ def expect_proved(path):
 def the_same_files_make_the_same_packages(room):
     first = packed(f"{room}/first")
     is_so(len(first), packages())
-    # other modes, another place and zone, another install's folders, and a second later
+    # with other modes, another folder and time zone, folders of another install, and a second later
     time.sleep(1.1)
     other = {**KIT, "TZ": "Asia/Tokyo", "LC_ALL": "C", "LIBDIR": "/elsewhere", "TMPDIR": f"{room}/longer"}
     os.mkdir(f"{room}/longer")
     is_so(packed(f"{room}/second", env=other, umask=0o077) == first, True)
-    # the time is the commit's, or the one that is set
+    # the time is that of the commit, or the one that is set
     later = packed(f"{room}/third", env={**KIT, "SOURCE_DATE_EPOCH": str(AT + 86400)})
     is_so([it for it in first if later[it] == first[it]], [])
 
 
 @case
 def times_that_no_package_can_have(room):
-    """They are refused before anything is packed."""
-    said = "SOURCE_DATE_EPOCH is %s, and a wheel has times from 1980 to 2106 alone"
+    """They are rejected before anything is packed."""
+    said = "SOURCE_DATE_EPOCH is %s, but the times in a wheel are from 1980 to 2106"
     for at, why in [("0", said), ("315532799", said), ("-5", said), ("4323283200", said), ("abc", "SOURCE_DATE_EPOCH isn't a whole number of seconds"), ("1.5", "SOURCE_DATE_EPOCH isn't a whole number of seconds")]:
         told = f"tools/dist.py: {why % at if '%' in why else why}\n".encode()
         expect(run([sys.executable, f"{ROOT}/tools/dist.py", f"{room}/packed"], env={**KIT, "SOURCE_DATE_EPOCH": at}), 1, b"", told)
@@ -587,7 +587,7 @@ def times_that_no_package_can_have(room):
 def the_packed_folder_is_whole_and_runs(room):
     name = f"boruvka-{version()}-x86_64-linux"
     content = packed(f"{room}/packed")[f"{name}.tar.gz"]
-    # a head without a name and a time
+    # a header without a name and a time
     is_so((content[:4], content[4:8]), (b"\x1f\x8b\x08\x00", bytes(4)))
     os.mkdir(f"{room}/empty")
     with tarfile.open(f"{room}/packed/{name}.tar.gz") as tar:
@@ -683,14 +683,14 @@ def the_package_of_python_says_what_it_needs(room):
     is_so([it for it in fields if it[0] in ("Version", "License", "License-File", "Requires-Python")],
           [("Version", number), ("License", "MIT OR Apache-2.0"), ("License-File", "LICENSE"), ("Requires-Python", ">=3.9")])
     is_so(("Classifier", "Programming Language :: Python :: 3.11") in fields, True)
-    # what its text sends to is in no wheel
+    # the files that its text links to aren't in a wheel
     is_so((re.findall(r"\]\([^()]+\)", text), text.startswith("# boruvka for Python\n")), ([], True))
     is_so(b".symtab" in library, False)
 
 
 @case
-def a_package_tells_what_the_gate_passed(room):
-    """In a small repository: the record of a pass counts for its commit alone."""
+def a_package_says_what_make_test_passed(room):
+    """In a small repository: the record of a `make test` that passed is valid only for its commit."""
     needs("git")
     libraries()
     built = module()
@@ -719,7 +719,7 @@ def a_package_tells_what_the_gate_passed(room):
         return output.decode().splitlines()
 
     def refused(why):
-        """Without UNPROVED=1 nothing is packed; and `make dist` says so before it proves."""
+        """Without UNPROVED=1 nothing is packed, and `make dist` says so before it proves."""
         shutil.rmtree(f"{top}/dist", ignore_errors=True)
         told = f"tools/dist.py: {why}\n".encode()
         for arguments in ([], ["--may"]):
@@ -732,15 +732,15 @@ def a_package_tells_what_the_gate_passed(room):
     changes = re.sub(r"^## \S+", f"## {version()}", text_of("CHANGELOG.md"), count=1, flags=re.M)
     written(f"{top}/CHANGELOG.md", changes.encode())
     committed(b"one\n")
-    refused("the gate (make test) isn't known to have passed on this commit: run it, or say UNPROVED=1")
+    refused("`make test` isn't known to have passed on this commit: run it, or set UNPROVED=1")
     first = run([*git, "rev-parse", "HEAD"])[1].decode().strip()
-    head = [f"boruvka {version()}", f"commit: {first}", "kit: a-kit version"]
-    passed = ["gate (make test): passed on this commit, with a-kit version", "    1 passed, 0 failed"]
-    unknown = ["gate (make test): not known to have passed on this commit; packed all the same, by UNPROVED=1"]
+    head = [f"boruvka {version()}", f"commit: {first}", "toolchain: a-kit version"]
+    passed = ["make test: passed on this commit, with a-kit version", "    1 passed, 0 failed"]
+    unknown = ["make test: not known to have passed on this commit; packed anyway, because UNPROVED=1 was set"]
     is_so(told(), head + unknown)
     gate()
     is_so(told(), head + passed)
-    # a package has it, and the commit's time
+    # a package has the record, and the commit's time
     os.makedirs(f"{top}/crates/boruvka_c/out")
     shutil.copy(Program.path, f"{top}/crates/boruvka/out/boruvka")
     for name in ("libboruvka.a", f"libboruvka.so.{version()}"):
@@ -756,20 +756,20 @@ def a_package_tells_what_the_gate_passed(room):
         member = tar.getmember(f"{name}/PROVED.txt")
         is_so(str(member.mtime), run([*git, "log", "-1", "--format=%ct"])[1].decode().strip())
         is_so(tar.extractfile(member).read().decode().splitlines(), head + passed)
-    # changes of a version to come
+    # changes of a coming version
     written(f"{top}/CHANGELOG.md", changes.replace("## ", "## Next\n- a change\n\n## ", 1).encode())
-    refused(f"CHANGELOG.md begins with Next, and {VERSION} has {version()}: bring them together, or say UNPROVED=1")
+    refused(f"CHANGELOG.md begins with Next, but {VERSION} has {version()}: make them equal, or set UNPROVED=1")
     written(f"{top}/CHANGELOG.md", changes.encode())
     is_so(told(), head + passed)
-    # files that no commit has, and another commit
+    # an uncommitted change, and another commit
     written(f"{top}/note", b"two\n")
-    is_so(told(), [head[0], f"{head[1]}, with changes that no commit has", head[2], *unknown])
+    is_so(told(), [head[0], f"{head[1]}, with uncommitted changes", head[2], *unknown])
     committed(b"two\n")
     is_so(told()[3:], unknown)
     gate()
     is_so(told()[3:], passed)
-    # a gate that didn't end, one over such files, and one while which the commit changed
-    expect(run([sys.executable, "-B", "-c", "import sys; sys.path.insert(0, 'tools'); import record; record.Gate()"], cwd=top), 0, b"", b"")
+    # a `make test` that didn't end, one with an uncommitted change, and one during which a file changed
+    expect(run([sys.executable, "-B", "-c", "import sys; sys.path.insert(0, 'tools'); import record; record.Run()"], cwd=top), 0, b"", b"")
     is_so(told()[3:], unknown)
     written(f"{top}/note", b"three\n")
     gate()

@@ -1,8 +1,8 @@
 """How the cases run the program, and what they compare.
 
-A case is a function whose name says what it shows; it is given a folder of its own, empty at first. Its statuses,
-standard outputs and standard errors are compared with what is written in it, and never with what the program said
-before. The forest of a drawn graph is computed here, by Kruskal's algorithm over Python's own sort.
+A case is a function that gets an empty folder of its own. Its name says what it tests. It compares exit statuses, standard
+output and standard error with what is written in it, never with earlier output of the program. The forest of a random graph
+is computed here, by Kruskal's algorithm over Python's own sort.
 """
 import os
 import random
@@ -25,11 +25,11 @@ CASES = []
 
 
 class Skipped(Exception):
-    """What a case tries isn't on this machine."""
+    """A case needs something that isn't on this machine."""
 
 
 class Program:
-    """The program that is tried; its path is set before the first case runs."""
+    """The program under test. Its path is set before the first case runs."""
 
     path = f"{ROOT}/crates/boruvka/out/boruvka"
 
@@ -40,21 +40,21 @@ def case(function):
 
 
 def run(words, source=b"", output=subprocess.PIPE, seconds=SECONDS, **more):
-    """Status, standard output and standard error. The source is bytes, which go in by a pipe, or an open file."""
+    """Returns exit status, standard output and standard error. The source is bytes for a pipe, or an open file."""
     given = {"input": source} if isinstance(source, bytes) else {"stdin": source}
     ended = subprocess.run(words, stdout=output, stderr=subprocess.PIPE, timeout=seconds, **given, **more)
     return ended.returncode, ended.stdout, ended.stderr
 
 
 def ran(words, source=b"", output=subprocess.PIPE, **more):
-    """The same of the program with these words."""
+    """Does the same for the program with these arguments."""
     return run([Program.path, *words], source, output, **more)
 
 
 def told_by(room, words, source, environment, library="failing", **more):
-    """What was run with tests/failing.c preloaded did, and what that library told: an `x` for each call that failed,
-    a `T` for each text for the user that went to a socket, and a `J` where a thread wasn't joined at the end. With
-    tests/refusing.c it is an `x` for each allocation that was refused."""
+    """Runs a command with tests/failing.c preloaded. Returns its result and what that library recorded: an `x` for each call
+    that failed, a `T` for each text for the user that went to a socket, and a `J` if a thread wasn't joined at the end. With
+    tests/refusing.c there is an `x` for each allocation that failed."""
     reader, writer = os.pipe()
     env = {**os.environ, "LD_PRELOAD": built(room, library), "TOLD": str(writer), "REFUSED": str(writer), **environment}
     try:
@@ -72,7 +72,7 @@ def expect(found, status, output, errors):
 
 
 def built(room, name):
-    """The library of tests/NAME.c, which is preloaded before the program; built once."""
+    """Returns the library of tests/NAME.c to preload, which is built once."""
     made = f"{room}/../{name}.so"
     if not os.path.exists(made):
         compiler = next((it for it in (os.environ.get("CC"), "cc", "gcc", "clang") if it and shutil.which(it)), None)
@@ -89,7 +89,7 @@ def written(path, source):
 
 
 def escaped(name):
-    """A file's name as the program shows it: bytes of control characters in hex digits. Which these are is Unicode's table."""
+    """Returns a file's name as the program shows it: with the bytes of control characters, as Unicode has them, in hex."""
     return "".join("".join(map("\\x{:02x}".format, it.encode())) if unicodedata.category(it) == "Cc" else it for it in name)
 
 
@@ -107,38 +107,38 @@ class Components:
         return v
 
     def join(self, u, v):
-        """Joins them, and answers whether they weren't joined before."""
+        """Joins them, and returns whether they weren't joined before."""
         u, v = self.root(u), self.root(v)
         self.parent[u] = v
         return u != v
 
 
 def forest_of(vertices, arcs):
-    """The links of the forest of these arcs (U, V, W), by Kruskal's algorithm: their keys, ascending."""
+    """Returns the forest of these arcs (U, V, W), by Kruskal's algorithm: the keys of its links, ascending."""
     components = Components(vertices)
     keys = sorted((w, min(u, v), max(u, v)) for u, v, w in arcs if u != v)
     return [key for key in keys if components.join(*key[1:])]
 
 
 def forest_text(vertices, links):
-    """The text of a forest of these keys."""
+    """Returns the text of a forest with these keys."""
     return (f"p sp {vertices} {len(links)}\n" + "".join(f"a {low} {high} {weight}\n" for weight, low, high in links)).encode()
 
 
 def file_of(vertices, arcs):
-    """A file with these arcs (U, V, W)."""
+    """Returns a file with these arcs (U, V, W)."""
     return (f"p sp {vertices} {len(arcs)}\n" + "".join(f"a {u} {v} {w}\n" for u, v, w in arcs)).encode()
 
 
 def drawn_graph(seed, vertices, arcs, most=50):
-    """A file with loops, repeats and equal weights, none further from 0 than `most`, and the text of its forest."""
+    """Returns a random file with loops, repeats and equal weights of at most `most` in size, and the text of its forest."""
     draw = random.Random(seed)
     rows = [(draw.randint(1, vertices), draw.randint(1, vertices), draw.randint(-most, most)) for _ in range(arcs)]
     return file_of(vertices, rows), forest_text(vertices, forest_of(vertices, rows))
 
 
 def total_of(text):
-    """What the links of a forest's text weigh together."""
+    """Returns the total weight of a forest's text."""
     return sum(int(line.split()[3]) for line in text.splitlines() if line.startswith(b"a "))
 
 
@@ -146,7 +146,7 @@ REPORT = re.compile(rb"vertices=(\d+) links=(\d+) rounds=(\d+) shards=(\d+) aske
 
 
 class Report:
-    """The counts of a report line, between which the equations of every run over workers hold, and the forest's total."""
+    """The fields of a report line."""
 
     def __init__(self, line):
         found = REPORT.fullmatch(line)
@@ -156,7 +156,7 @@ class Report:
         self.vertices, self.links, self.rounds, self.shards, self.asked, self.answered, self.alone, self.closed, self.total = counts
 
     def expect_equations(self, shards, workers):
-        """The equations, and that nothing is scanned alone while a line is open."""
+        """Expects the equations of a run over workers."""
         equations = {
             "shards": self.shards == shards,
             "asked = answered + closed": self.asked == self.answered + self.closed,
@@ -169,11 +169,12 @@ class Report:
                 raise AssertionError(f"not so: {name}: {vars(self)}")
 
     def expect_no_worker_lost(self, workers):
-        """No line was closed, and beside workers no shard was scanned alone: a right forest doesn't show that."""
+        """Expects that no line was closed and, if there are workers, no shard was scanned alone. A right forest doesn't show
+        that."""
         if self.closed or workers and self.alone:
             raise AssertionError(f"{workers} workers: one was lost: {vars(self)}")
 
     def expect_total(self, text):
-        """It is what the links of this text weigh together."""
+        """Expects the total weight of this text."""
         if self.total != total_of(text):
             raise AssertionError(f"the links weigh {total_of(text)}: {vars(self)}")

@@ -1,5 +1,5 @@
-"""Calls of sockets and starts of threads that fail for good, and what else sockets do: the same bytes go out, and the
-report tells it. What one failed call costs is in calls.py."""
+"""Calls of sockets and starts of threads that fail permanently, and what else sockets do. The output is the same, and only the
+report shows it. The effect of a single failed call is in calls.py."""
 import sys
 from errno import EAGAIN, ECONNRESET, EINTR, ETIMEDOUT
 
@@ -8,12 +8,12 @@ from cases.workers import over
 
 WORKERS, SHARDS = 2, 4
 FAR = str(10**9)
-# in place of an error: a recv gives nothing, and a send takes nothing
+# instead of an error, a recv returns 0 and a send returns 0
 NOTHING = 0
 
 
 def failed_from(room, source, text, call, number, more, workers=WORKERS):
-    """The report of a run in which calls of this name failed from that number on, and how many did."""
+    """Returns the report of a run in which calls of this name failed from that number on, and how many failed."""
     words = [Program.path, *over(workers, SHARDS), "--report"]
     environment = {"FAIL_CALL": call, "FAIL_NUMBER": str(number), **more}
     (status, output, errors), told = told_by(room, words, source, environment, seconds=20)
@@ -25,14 +25,14 @@ def failed_from(room, source, text, call, number, more, workers=WORKERS):
     if b"J" in told:
         raise AssertionError(f"{what}: a thread was not joined")
     if b"A" in told:
-        raise AssertionError(f"{what}: it listened to more than this machine")
+        raise AssertionError(f"{what}: it listened on more than the loopback address")
     report = Report(errors)
     report.expect_equations(SHARDS, workers)
     return report, len(told)
 
 
 def each_failed(room, source, text, call, **more):
-    """Fails each call of this name in turn, until none is left to fail, and answers the reports of those runs."""
+    """Makes each call of this name fail in turn, until there are no more, and returns the reports of these runs."""
     reports = []
     while True:
         report, failed = failed_from(room, source, text, call, len(reports) + 1, more)
@@ -44,8 +44,8 @@ def each_failed(room, source, text, call, **more):
 
 
 def expect_not_tried_again(room, call, number, more):
-    """Over one worker, a call that fails closes the line, though the same call would have passed the next time. It
-    answers whether one failed, and no line was closed: the worker's last read meets the end of its session."""
+    """With one worker, a call that fails closes the line, even if it would succeed the next time. Returns whether one failed
+    and no line was closed: the last read of the worker comes at the end of its session."""
     report, failed = failed_from(room, SMALL_NET, SMALL_FOREST, call, number, more, workers=1)
     if failed > 1 or report.closed and report.alone + report.answered != 3 * SHARDS:
         raise AssertionError(f"{call} {number} {more}: {failed} calls failed: {vars(report)}")
@@ -58,19 +58,19 @@ def expect_some(reports, least):
 
 
 def all_lost_from_there(room, source, text, error):
-    """Where all later calls fail too, what no worker answered is scanned alone, once both lines are closed."""
+    """If all later calls fail too, the shards that no worker answered are scanned alone after both lines are closed."""
     for call in ["recv", "send"]:
         reports = each_failed(room, source, text, call, FAIL_ERROR=str(error), FAIL_LAST=FAR)
         expect_some(reports, 20)
         for report in reports:
             if report.alone and report.closed != WORKERS:
-                raise AssertionError(f"{call} {error}: scanned alone beside an open line: {vars(report)}")
+                raise AssertionError(f"{call} {error}: scanned alone while a line was open: {vars(report)}")
         if (reports[0].closed, reports[0].answered) != (WORKERS, 0):
             raise AssertionError(f"{call} {error}: an answer came over a dead line: {vars(reports[0])}")
 
 
 def no_worker_left(room, call):
-    """Where each call of this name fails, all is scanned alone."""
+    """If every call of this name fails, all shards are scanned alone."""
     report, _ = failed_from(room, SMALL_NET, SMALL_FOREST, call, 1, {"FAIL_LAST": FAR})
     if (report.alone, report.asked) != (3 * SHARDS, 0):
         raise AssertionError(f"{call}: a worker was left: {vars(report)}")
@@ -114,10 +114,10 @@ def a_failed_read_or_write_of_a_socket_is_not_tried_again(room):
                     break
                 passed += [] if closed else [number]
                 number += 1
-            # (how many reads there are differs a little from run to run)
+            # (the number of reads differs a little from run to run)
             if number < 20 or any(it < number - last for it in passed):
                 raise AssertionError(f"{call} {how}: {number - 1} calls failed, and no line was closed at {passed}")
-            # with a byte at a time most calls are within a frame
+            # if calls move one byte at a time, most are within a frame
             for number in [*range(1, 40), 222, 333, 444, 555, 666]:
                 if expect_not_tried_again(room, call, number, {**how, "SHORT": "1"}) != (True, True):
                     raise AssertionError(f"{call} {how}, a byte at a time: nothing was closed at {number}")
@@ -125,7 +125,7 @@ def a_failed_read_or_write_of_a_socket_is_not_tried_again(room):
 
 @case
 def nobody_else_is_listened_to(room):
-    # the library tells of a listener on all addresses, and of none of the program's
+    # the library records a listener on all addresses, but not the program's
     listen = "import socket, sys; it = socket.socket(); it.bind((sys.argv[1], 0)); it.listen()"
     for address, wanted in [("127.0.0.1", b""), ("0.0.0.0", b"A")]:
         found, told = told_by(room, [sys.executable, "-c", listen, address], b"", {})
@@ -136,7 +136,7 @@ def nobody_else_is_listened_to(room):
 
 @case
 def no_thread_outlives_the_program(room):
-    # a `j` is told for each thread that was joined: those of the workers, and more where they are asked
+    # a `j` is recorded for each joined thread: those of the workers, and more when they are asked
     file, text = drawn_graph(17, 6000, 12_000)
     ends = [
         (SMALL_NET, {}, (0, SMALL_FOREST, b"")),
@@ -154,8 +154,8 @@ def no_thread_outlives_the_program(room):
 
 
 @case
-def answers_that_make_no_forest(room):
-    # answers without offers miss the first link; by one offer an answer two rounds, the most of six vertices, aren't enough
+def answers_that_form_no_forest(room):
+    # answers without offers miss the first link; with one offer per answer, two rounds (the most for six vertices) aren't enough
     for offers, sizes, why in [
         ("0", [(1, 1), (1, 3), (2, 4), (64, 64)], b"link 1 2 17 was missed"),
         ("1", [(1, 1)], b"round 3 is past the bound"),
@@ -177,7 +177,7 @@ def one_of_sixty_four_workers_that_is_left_out(room):
 
 
 @case
-def sockets_that_give_and_take_a_byte_at_a_time(room):
+def sockets_that_move_a_byte_at_a_time(room):
     report, _ = failed_from(room, SMALL_NET, SMALL_FOREST, "none", 1, {"SHORT": "1"})
     if (report.answered, report.closed) != (3 * SHARDS, 0):
         raise AssertionError(f"a worker was lost: {vars(report)}")

@@ -1,5 +1,5 @@
-"""Streams that fail or dribble: a full output, one whose reader goes away, closed descriptors, an input byte by byte.
-Each read and each write that fails once is in calls.py."""
+"""Streams that fail or are slow: a full output, an output whose reader closes it, closed descriptors, an input byte by byte.
+Reads and writes that fail once are in calls.py."""
 import fcntl
 import os
 import re
@@ -25,14 +25,14 @@ from cases.running import (
     written,
 )
 
-# asks for the room of a pipe, on Linux (`fcntl` names it from Python 3.10 on)
+# returns the capacity of a pipe, on Linux (`fcntl` has the name from Python 3.10 on)
 PIPE_SIZE = 1032
 
-# what one thread reads a FILE and standard input by, and the least that a write takes while more is to come
+# how much one thread reads at once from a FILE and from standard input, and the least size of a write before the last
 READ_ROOM = 65_536
 LEAST_PIECE = 8192 - 64
 
-# by one thread, and over workers
+# one thread, and workers
 MODES = [["--plain"], ["--workers", "2", "--shards", "4"]]
 
 
@@ -57,8 +57,8 @@ def an_output_that_nobody_reads(_room):
 
 
 def left_by_its_reader(words, count):
-    """What the program does whose reader takes so many bytes, waits until the pipe is full, and goes away: status, the
-    bytes that were read and standard error; and the numbers of bytes that the pipe took at least and at most."""
+    """Runs the program with a reader that reads so many bytes, waits until the pipe is full, and closes it. Returns the exit
+    status, the bytes that were read and standard error, and the least and the most bytes that the pipe accepted."""
     reader, writer = os.pipe()
     most = fcntl.fcntl(writer, PIPE_SIZE)
     with subprocess.Popen([Program.path, *words], stdout=writer, stderr=subprocess.PIPE) as started:
@@ -103,7 +103,7 @@ def an_output_that_takes_ten_bytes(room):
 
 @case
 def a_standard_input_that_cannot_be_read(_room):
-    # a descriptor that is open for writing alone
+    # a descriptor that is open only for writing
     for words in MODES:
         with open(os.devnull, "wb") as written_only:
             expect(ran(words, written_only), 3, b"", b"boruvka: line 1: read failed\n")
@@ -111,7 +111,7 @@ def a_standard_input_that_cannot_be_read(_room):
 
 @case
 def a_standard_error_that_is_full(_room):
-    # what can't be told changes nothing else
+    # a line that can't be written changes nothing else
     for words in MODES:
         with open("/dev/full", "wb") as full:
             ended = subprocess.run([Program.path, *words, "--report"], input=SMALL_NET, stdout=subprocess.PIPE, stderr=full, timeout=SECONDS)
@@ -120,7 +120,7 @@ def a_standard_error_that_is_full(_room):
 
 @case
 def closed_descriptors(room):
-    # what is closed stays without a reader and a writer: no socket and no FILE takes its place
+    # a closed descriptor stays unused: no socket and no FILE gets its number
     name = written(f"{room}/net.gr", SMALL_NET)
     unread = b"boruvka: line 1: read failed\n"
     rows = [
@@ -160,8 +160,8 @@ def an_input_that_comes_a_byte_at_a_time(_room):
 
 
 def fed_with_gibs(words):
-    """What the program does with an input of more than 4 GiB: links stand before comments of 2 GiB, behind them, and behind
-    2 GiB more. It is skipped where that would take more than half a minute."""
+    """Runs the program on more than 4 GiB of input: links before comments of 2 GiB, after them, and after another 2 GiB. The
+    case is skipped if that would take more than half a minute."""
     comment = b"c" + ((1 << 20) - 2) * b"-" + b"\n"
     begun = time.monotonic()
     with subprocess.Popen([Program.path, *words], stdin=subprocess.PIPE, stdout=subprocess.PIPE, stderr=subprocess.PIPE) as started:
@@ -176,7 +176,7 @@ def fed_with_gibs(words):
                     raise Skipped(f"{at + 1} MiB took {time.monotonic() - begun:.0f} s")
             started.stdin.write(b"a 3 4 7\n")
         except BrokenPipeError:
-            pass  # what it answers tells why
+            pass  # its result shows the reason
         output, errors = started.communicate(timeout=SECONDS)
     return started.returncode, output, errors
 
@@ -195,7 +195,7 @@ def reads_of_64_KiB_and_one_write_for_each_8_KiB(room):
     for words in MODES:
         found, told = told_by(room, [Program.path, *words, name], b"", {"COUNTED": "1", "PROCESSORS": "1"})
         expect(found, 0, text, b"")
-        # the text's first line is a write of its own
+        # the first line of the text is a write of its own
         lines, writes = len(text) - text.index(b"\n") - 1, told.count(b"w")
         if told.count(b"R") != reads or told.strip(b"Rw") or not -(-lines // 8192) < writes <= lines // LEAST_PIECE + 2:
             raise AssertionError(f"{words}: {len(file)} bytes in, {len(text)} out: {told!r:.600}")
@@ -209,6 +209,6 @@ def by_threads_reads_of_more_and_one_write_for_each_8192_links(room):
     for words, processors in [(["--plain", "--threads", "2"], "1"), (MODES[1], "2")]:
         found, told = told_by(room, [Program.path, *words, name], b"", {"COUNTED": "1", "PROCESSORS": processors})
         expect(found, 0, text, b"")
-        # the first MiB is read as by one thread, and the rest by one read; the text's first line is a write of its own
+        # the first MiB is read as with one thread, and the rest in one read; the first line of the text is a write of its own
         if told != b"R" * -(-(1 << 20) // READ_ROOM) + b"rr" + b"w" * (1 + -(-links // 8192)):
             raise AssertionError(f"{words}: {len(file)} bytes in, {links} links out: {told!r:.600}")

@@ -1,4 +1,4 @@
-"""Runs by several threads, without workers: the same bytes as by one, on one processor too, and where no thread starts."""
+"""Runs with several threads and no workers: the same output as with one, also on one processor, and if no thread starts."""
 import contextlib
 import functools
 import os
@@ -30,22 +30,22 @@ def by(threads):
 
 @functools.cache
 def drawn():
-    """A file of a graph whose forest has more links than seven threads spell at a time, and the forest's text."""
+    """Returns a file whose forest has more links than seven threads write at a time, and the forest's text."""
     file, text = drawn_graph(21, 120_000, 300_000)
     if text.count(b"\na ") <= 7 * 8192:
         raise AssertionError("the forest is too small")
     return file, text
 
 
-def large_net(room):
-    """The name of this file, and the text."""
+def large_graph(room):
+    """Returns the name of this file, and the forest's text."""
     file, text = drawn()
     return written(f"{room}/large.gr", file), text
 
 
 @case
 def the_bytes_of_one_thread(room):
-    name, text = large_net(room)
+    name, text = large_graph(room)
     status, output, report = ran(["--plain", "--report", name])
     expect((status, output, b""), 0, text, b"")
     for threads in THREADS:
@@ -63,8 +63,8 @@ def threads_of_malformed_files(_room):
 
 
 @case
-def faults_anywhere_by_threads(room):
-    # the first MiB is one thread's, and what is behind it comes in pieces that threads share
+def errors_anywhere_by_threads(room):
+    # one thread reads the first MiB, and threads share the pieces after it
     file, _ = drawn()
     lines = file.splitlines(keepends=True)
     rng, faults = random.Random(5), [(b"x\n", "UnknownLine"), (b"a 1 2\n", "BadArc"), (b"a 1 120001 5\n", "EndOutOfRange"), (b"a 1 2 9223372036854775808\n", "WeightOutOfRange")]
@@ -76,7 +76,7 @@ def faults_anywhere_by_threads(room):
 
 
 def ran_by_pieces(words, pieces):
-    """What the program does whose input is written piece by piece; it may end in front of the last one."""
+    """Runs the program with an input that is written piece by piece. It may end before the last piece."""
     started = subprocess.Popen([Program.path, *words], stdin=subprocess.PIPE, stdout=subprocess.PIPE, stderr=subprocess.PIPE)
     output = []
     reader = threading.Thread(target=lambda: output.append(started.stdout.read()))
@@ -91,7 +91,7 @@ def ran_by_pieces(words, pieces):
 
 
 def cut(text, most, rng):
-    """The text in pieces of at most so many bytes."""
+    """Returns the text in pieces of at most so many bytes."""
     at = 0
     while at < len(text):
         piece = text[at : at + rng.randint(1, most)]
@@ -101,7 +101,7 @@ def cut(text, most, rng):
 
 @case
 def pipes_by_threads(_room):
-    # a pipe gives what was written to it so far, wherever that is cut
+    # a pipe delivers what was written to it so far, wherever that ends
     file, text = drawn()
     lines = file.splitlines(keepends=True)
     rng = random.Random(7)
@@ -122,7 +122,7 @@ def an_input_byte_by_byte_by_threads(room):
 
 
 @case
-def reads_that_fail_behind_what_threads_share(room):
+def reads_that_fail_after_what_threads_share(room):
     # 16 reads give the first MiB, one more gives the rest, and the next finds the end
     file, _ = drawn()
     front, behind = file[: 1 << 20].count(b"\n") + 1, file.count(b"\n") + 1
@@ -146,7 +146,7 @@ def reads_that_fail_behind_what_threads_share(room):
 
 @case
 def threads_with_small_stacks(room):
-    name, text = large_net(room)
+    name, text = large_graph(room)
     for size in [128 << 10, 1 << 20]:
 
         def limit(size=size):
@@ -158,7 +158,7 @@ def threads_with_small_stacks(room):
 
 @case
 def threads_on_one_processor(room):
-    name, text = large_net(room)
+    name, text = large_graph(room)
 
     def limit():
         os.sched_setaffinity(0, {min(os.sched_getaffinity(0))})
@@ -169,7 +169,7 @@ def threads_on_one_processor(room):
 
 @case
 def threads_that_do_not_start(room):
-    name, text = large_net(room)
+    name, text = large_graph(room)
     for first in [1, 2, 5]:
         for threads in THREADS:
             environment = {"FAIL_CALL": "thread", "FAIL_NUMBER": str(first), "FAIL_LAST": "1000000"}
@@ -181,9 +181,9 @@ def threads_that_do_not_start(room):
 
 @case
 def the_threads_that_are_asked_for(room):
-    # whatever the number of processors, with the first just so many run at once; the file is long enough for more than fifty,
-    # and so are two files
-    name, text = large_net(room)
+    # on any number of processors exactly so many threads run at once, the first included; the file is long enough for more than
+    # fifty, and so are two files
+    name, text = large_graph(room)
     for names in [[name], [name, name]]:
         for threads in THREADS:
             found, told = told_by(room, [Program.path, *by(threads), *names], b"", {"PROCESSORS": "1", "STARTED": "0"})
@@ -195,7 +195,7 @@ def the_threads_that_are_asked_for(room):
 
 @case
 def a_long_file_by_threads_takes_no_more_memory(room):
-    # loops are no links, so that by one thread the file's length takes none; the room in which threads read takes 12 MiB
+    # loops give no links, so with one thread the length of the file needs no memory; the buffers of threads take 12 MiB
     count = 2**23
     name = f"{room}/loops.gr"
     with open(name, "wb") as it:
@@ -213,7 +213,7 @@ def a_long_file_by_threads_takes_no_more_memory(room):
 
 @case
 def a_file_that_grows_no_further_by_threads(room):
-    name, text = large_net(room)
+    name, text = large_graph(room)
 
     def limit():
         resource.setrlimit(resource.RLIMIT_FSIZE, (300_000, 300_000))

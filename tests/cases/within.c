@@ -1,10 +1,10 @@
-/* Calls within memory of many sizes: each answers the forest, or that memory lacks and changes nothing; and what is served
- * within some memory is served within more. Bytes beside the memory stay as they were. A wrong answer ends it by status 1.
+/* Calls in memory of many sizes. Each returns the forest, or is out of memory and changes nothing. A call that succeeds in some
+ * memory succeeds in more. Bytes around the memory stay unchanged. If a result is wrong, the program exits with status 1.
  *
- *     within sizes     a small net, its text, its columns, and its forest's labels and merges, within each size up to four
- *                      pages, and within two blocks by turns
- *     within enough    lists, texts, columns, labels and merges of many shapes, within as many bytes as include/boruvka.h
- *                      calls enough
+ *     within sizes     a small network, its text, its columns, and its forest's labels and merges, in each size up to four
+ *                      pages, and in two blocks by turns
+ *     within enough    lists, texts, columns, labels and merges of many shapes, in as many bytes as include/boruvka.h calls
+ *                      enough
  *
  * A_LINK, A_VERTEX, A_BYTE, PLACED_LINK, PLACED_VERTEX, MERGED_LINK, MERGED_VERTEX and MORE are its figures. */
 #include <boruvka.h>
@@ -31,7 +31,7 @@ static void wrong(const char *what, int line) {
     exit(1);
 }
 
-/* Whether the net has its forest within so many bytes; if not, nothing changed. */
+/* Whether the network's forest is found in so many bytes. If not, nothing changed. */
 static int has_forest(unsigned char *block, size_t size) {
     struct boruvka_link links[LINKS];
     memcpy(links, net, sizeof net);
@@ -72,7 +72,7 @@ static int has_places(unsigned char *block, size_t size) {
     return answer == FOUND;
 }
 
-/* Of the forest's three lightest links. */
+/* The labels by the forest's three lightest links. */
 static int has_labels(unsigned char *block, size_t size) {
     static const uint32_t none[VERTICES], wanted[VERTICES] = {1, 2, 2, 2, 2, 6};
     uint32_t label[VERTICES] = {0};
@@ -82,7 +82,7 @@ static int has_labels(unsigned char *block, size_t size) {
     return answer == VERTICES;
 }
 
-/* Errors that come before memory is asked for come without any, too. */
+/* Errors that come before any allocation also come without memory. */
 static void refusals_without_memory(unsigned char *block) {
     struct boruvka_link links[LINKS];
     memcpy(links, net, sizeof net);
@@ -112,7 +112,7 @@ static void refusals_without_memory(unsigned char *block) {
     CHECK(boruvka_forest_text_within(none, (const uint8_t *)"x\n", 2, block, 0, &fault) == BORUVKA_UNKNOWN_LINE && fault.line == 1);
 }
 
-/* The calls, each of which is served within some memory. */
+/* The calls, each of which succeeds in some amount of memory. */
 typedef int served(unsigned char *block, size_t size);
 
 enum { CALLS = 5 };
@@ -141,7 +141,7 @@ static void sizes(void) {
     }
 }
 
-/* After a call its memory is the caller's again: a later call within other memory doesn't read or write it. */
+/* After a call its memory belongs to the caller again: a later call in other memory doesn't read or write it. */
 static void given_back(void) {
     static _Alignas(16) unsigned char first[4 * PAGE], second[4 * PAGE];
     for (size_t call = 0; call < CALLS; call++) {
@@ -186,7 +186,7 @@ static unsigned char *block_of(size_t size) {
     return block;
 }
 
-/* The merges of a forest of `count` of these m links, and the refusal of all m, which close a cycle if one is there. */
+/* The merges of a forest of `count` of these m links, and the error for all m links, if they contain a cycle. */
 static void enough_for_merges(uint32_t n, struct boruvka_link *links, size_t m, size_t count) {
     struct boruvka_merge *merges = calloc(m, sizeof *merges);
     CHECK(merges != 0);
@@ -203,7 +203,7 @@ static void enough_for_merges(uint32_t n, struct boruvka_link *links, size_t m, 
     free(merges);
 }
 
-/* The indices of the forest of these m links, as `count` places. */
+/* The `count` indices of the forest of these m links. */
 static void enough_for_places(uint32_t n, const struct boruvka_link *links, size_t m, size_t count) {
     uint32_t *columns = calloc(2 * m + count + 1, sizeof *columns), *places = columns + 2 * m;
     int64_t *w = calloc(m, sizeof *w);
@@ -221,7 +221,7 @@ static void enough_for_places(uint32_t n, const struct boruvka_link *links, size
     free(w);
 }
 
-/* The labels by the forest of `count` of these m links, and the error of all m, which contain a cycle if there are more. */
+/* The labels by the forest of `count` of these m links, and the error for all m links, if they contain a cycle. */
 static void enough_for_labels(uint32_t n, const struct boruvka_link *links, size_t m, size_t count) {
     uint32_t *label = calloc(n, sizeof *label);
     CHECK(label != 0);
@@ -270,7 +270,7 @@ static void enough(void) {
     for (uint64_t seed = 1; seed <= 400; seed++) {
         enough_for((enum shape)(seed % SHAPES), seed, 2 + (uint32_t)(seed * seed % 700), 1 + seed * 37 % 3000);
     }
-    /* one past where lists and texts double */
+    /* one more than where lists and texts double */
     for (enum shape shape = DRAWN; shape < SHAPES; shape++) {
         enough_for(shape, 9, 1 << 16, (1 << 16) + 1);
         enough_for(shape, 9, 1 << 10, (1 << 16) + 1);

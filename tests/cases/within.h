@@ -1,6 +1,6 @@
-/* Stands before tests/cases/embedding.c, and has its calls that take memory go to those within memory that is given up. They
- * get too little of it first, and twice as much each time. A wrong byte before or behind that memory ends the program, and
- * so does a change where memory was refused. */
+/* Included before tests/cases/embedding.c. It replaces calls that allocate by those in caller-provided memory. They get too
+ * little memory first, and then twice as much each time. The program ends if a byte before or after that memory is wrong, or
+ * if a call that ran out of memory changed something. */
 #define _GNU_SOURCE
 #include <boruvka.h>
 #include <stdio.h>
@@ -9,7 +9,7 @@
 
 enum { EDGE = 64, SIGN = 0xa5 };
 
-/* Up to so many bytes are compared. */
+/* The most bytes that are compared. */
 static const size_t compared = 1 << 24;
 
 static unsigned char *edged(size_t size) {
@@ -22,7 +22,7 @@ static unsigned char *edged(size_t size) {
     return block;
 }
 
-/* The edges are as they were. */
+/* The bytes around the memory are unchanged. */
 static void given_back(unsigned char *block, size_t size) {
     for (size_t i = 0; i < EDGE; i++) {
         if (block[i] != SIGN || block[EDGE + size + i] != SIGN) {
@@ -35,7 +35,7 @@ static void given_back(unsigned char *block, size_t size) {
 
 static void same(const void *one, const void *other, size_t size) {
     if (memcmp(one, other, size)) {
-        fprintf(stderr, "within.h: a call that was refused memory changed what it was given\n");
+        fprintf(stderr, "within.h: a call that ran out of memory changed its arguments\n");
         exit(1);
     }
 }
@@ -45,7 +45,7 @@ static inline int64_t forest_within(uint32_t n, struct boruvka_link *links, size
     void *before = calloc(kept + 1, 1);
     memcpy(before, links, kept);
     int64_t answer = BORUVKA_NO_MEMORY;
-    /* a size that is no whole number of units, too */
+    /* also sizes that aren't a whole number of units */
     for (size_t size = 100; answer == BORUVKA_NO_MEMORY && size < (size_t)1 << 36; size = size * 2 + 7) {
         unsigned char *block = edged(size);
         answer = boruvka_forest_within((struct boruvka_memory){block + EDGE, size}, n, links, m);

@@ -1,22 +1,18 @@
-// Calls the built module boruvka.wasm, each time within memory behind the module's own that it gives up.
+// Calls the built module boruvka.wasm, each time in memory after the module's own.
 //
-//     node --experimental-wasm-memory64 within.mjs MODULE text ROOM    a .gr text on standard input: so much of its forest's
-//                                                                      text as ROOM bytes have room for, and to standard
-//                                                                      error `answer kind line` and the text of the kind
-//     node --experimental-wasm-memory64 within.mjs MODULE list         `n m` and then m times `low high weight` on standard
-//                                                                      input: their forest's text
-//     node --experimental-wasm-memory64 within.mjs MODULE merges       the same input, of links that close no cycle and
-//                                                                      don't descend: a line `first second size` for each,
-//                                                                      or the refusal's code
-//     node --experimental-wasm-memory64 within.mjs MODULE places       the same input as of `list`: a line for each link of the
-//                                                                      forest, the index of its first arc, or the error's code
-//     node --experimental-wasm-memory64 within.mjs MODULE labels       the same input, of links without a cycle: a line for each
-//                                                                      vertex, its label, or the error's code
-//     node --experimental-wasm-memory64 within.mjs MODULE bad          the same input: the index of the first bad link, that of
-//                                                                      the first bad head, and the release
-//     node --experimental-wasm-memory64 within.mjs MODULE codes        each number from -22 to 3, and its text as an error's code
+//     node --experimental-wasm-memory64 within.mjs MODULE COMMAND
 //
-// One instance makes all calls, the memory is doubled while it is too small, and a wrong byte behind it ends the script.
+// text ROOM  reads a .gr text from standard input, and prints what fits ROOM bytes of its forest's text, and to standard error
+//            `result kind line` and the text of the kind
+// list       reads `n m` and then m times `low high weight`, and prints their forest's text
+// merges     reads the same, with links that contain no cycle and don't descend, and prints a line `first second size` for each,
+//            or the error's code
+// places     reads the same as `list`, and prints for each link of the forest the index of its first arc, or the error's code
+// labels     reads the same, with links that contain no cycle, and prints each vertex's label, or the error's code
+// bad        reads the same, and prints the index of the first bad link, that of the first bad head, and the release
+// codes      prints each number from -22 to 3, and its text as an error's code
+//
+// One instance makes all calls. The memory is doubled while it is too small, and a wrong byte after it ends the script.
 import { readFileSync, writeSync } from "node:fs";
 
 const NO_MEMORY = -1n;
@@ -38,7 +34,7 @@ function reach(end) {
   }
 }
 
-// `call(memory)` with a struct memory at `base`, which gives up bytes from `from` on.
+// `call(memory)` with a struct boruvka_memory at `base`, whose bytes begin at `from`.
 function within(from, call) {
   for (let size = 100; ; size = 2 * size + 7) {
     reach(from + size + 64);
@@ -70,7 +66,7 @@ function text(source, room) {
   writeSync(2, `${answer} ${kind} ${line} ${why}\n`);
 }
 
-// The words of a list, with its links at `links`.
+// The numbers of a list, with its links at `links`.
 const links = base + 32;
 function listed(source) {
   const words = new TextDecoder().decode(source).split(/\s+/);
@@ -110,7 +106,7 @@ function merges(source) {
   writeSync(1, text);
 }
 
-// What a call writes as numbers of 32 bits: `room` of them at most, behind `end`, and no byte more.
+// The numbers of 32 bits that a call writes: at most `room` of them, after `end`, and no other byte.
 function numbers(end, room, call) {
   const into = unit(end), behind = into + 4 * room;
   reach(behind + 64);
@@ -122,7 +118,7 @@ function numbers(end, room, call) {
   writeSync(1, found.map((it) => `${it}\n`).join(""));
 }
 
-// The links as three columns behind them; of no links they are at the address 0.
+// The links as three columns after them. Without links, the columns are at address 0.
 function columns({ m }) {
   const w = unit(links + 16 * m), u = unit(w + 8 * m), v = unit(u + 4 * m), end = v + 4 * m;
   reach(end + 64);

@@ -1,5 +1,5 @@
-"""The library libboruvka_within.a and the module boruvka.wasm: calls within memory that is given up. What they answer is
-compared with the program's answers and with the forests that are computed here."""
+"""The library libboruvka_within.a and the module boruvka.wasm: calls in caller-provided memory. Their results are compared with
+the program's output and with forests that are computed here."""
 import os
 import re
 import shutil
@@ -15,19 +15,19 @@ CALLED = {"memcpy", "memmove", "memset"}
 
 
 def library():
-    """The library, which is built beside the others."""
+    """Returns the library, which is built with the others."""
     libraries()
     return f"{BUILT}/libboruvka_within.a"
 
 
 def module():
-    """Builds the module, where it isn't built, and answers its path."""
+    """Builds the module if it isn't built, and returns its path."""
     status, said, told = run(["make", "-s", "-C", ROOT, "wasm"], env=ENVIRONMENT, seconds=60 * MINUTES)
     expect((status, said, told if status else b""), 0, b"built crates/boruvka_within/out/boruvka.wasm\n", b"")
     return f"{BUILT}/boruvka.wasm"
 
 
-# The calls of the table of include/boruvka.h, and what it counts for each.
+# The calls of the table in include/boruvka.h, the element that it counts for each, and names for its figures.
 FIGURES = [
     ("forest", "link", ("A_LINK", "A_VERTEX")), ("places", "arc", ("PLACED_LINK", "PLACED_VERTEX")), ("labels", "link", ("A_LINK", "A_VERTEX")),
     ("merges", "link", ("MERGED_LINK", "MERGED_VERTEX")), ("forest_text", "byte of the text", ("A_BYTE", "A_VERTEX")),
@@ -35,7 +35,7 @@ FIGURES = [
 
 
 def figures():
-    """What include/boruvka.h calls enough, by names."""
+    """Returns the amounts of memory that include/boruvka.h calls enough, by name."""
     with open(f"{ROOT}/include/boruvka.h", encoding="utf-8") as it:
         text = " ".join(it.read().replace("\n *", "\n").split())
     found = {"MORE": int(re.search(r"These are enough, with (\d+) bytes more for each call", text)[1])}
@@ -47,12 +47,12 @@ def figures():
 
 
 def enough():
-    """The same, as words for a compiler."""
+    """Returns the same as arguments for a compiler."""
     return [f"-D{name}={figure}" for name, figure in figures().items()]
 
 
 def caller(room):
-    """The program of tests/cases/embedding.c, with its calls within memory; built once."""
+    """Returns the program of tests/cases/embedding.c with the calls in given memory, which is built once."""
     made = f"{room}/../within"
     if not os.path.exists(made):
         words = [compiler(), "-O1", "-Wall", "-Wextra", "-Werror", INCLUDE, "-include", f"{ROOT}/tests/cases/within.h", "-o", made]
@@ -61,15 +61,15 @@ def caller(room):
 
 
 def by_node():
-    """What calls the module, if Node is there and has 64-bit memories."""
+    """Returns the command that calls the module, if Node has 64-bit memory."""
     node = shutil.which("node")
     if not node or run([node, "--experimental-wasm-memory64", "-e", ""])[0]:
         raise Skipped("no node is there that takes --experimental-wasm-memory64")
     return [node, "--experimental-wasm-memory64", "--no-warnings", f"{ROOT}/tests/cases/within.mjs", module()]
 
 
-def expect_answers(of):
-    """Lists, texts in several rooms and faulty texts are answered as the program answers them."""
+def expect_results(of):
+    """Lists, texts in buffers of several sizes, and malformed texts give the same as in the program."""
     expect(run(of("list"), listed(SMALL_NET)), 0, SMALL_FOREST, b"")
     for seed, vertices, arcs in [(1, 1, 3), (2, 9, 0), (3, 40, 30), (4, 300, 900), (5, 50, 4000), (6, 5000, 9000)]:
         source, forest = drawn_graph(seed, vertices, arcs)
@@ -88,7 +88,7 @@ def expect_answers(of):
 
 
 def merged(vertices, links):
-    """The merges of links by whole sets of vertices, the lower cluster first."""
+    """Returns the merges of links, computed with whole sets of vertices, the lower cluster first."""
     clusters = {end - 1: {end} for low, high, _ in links for end in (low, high)}
     rows = []
     for place, (low, high, _) in enumerate(links):
@@ -123,7 +123,7 @@ def each_size_of_memory(room):
 
 
 def least(room, shape, vertices, arcs):
-    """For each kind of call over a graph the least memory, and the peak by malloc; tests/cases/least.c, built once."""
+    """Returns for each call on a graph the least memory, and the peak with malloc (tests/cases/least.c, built once)."""
     made = f"{room}/../least"
     if not os.path.exists(made):
         wrapped = [f"-Wl,--wrap={it}" for it in ("malloc", "realloc", "free")]
@@ -136,8 +136,8 @@ def least(room, shape, vertices, arcs):
 
 
 @case
-def the_least_memory_beside_that_of_malloc(room):
-    """It is at most half as much again, for these graphs of more than a few links; for indices 1.6 times as much."""
+def the_least_memory_compared_with_malloc(room):
+    """It is at most 1.5 times as much, for these graphs of more than a few links; for indices 1.6 times as much."""
     for graph in [("grid", 10_000, 0), ("drawn", 1000, 20_000)]:
         for call, (found, peak) in least(room, *graph).items():
             most = 16 if call == "places" else 15
@@ -147,9 +147,9 @@ def the_least_memory_beside_that_of_malloc(room):
 
 @case
 def the_most_memory_that_calls_need(room):
-    """What the header calls enough is enough for these, and little more than they need."""
+    """What the header calls enough is enough for these graphs, and little more than they need."""
     of = figures()
-    # (of more than 65,536 links a text keeps but some)
+    # (a text with more than 65,536 links keeps only some of them)
     for arcs in (1_025, 16_385, 32_769):
         found, _ = least(room, "pair", 9, arcs)["text"]
         length = len(f"p sp 9 {arcs}\n") + 8 * arcs
@@ -167,18 +167,18 @@ def the_most_memory_that_calls_need(room):
     ]:
         found, _ = least(room, shape, vertices, arcs)[call]
         expect((call, 100 * found >= share * (of[of_link] * arcs + of[of_vertex] * vertices), b""), call, True, b"")
-    # just past, and just at, where a list and a text double; and numbers that part after part leaves apart
+    # just above and exactly at sizes where a list and a text double, and sizes that leave freed memory in separate parts
     for graph in [("ring", 23_740, 189_917), ("path", 16_386, 16_385), ("star", 16_384, 16_383), ("drawn", 90_000, 65_537), ("pair", 9, 16_384)]:
         least(room, *graph)
 
 
 @case
-def the_modules_texts_of_refusals(room):
+def the_modules_texts_of_errors(room):
     expect(run([*by_node(), "codes"]), 0, TEXTS, b"")
 
 
 @case
-def the_page_has_a_remedy_for_each_refusal_of_a_line(room):
+def the_page_has_a_remedy_for_each_error_of_a_line(room):
     with open(f"{ROOT}/web/causes.js", encoding="utf-8") as it:
         causes = it.read().partition("const CAUSES = {")[2].partition("\n};")[0]
     told = {word or name for word, name in re.findall(r"^  (?:'([^']+)'|(\w+)): '", causes, re.M)}
@@ -188,7 +188,7 @@ def the_page_has_a_remedy_for_each_refusal_of_a_line(room):
 @case
 def lists_and_texts_within_memory(room):
     made = caller(room)
-    expect_answers(lambda *words: [made, *words])
+    expect_results(lambda *words: [made, *words])
 
 
 @case
@@ -203,14 +203,14 @@ def threads_within_memory_of_their_own(room):
 
 
 @case
-def the_module_answers_as_the_program(room):
+def the_module_gives_what_the_program_gives(room):
     words = by_node()
-    expect_answers(lambda *more: [*words, *more])
+    expect_results(lambda *more: [*words, *more])
 
 
 @case
-def the_module_tells_which_edges_were_chosen(room):
-    """The indices are those of the worked forests' links, whose first arcs are found here."""
+def the_module_finds_which_edges_were_chosen(room):
+    """The indices are those of the worked forests' links. Their first arcs are found here."""
     words = [*by_node(), "places"]
     for vertices, arcs, forest in worked():
         links = [(min(u, v), max(u, v), weight) for u, v, weight in arcs]
@@ -222,7 +222,7 @@ def the_module_tells_which_edges_were_chosen(room):
 
 @case
 def the_module_labels_components(room):
-    """The labels are the least vertices of components that are joined here as whole sets."""
+    """The labels are the least vertices of components, which are joined here as whole sets."""
     words = [*by_node(), "labels"]
     for vertices, _, forest in worked():
         for part in (forest, forest[: len(forest) // 2]):
@@ -237,7 +237,7 @@ def the_module_labels_components(room):
 
 
 @case
-def the_module_finds_bad_ends(room):
+def the_module_finds_bad_endpoints(room):
     words = [*by_node(), "bad"]
     for source, found in [(b"3 2\n1 2 0\n2 3 0\n", b"2 2 10100\n"), (b"2 2\n1 2 0\n2 3 0\n", b"1 1 10100\n"), (b"0 1\n1 1 0\n", b"0 0 10100\n")]:
         expect(run(words, source), 0, found, b"")
@@ -246,7 +246,7 @@ def the_module_finds_bad_ends(room):
 @case
 def the_module_merges_clusters(room):
     words = [*by_node(), "merges"]
-    # the single linkage of scipy for the points 0, 2, 5, 9, 10 and 20 of a line, by hand
+    # the single linkage of scipy for the points 0, 2, 5, 9, 10 and 20 on a line, by hand
     line = [(4, 5, 1), (1, 2, 2), (2, 3, 3), (3, 4, 4), (5, 6, 10)]
     wanted = [(3, 4, 2), (0, 1, 2), (2, 7, 3), (6, 8, 5), (5, 9, 6)]
     for vertices, links, rows in [(0, [], []), (3, [], []), (6, line, wanted)]:

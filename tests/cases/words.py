@@ -1,4 +1,5 @@
-"""Words, files and what is told of them: statuses 0 to 3 by the words, FILE and what the file says."""
+"""Arguments, files and messages: exit statuses 0 to 3 because of the arguments, FILE, or its contents."""
+import gzip
 import os
 import random
 
@@ -6,6 +7,7 @@ from cases.running import (
     SMALL_FOREST,
     SMALL_NET,
     SMALL_REPORT,
+    Program,
     Report,
     case,
     drawn_graph,
@@ -15,6 +17,7 @@ from cases.running import (
     forest_of,
     forest_text,
     ran,
+    run,
     written,
 )
 
@@ -33,9 +36,9 @@ def a_file_by_its_name(room):
 
 
 @case
-def the_file_that_is_named_and_none_beside_it(room):
-    # the names begin or end alike, or differ by a case, a space, a dot or a folder. First each is a graph of its own, and
-    # then all but the one that is named are pipes, which nobody writes to: whoever opens one waits
+def the_file_that_is_named_and_no_other(room):
+    # the names have a common beginning or end, or differ by case, a space, a dot or a folder. First each file is a graph of its
+    # own. Then all except the named one are pipes that nobody writes to: whoever opens one waits
     names = ["net.gr", "net.gr2", "net.g", "et.gr", "net", "Net.gr", "net.gr ", " net.gr", ".net.gr", "-", "-net.gr", "n\u00e9t.gr"]
     names += [f"{folder}/{name}" for folder in ["sub", "net.gr.d"] for name in ["net.gr", "net", "-"]]
     for place in range(len(names) + 1):
@@ -80,7 +83,7 @@ def drawn_graphs(_room):
 
 
 def expect_of_all_modes(file, text):
-    """By one thread and over workers the program gives this text for the file, with its total, and no worker is lost."""
+    """Expects this text for the file, with its total, with one thread and over workers, of which none is lost."""
     for words, workers in [(["--plain"], 0), ([], 2), (["--workers", "3", "--shards", "5"], 3), (["--workers", "0", "--shards", "3"], 0)]:
         status, output, errors = ran([*words, "--report"], file)
         expect((status, output, b""), 0, text, b"")
@@ -96,7 +99,7 @@ def weights_of_64_bits(_room):
 
 @case
 def weights_at_the_limits(_room):
-    # the least and the greatest, with equal ones, and those about the limits of 32 bits
+    # the least and the greatest, repeated, and those around the limits of 32 bits
     weights = [-(2**63), -(2**63) + 1, -(2**31) - 1, -(2**31), -1, 0, 2**31 - 1, 2**31, 2**63 - 2, 2**63 - 1]
     for seed, some in [(14, weights), (15, weights[:1] + weights[-1:]), (16, weights[-1:]), (17, weights[:1])]:
         draw = random.Random(seed)
@@ -105,7 +108,7 @@ def weights_at_the_limits(_room):
 
 
 @case
-def the_first_weights_past_64_bits(_room):
+def the_first_weights_beyond_64_bits(_room):
     for words in [["--plain"], []]:
         for weight in [-(2**63), 2**63 - 1, 2**31, -(2**31) - 1]:
             file = b"p sp 2 1\na 1 2 %d\n" % weight
@@ -115,7 +118,7 @@ def the_first_weights_past_64_bits(_room):
 
 
 def expect_total_of_a_million(room, vertices, rows, links):
-    """The program gives these keys for the forest of a million links, and Python's sum of their weights for its total."""
+    """Expects these keys for the forest of a million links, and Python's sum of their weights as the total."""
     name = written(f"{room}/net.gr", file_of(vertices, rows))
     text, total = forest_text(vertices, links), sum(weight for weight, _, _ in links)
     for words in [["--plain"], ["--plain", "--threads", "4"], ["--workers", "2", "--shards", "2"]]:
@@ -155,7 +158,7 @@ def the_text_of_a_forest_is_written_again(_room):
         report = Report(errors)
         report.expect_total(text)
         if report.links != text.count(b"a "):
-            raise AssertionError(f"all links of a forest's text are taken: {vars(report)}")
+            raise AssertionError(f"all links of a forest's text are in its forest: {vars(report)}")
 
 
 @case
@@ -164,17 +167,39 @@ def the_help(_room):
         status, output, errors = ran([word], SMALL_NET)
         expect((status, b"", errors), 0, b"", b"")
         lines = output.decode().split("\n")
-        first = "Computes the minimum spanning forest of a graph in the .gr format."
-        file = "  [FILE]...  The graph; without it, or as -, standard input; with --plain several, joined"
+        first = "Compute the minimum spanning forest of a weighted graph in DIMACS .gr format."
+        file = "  [FILE]...  Input graph; standard input if omitted or -; with --plain, several are joined"
         for line in [first, "Usage: boruvka [OPTIONS] [FILE]...", file]:
             if line not in lines:
                 raise AssertionError(f"the help has no line {line!r}")
-        for option in ["--workers <N>", "--shards <S>", "--plain", "--threads <N>", "--report", "--help"]:
-            if option not in output.decode():
-                raise AssertionError(f"the help doesn't name {option}")
+        options = [line.split("  ")[0] for line in map(str.strip, lines) if line.startswith("-")]
+        wanted = ["--plain", "--threads <N>", "--workers <N>", "--shards <S>", "--report", "--progress", "-h, --help", "-V, --version"]
+        if options != wanted:
+            raise AssertionError(f"the help has the options {options}")
 
 
-# What the file says
+@case
+def the_examples_of_the_help(room):
+    """A compressed file is tested first, since a pipe hides that gzip fails."""
+    examples = ran(["--help"])[1].decode().split("Examples:\n")[1].split("\n\n")[0]
+    plain, compressed = (line.strip() for line in examples.splitlines())
+    os.symlink(Program.path, f"{room}/boruvka")
+    pasted = {"cwd": room, "env": {**os.environ, "PATH": f"{room}:{os.environ['PATH']}"}}
+    for example, name, right, wrong in [
+        (plain, "net.gr", SMALL_NET, b"p sp 2 2\na 1 2 5\n"),
+        (compressed, "net.gr.gz", gzip.compress(SMALL_NET, 0), gzip.compress(SMALL_NET, 0).replace(b"1 2 17", b"1 2 71")),
+    ]:
+        for text, status, forest in [(right, 0, SMALL_FOREST), (wrong, 1, None)]:
+            written(f"{room}/{name}", text)
+            written(f"{room}/forest.gr", b"old\n")
+            found = run(["sh", "-c", example], **pasted)
+            with open(f"{room}/forest.gr", "rb") as it:
+                left = it.read()
+            if found[0] != status or left not in ([forest] if forest else [b"", b"old\n"]):
+                raise AssertionError(f"{example}: {found!r:.300} {left!r:.300}")
+
+
+# The contents of the file
 
 
 @case
@@ -186,8 +211,8 @@ def a_malformed_file(room):
 
 
 @case
-def each_cut_of_a_file(_room):
-    """It is refused, but where docs/GR_FORMAT.md says that it isn't seen: between the marks."""
+def each_truncation_of_a_file(_room):
+    """It is rejected, except between the marks, where docs/GR_FORMAT.md says that this goes unnoticed."""
     marked = b"c a net\np sp 3 0|0|2\na 1 2 17\na 2 3 -0|45\nc the end\n|"
     parts = marked.split(b"|")
     unseen = [range(len(parts[0]), len(parts[0]) + 2), range(len(b"".join(parts[:3])), len(b"".join(parts)))]
@@ -198,19 +223,42 @@ def each_cut_of_a_file(_room):
             raise AssertionError(f"cut after {length} bytes: {status} {errors!r:.200}")
 
 
-# Wrong words
+# Invalid arguments
 
 
 @case
-def wrong_words(_room):
+def invalid_arguments(_room):
     usage = b"\n\nUsage: boruvka [OPTIONS] [FILE]...\n\nFor more information, try '--help'.\n"
-    tip = b"\n\n  tip: to pass '--wrong' as a value, use '-- --wrong'"
-    expect(ran(["--wrong"], SMALL_NET), 2, b"", b"error: unexpected argument '--wrong' found" + tip + usage)
+    for word, shown in [("--wrong", "--wrong"), ("-o", "-o"), ("-j4", "-j"), ("--max", "--max"), ("--output=a.gr", "--output")]:
+        expect(ran([word], SMALL_NET), 2, b"", f"error: unexpected argument '{shown}' found".encode() + usage)
+    tip = b"\n\n  tip: a similar argument exists: '--plain'"
+    expect(ran(["--plane"], SMALL_NET), 2, b"", b"error: unexpected argument '--plane' found" + tip + usage)
     numbers = [["--threads", "0"], ["--threads=65"], ["--threads", "x"], ["--threads=-1"], ["--threads"]]
     for words in [["--workers=65"], ["--workers=-1"], ["--shards=0"], ["--shards", "4097"], ["--workers"], *numbers]:
         for more in [[], ["--plain"]]:
             status, output, errors = ran([*more, *words], SMALL_NET)
             expect((status, output, errors[:7]), 2, b"", b"error: ")
+
+
+@case
+def what_is_wrong_with_a_number(_room):
+    help_ = b"\n\nFor more information, try '--help'.\n"
+    for option, shown, value, reason in [
+        ("threads", "N", "65", "65 is not in 1 to 64"),
+        ("threads", "N", "0", "0 is not in 1 to 64"),
+        ("workers", "N", "65", "65 is not in 0 to 64"),
+        ("shards", "S", "4097", "4097 is not in 1 to 4096"),
+        ("threads", "N", "four", "not a whole number"),
+        ("shards", "S", "6.5", "not a whole number"),
+        ("workers", "N", "-1", "-1 is not in 0 to 64"),
+        # what was typed is shown as it is
+        ("threads", "N", "1..=64", "not a whole number"),
+        ("threads", "N", "a': number too", "not a whole number"),
+        ("threads", "N", "9" * 30, "the number is too large"),
+        ("workers", "N", "-" + "9" * 30, "the number is too small"),
+    ]:
+        text = f"error: invalid value '{value}' for '--{option} <{shown}>': {reason}".encode()
+        expect(ran(["--plain", f"--{option}={value}"], SMALL_NET), 2, b"", text + help_)
 
 
 @case
@@ -223,7 +271,7 @@ def threads_without_plain(_room):
 
 
 @case
-def the_help_beside_other_words(_room):
+def the_help_with_other_arguments(_room):
     for words in [["--help", "--wrong"], ["--report", "--help"], ["no/such/file", "-h", "--shards"]]:
         status, output, errors = ran(words, SMALL_NET)
         expect((status, b"", errors), 0, b"", b"")
@@ -235,15 +283,15 @@ def the_help_beside_other_words(_room):
 
 
 @case
-def a_word_that_is_not_utf_8(_room):
-    expect(ran([b"--plain", b"\xff.gr"], SMALL_NET), 2, b"", b"boruvka: a word is not UTF-8\n")
+def an_argument_that_is_not_utf_8(_room):
+    expect(ran([b"--plain", b"\xff.gr"], SMALL_NET), 2, b"", b"boruvka: an argument is not UTF-8\n")
     for before in [9, 10, 99, 1000]:
-        expect(ran([*["--"] * before, b"\xff.gr"], SMALL_NET), 2, b"", b"boruvka: a word is not UTF-8\n")
+        expect(ran([*["--"] * before, b"\xff.gr"], SMALL_NET), 2, b"", b"boruvka: an argument is not UTF-8\n")
 
 
 @case
-def as_many_words_as_there_are_options(room):
-    # with the program's name FILE is the tenth word or the eleventh, and what stands behind it isn't lost either
+def as_many_arguments_as_there_are_options(room):
+    # with the program's name FILE is the tenth or eleventh argument, and what follows isn't lost either
     written(f"{room}/net.gr", SMALL_NET)
     numbers = ["--threads", "2", "--workers", "3", "--shards", "4", "--plain", "--report"]
     for before in [[], ["--"]]:
@@ -254,7 +302,7 @@ def as_many_words_as_there_are_options(room):
     expect((status, output, errors), 0, ran(["--help"])[1], b"")
 
 
-# A FILE that isn't there
+# A FILE that can't be opened
 
 
 @case
@@ -281,7 +329,7 @@ def a_name_of_300_bytes_that_cannot_be_opened(room):
 
 @case
 def control_characters_of_a_name_that_cannot_be_opened(room):
-    # (a word has no 0)
+    # (an argument can't contain a 0)
     around = "".join(map(chr, range(1, 0x180)))
     for name in ["a.gr\nboruvka: done\x1b[2K\r", "\u009b1A\\x1b\u20ac\U0001f600", around, "\x1b" * 5000, "\u20ac" * 3000]:
         expect(ran(["--plain", name.encode()], SMALL_NET, cwd=room), 3, b"", f"boruvka: cannot open {escaped(name)}\n".encode())
@@ -289,5 +337,5 @@ def control_characters_of_a_name_that_cannot_be_opened(room):
 
 
 @case
-def a_folder_in_place_of_a_file(room):
+def a_directory_instead_of_a_file(room):
     expect(ran(["--plain", "."], SMALL_NET, cwd=room), 3, b"", b"boruvka: line 1: read failed\n")

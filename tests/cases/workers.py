@@ -1,4 +1,4 @@
-"""Runs over workers: the forest is the same whatever their number and that of the shards, and the report's equations hold."""
+"""Runs over workers: the forest doesn't depend on their number or on that of the shards, and the report's equations hold."""
 import filecmp
 import os
 import random
@@ -13,12 +13,12 @@ def over(workers, shards):
 
 
 def expect_healthy(words, file, text, workers, shards):
-    """Runs over so many workers and shards give this text, and no worker is lost. It answers the report."""
+    """Expects this text of a run over so many workers and shards, and that no worker is lost. Returns the report."""
     return healthy_report(ran([*over(workers, shards), "--report", *words], file), text, workers, shards)
 
 
 def healthy_report(found, text, workers, shards):
-    """The report of a run that gave this text and lost no worker."""
+    """Expects that a run gave this text and lost no worker. Returns its report."""
     status, output, errors = found
     expect((status, output, b""), 0, text, b"")
     report = Report(errors)
@@ -41,7 +41,7 @@ def the_report_for_each_number_of_workers_and_shards(_room):
 
 
 @case
-def two_workers_and_sixty_four_shards_where_no_words_say_so(_room):
+def two_workers_and_sixty_four_shards_by_default(_room):
     line = b"vertices=6 links=8 rounds=2 shards=64 asked=192 answered=192 alone=0 closed=0 total=13\n"
     expect(ran(["--report"], SMALL_NET), 0, SMALL_FOREST, line)
     expect(ran(["--report", "--workers", "2", "--shards", "64"], SMALL_NET), 0, SMALL_FOREST, line)
@@ -101,8 +101,8 @@ def a_larger_graph_over_workers(_room):
 
 @case
 def answers_that_are_read_by_64_kib(room):
-    # each of 10,000 vertices has an offer in the first answer. The links are sorted by their tails, so that a place beside
-    # that of an offer's link most often has another link of the same vertex
+    # each of 10,000 vertices has an offer in the first answer. The links are sorted by their tails, so that the index next to
+    # that of an offer is usually another link of the same vertex
     draw = random.Random(8125)
     rows = [(u, draw.randint(1, 10_000), draw.randint(1, 10**6)) for u in range(1, 10_001) for _ in range(6)]
     file, text = file_of(10_000, rows), forest_text(10_000, forest_of(10_000, rows))
@@ -115,7 +115,7 @@ def answers_that_are_read_by_64_kib(room):
 
 
 @case
-def what_is_refused_is_refused_before_workers_are_asked(_room):
+def an_error_is_reported_before_workers_are_asked(_room):
     for words in [[], over(0, 1), over(2, 4)]:
         expect(ran([*words, "--report"], b"a 1 2 3\np sp 2 1\n"), 1, b"", b"boruvka: line 1: NoProblemYet\n")
         expect(ran([*words, "--report"], b"p sp 2 2\na 1 2 5\n"), 1, b"", b"boruvka: line 3: MissingArcs\n")
@@ -123,7 +123,7 @@ def what_is_refused_is_refused_before_workers_are_asked(_room):
 
 
 def many_links(path, count, last):
-    """A file of so many links between two vertices: all weigh 3 but the last, which is this arc line."""
+    """Returns a file of so many links between two vertices. All weigh 3 except the last, which is this arc line."""
     with open(path, "wb") as it:
         it.write(b"p sp 2 %d\n" % count)
         for _ in range((count - 1) // 16384):
@@ -140,7 +140,7 @@ def one_shard_of_more_links_than_a_shard_may_have(room):
 
 
 @case
-def shards_that_are_just_full(room):
+def shards_that_are_exactly_full(room):
     # two of links that fit 32 bits, and one with a weight that doesn't, so that each link takes sixteen bytes of its frame
     for shards, last in [(2, b"a 1 2 2\n"), (1, b"a 1 2 -2147483649\n")]:
         name = many_links(f"{room}/full.gr", shards * 2**24, last)
@@ -163,7 +163,7 @@ def one_worker_answers_sixty_four_shards_at_once(_room):
 
 @case
 def few_descriptors(_room):
-    # a pair takes two or more; those that can't be made are left out
+    # a pair of sockets takes two or more; pairs that can't be made are left out
     for workers in [2, 64]:
         seen = set()
         for most in [*range(4, 24), 40, 80, 160, 320]:
@@ -183,17 +183,17 @@ def few_descriptors(_room):
             raise AssertionError(f"shards scanned alone: {seen}")
 
 
-# Sizes that no proved test has the time for, at which something might give up
+# Sizes for which the proved tests have no time
 
 
 def forty_times(seed, vertices, arcs):
-    """A file with forty times the links of a drawn graph, and the text of its forest, which is the same."""
+    """Returns a file with forty copies of the links of a random graph, and the text of its forest, which is the same."""
     file, text = drawn_graph(seed, vertices, arcs)
     return b"p sp %d %d\n" % (vertices, 40 * arcs) + file.partition(b"\n")[2] * 40, text
 
 
 def started_by(room, file, text, workers, shards, processors):
-    """The report of a run on so many processors, and what was told of the threads that it started."""
+    """Returns the report of a run on so many processors, and what was recorded of the threads that it started."""
     words = [Program.path, *over(workers, shards), "--report"]
     found, told = told_by(room, words, file, {"PROCESSORS": str(processors), "STARTED": str(workers)})
     if b"J" in told:
@@ -203,11 +203,11 @@ def started_by(room, file, text, workers, shards, processors):
 
 @case
 def a_list_halved_three_times(room):
-    # on eight processors a scan of all of them is by eight threads, one of which was there
+    # on eight processors eight threads scan all of them, one of which was there already
     file, text = forty_times(13, 600, 30_000)
     for workers, shards in [(0, 1), (1, 1)]:
         report, told = started_by(room, file, text, workers, shards, 8)
-        # each round scans all of them without a worker, the last one too, which takes none; a worker scans so in the first
+        # without a worker each round scans all of them, also the last, which takes none; a worker does so in the first
         own, others = told.count(b"w"), told.count(b"s")
         if own < 7 if workers else others != 7 * (report.rounds + 1):
             raise AssertionError(f"{workers} workers: told {told!r}: {vars(report)}")
@@ -215,7 +215,7 @@ def a_list_halved_three_times(room):
 
 @case
 def a_scan_has_no_more_threads_than_processors(room):
-    # but for the worker's, for whom the coordinator waits, and the other way round
+    # except that of the worker, for which the coordinator waits, and the other way round
     file, text = forty_times(13, 600, 30_000)
     for processors, workers in [(1, 0), (3, 0), (16, 0), (16, 1)]:
         _, told = started_by(room, file, text, workers, 1, processors)
@@ -226,7 +226,7 @@ def a_scan_has_no_more_threads_than_processors(room):
 
 @case
 def a_round_starts_few_threads(room):
-    # a step of a round shares all answers among four: no answer has threads of its own, unless it is very long
+    # a step of a round divides all answers among four threads: no answer has its own threads, unless it is very long
     file, text = drawn_graph(31, 120_000, 400_000)
     for shards in [2, 16, 64]:
         report, told = started_by(room, file, text, 2, shards, 4)
@@ -236,7 +236,7 @@ def a_round_starts_few_threads(room):
 
 @case
 def each_worker_that_is_asked_for_is_started(room):
-    # each says one hello, and has a thread; another thread begins for each lane of a round but one
+    # each sends one hello, and has a thread; another thread starts for each lane of a round except one
     for workers in [1, 3, 63, 64]:
         words = [Program.path, *over(workers, 4), "--report"]
         found, told = told_by(room, words, SMALL_NET, {"PROCESSORS": "4", "STARTED": str(workers), "GREETED": "1"})
@@ -247,7 +247,7 @@ def each_worker_that_is_asked_for_is_started(room):
 
 
 @case
-def shards_past_255_of_more_than_4096_links(_room):
+def more_than_255_shards_of_more_than_4096_links(_room):
     file, text = forty_times(13, 600, 30_000)
     expect_healthy([], file, text, 2, 280)
 
@@ -273,8 +273,8 @@ def a_forest_of_more_than_65536_links(room):
 
 @case
 def a_session_of_more_than_65536_frames(room):
-    # a path whose links weigh as many as there are zeros behind their number: each round merges pairs, so there are
-    # as many rounds as there can be, and one worker gets 4,096 shards and 16 asks of each
+    # a path where the weight of a link is the number of zeros at the end of its number: each round merges pairs, so the rounds
+    # are as many as possible, and one worker gets 4,096 shards and 16 asks for each
     rows = b"".join(b"a %d %d %d\n" % (it, it + 1, (it & -it).bit_length() - 1) for it in range(1, 32_768))
     name = written(f"{room}/path.gr", b"p sp 32768 32767\n" + rows)
     text = ran(["--plain", name])[1]
@@ -286,7 +286,8 @@ def a_session_of_more_than_65536_frames(room):
 
 
 def write_path(name, vertices, numbers):
-    """A file of these links of a path, by the lower ends: each weighs as much as there are zeros behind its end's bits."""
+    """Returns a file of these links of a path, by lower endpoint. A link weighs the number of zero bits that its endpoint ends
+    with."""
     with open(name, "wb") as it:
         it.write(b"p sp %d %d\n" % (vertices, vertices - 1))
         for ends in numbers:
@@ -296,7 +297,7 @@ def write_path(name, vertices, numbers):
 
 @case
 def as_many_rounds_as_two_million_vertices_can_have(room):
-    # the same path, halved 21 times: from 2^21 components to one. Its forest has the links of each weight in turn
+    # the same path, halved 21 times, from 2^21 components to one. Its forest has the links of each weight in turn
     vertices = 2**21
     file = write_path(f"{room}/path.gr", vertices, [range(1, vertices)])
     forest = write_path(f"{room}/forest.gr", vertices, [range(1 << weight, vertices, 2 << weight) for weight in range(21)])
@@ -318,7 +319,7 @@ def as_many_vertices_as_there_can_be(_room):
 
 @case
 def an_answer_of_as_many_offers_as_there_can_be(room):
-    # each of 2^25 vertices picks the link to its neighbour, all of them in one shard: the file is its own forest
+    # each of 2^25 vertices picks the link to its neighbour, all in one shard: the file is its own forest
     vertices = 2**25
     name, output = f"{room}/pairs.gr", f"{room}/forest.gr"
     with open(name, "wb") as it:
@@ -330,7 +331,7 @@ def an_answer_of_as_many_offers_as_there_can_be(room):
     line = b"vertices=33554432 links=16777216 rounds=1 shards=1 asked=2 answered=2 alone=0 closed=0 total=83886080\n"
     expect((status, b"", errors), 0, b"", line)
     if not filecmp.cmp(name, output, shallow=False):
-        raise AssertionError("the forest of pairs is another text than theirs")
+        raise AssertionError("the forest of pairs isn't their text")
     os.remove(name)
     os.remove(output)
 

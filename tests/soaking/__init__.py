@@ -1,1 +1,1 @@
-"""What tests/soak.py draws, and what it compares, by subject."""
+"""The parts of tests/soak.py: it draws cases, computes what is expected, and compares."""

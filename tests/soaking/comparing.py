@@ -1,4 +1,4 @@
-"""Runs of the program, and what is wrong with what they gave."""
+"""Runs the program and compares the results."""
 import os
 import shutil
 import subprocess
@@ -7,18 +7,18 @@ from dataclasses import dataclass, replace
 from cases.running import NO_MEMORY, SECONDS, Program, Report, expect, run, told_by, total_of, written
 from cases.sockets import NOTHING
 from cases.streams import LEAST_PIECE, READ_ROOM
-from soaking.judging import answer_broken_off, answer_to, answer_to_files, rounds_of
+from soaking.judging import result_for_failed_read, result_for_text, result_for_files, rounds_of
 
 
 class Limits:
-    """How long a run may take."""
+    """The longest time of a run, in seconds."""
 
     seconds = SECONDS
 
 
 @dataclass
 class Found:
-    """What a run gave, and what a preloaded library told of it."""
+    """The result of a run, and what a preloaded library recorded."""
 
     status: int
     output: bytes
@@ -27,12 +27,12 @@ class Found:
 
     @property
     def failed(self):
-        """How many calls failed, or allocations were refused."""
+        """Returns how many calls or allocations failed."""
         return self.told.count(b"x")
 
 
 def files_written(room, files):
-    """An empty folder of this path, in which then those files are that have a text; standard input is none."""
+    """Empties the folder of this path and writes the files that have a text, except standard input."""
     shutil.rmtree(room, ignore_errors=True)
     os.makedirs(room)
     for name, text in files:
@@ -42,7 +42,7 @@ def files_written(room, files):
 
 
 def found_by(room, case):
-    """What the program did. (A FILE `-` is standard input.)"""
+    """Runs the program. (A FILE `-` is standard input.)"""
     if case.files:
         room = files_written(f"{room}/files", case.files)
     if case.given == "piped":
@@ -63,8 +63,8 @@ def found_of(room, case, source):
     return Found(*found, told)
 
 
-def expect_answer(case, found, answer):
-    """It is this answer, with its report where one was asked for."""
+def expect_result(case, found, answer):
+    """Expects this result, with its report if one was asked for."""
     if found.status or answer.status or not case.report:
         expect((found.status, found.output, found.errors), answer.status, answer.output, answer.errors)
         return
@@ -84,38 +84,38 @@ def expect_answer(case, found, answer):
 
 
 def expect_failed_read(case, found):
-    """A read that failed is told by its line, or one that found the end has cut the text off there."""
+    """Expects a failed read to be reported with its line, or a read that found the end to have truncated the text."""
     number = case.fails["FAIL_NUMBER"]
     room = 1 if "SHORT" in case.fails else READ_ROOM
-    come, answer = case.text[: (number - 1) * room], answer_to(case.text)
+    come, answer = case.text[: (number - 1) * room], result_for_text(case.text)
     if found.failed:
-        answer = answer_to(come) if case.fails["FAIL_ERROR"] == NOTHING else answer_broken_off(come)
+        answer = result_for_text(come) if case.fails["FAIL_ERROR"] == NOTHING else result_for_failed_read(come)
     elif not answer.status and number <= -(-len(case.text) // room) + 1:
         raise AssertionError(f"read {number} didn't fail")
-    expect_answer(case, found, answer)
+    expect_result(case, found, answer)
 
 
 def expect_failed_write(case, found):
-    """A write that failed is told by what went out before it; where it was one to standard error, its line lacks."""
-    answer, number, output = answer_to(case.text), case.fails["FAIL_NUMBER"], found.output
+    """Expects a failed write to be reported with the bytes written before it. If it was to standard error, no line is there."""
+    answer, number, output = result_for_text(case.text), case.fails["FAIL_NUMBER"], found.output
     is_told = found.failed == 1
     if answer.status or found.status == 0:
         if not answer.status and not (case.report and is_told):
-            raise AssertionError("a failed write was passed over")
+            raise AssertionError("a failed write was ignored")
         expect((found.status, output, found.errors), answer.status, answer.output, b"")
         return
     line = f"boruvka: write failed after {len(output)} bytes\n".encode() if is_told else b""
     expect((found.status, output, found.errors), 3, answer.output[: len(output)], line)
-    # the text's first line is a write of its own
+    # the first line of the text is a write of its own
     least = answer.output.index(b"\n") + 1 + (number - 2) * LEAST_PIECE if number > 1 else 0
     if not least <= len(output) < len(answer.output):
         raise AssertionError(f"{len(output)} of {len(answer.output)} bytes went out before write {number}")
 
 
 def expect_right(case, found):
-    """Raises what is wrong with what a run of this case gave."""
+    """Raises an error if the result of a run of this case is wrong."""
     call, more = case.fails.get("FAIL_CALL"), found.told.replace(b"x", b"")
-    # (with a byte at a time any byte of a frame is taken for the first of a text)
+    # (if writes move one byte, every byte of a frame looks like the first of a text)
     if more.replace(b"T", b"") if "SHORT" in case.fails else more:
         raise AssertionError(f"tests/failing.c told {more!r:.300}")
     if call == "read":
@@ -127,16 +127,16 @@ def expect_right(case, found):
     elif case.library == "refusing" and found.failed and found.status == 4:
         expect((found.status, found.output, found.errors), 4, b"", NO_MEMORY)
     else:
-        expect_answer(case, found, answer_to_files(case.files) if case.files else answer_to(case.text))
+        expect_result(case, found, result_for_files(case.files) if case.files else result_for_text(case.text))
 
 
 def runs_of(case):
-    """The case, and where it is one of workers the same by one thread."""
+    """Returns the case, and for a case with workers also the same with one thread."""
     return [case, replace(case, plain=True, words=["--plain", *case.words])] if case.sort == "workers" else [case]
 
 
-def wrong_with(room, case):
-    """What is wrong with a case's runs, which of them, and what that gave; None where nothing is."""
+def what_is_wrong_with(room, case):
+    """Returns what is wrong with a case's runs, in which run, and its result, or None if nothing is wrong."""
     for it in runs_of(case):
         found = None
         try:

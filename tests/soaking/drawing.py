@@ -1,4 +1,4 @@
-"""Cases: graphs, their spellings, texts that may be malformed, the program's words, and what fails in a run."""
+"""Draws cases: graphs, their spellings, texts that may be malformed, the program's arguments, and what fails in a run."""
 import random
 import shlex
 from dataclasses import dataclass, field
@@ -9,7 +9,7 @@ from cases.sockets import NOTHING
 from soaking.judging import FIELD, LEAST_WEIGHT, MOST_ARCS, MOST_VERTICES, MOST_WEIGHT, SIGNED, Fault, judged, number_of
 
 # and how often they come
-SORTS = {"plain": 5, "workers": 4, "failing": 4, "refused memory": 3, "malformed": 8, "several files": 5}
+SORTS = {"plain": 5, "workers": 4, "failing": 4, "out of memory": 3, "malformed": 8, "several files": 5}
 FAR = 10**9
 MOST_WORKERS, MOST_SHARDS = 64, 4096
 PAGE = 4096
@@ -18,7 +18,7 @@ PAGE = 4096
 @dataclass
 class Case:
     sort: str
-    text: bytes  # of several files that of standard input
+    text: bytes  # if there are several files, that of standard input
     words: list
     given: str  # how the text goes in: "piped" or "redirected" to standard input, or the name of a file
     plain: bool
@@ -27,25 +27,25 @@ class Case:
     report: bool
     library: str = ""
     fails: dict = field(default_factory=dict)
-    files: list = field(default_factory=list)  # of several files their names and texts, in order
+    files: list = field(default_factory=list)  # if there are several files, their names and texts, in order
 
     @property
     def is_named(self):
         return self.given not in ("piped", "redirected")
 
     def shown(self):
-        """The words, as for a shell, with what fails before them."""
+        """Returns the arguments as for a shell, after the environment that makes calls fail."""
         fails = [f"{name}={value}" for name, value in self.fails.items()]
         source = {"piped": ["|"], "redirected": ["<"]}.get(self.given, [])
         return " ".join([*source, *fails, "boruvka", *map(shlex.quote, self.words)])
 
 
 def log_drawn(draw, most):
-    """1 to `most`, small ones far more often."""
+    """Draws a number from 1 to `most`, small ones far more often."""
     return min(most, int((most + 1) ** draw.random()))
 
 
-# An arc's ends and weight, by the number of vertices and the place in the list
+# An arc's endpoints and weight, by the number of vertices and the index in the list
 ENDS = {
     "any": lambda draw, n, at: (draw.randint(1, n), draw.randint(1, n)),
     "ring": lambda draw, n, at: (at % n + 1, (at + 1) % n + 1),
@@ -63,21 +63,21 @@ WEIGHTS = {
     "narrow": lambda draw, at: draw.randint(-(2**31), 2**31 - 1),
     "about 32 bits": lambda draw, at: draw.choice([-(2**31) - 1, -(2**31), 0, 2**31 - 1, 2**31, 2**32]),
     "limits": lambda draw, at: draw.choice([LEAST_WEIGHT, LEAST_WEIGHT + 1, 0, MOST_WEIGHT - 1, MOST_WEIGHT]),
-    "zeros": lambda draw, at: ((at + 1) & -(at + 1)).bit_length(),  # (of the place: on a ring the most rounds)
+    "zeros": lambda draw, at: ((at + 1) & -(at + 1)).bit_length(),  # (by the index: on a ring this takes the most rounds)
     "rising": lambda draw, at: at,
     "falling": lambda draw, at: -at,
 }
 
 
 def drawn_size(draw, sort):
-    """The numbers of vertices and of arcs. (Large ones take more than one read and write, any of which may fail.)"""
+    """Draws the numbers of vertices and arcs. (Large ones take several reads and writes, any of which may fail.)"""
     often = [75, 5, 20] if sort == "failing" else [85, 12, 3]
     vertices = draw.choices([draw.randint(0, 40), draw.randint(41, 300), draw.randint(301, 2000)], often)[0]
     return vertices, draw.choice([0, vertices, *(draw.randint(0, times * vertices) for times in (1, 4, 10))])
 
 
 def drawn_arcs(draw, vertices, count):
-    """Arcs, some of them again or back, and with their vertices' numbers exchanged or not."""
+    """Draws arcs. Some are repeated or reversed, and the vertices may be renumbered."""
     ends, weight = draw.choice(list(ENDS.values())), draw.choice(list(WEIGHTS.values()))
     again, names = draw.choice([0, 0, 0.1, 0.5]), list(range(1, vertices + 1))
     if draw.random() < 0.5:
@@ -127,7 +127,7 @@ def odd_line(draw, word, numbers):
 
 
 def spelled(draw, vertices, arcs):
-    """A text that means this graph."""
+    """Draws a text that describes this graph."""
     odd, silent = draw.choice([0, 0, 0.03, 0.3, 1]), draw.choice([0, 0, 0.03, 0.3])
     lines = []
     for word, numbers in [(b"p sp", (vertices, len(arcs))), *((b"a", arc) for arc in arcs)]:
@@ -154,13 +154,13 @@ BOUNDS = [0, 1, MOST_VERTICES, MOST_ARCS, 2**31, 2**32, 2**63, 2**64, 10**19, 10
 
 
 def with_other_byte(draw, text):
-    """A byte exchanged, dropped or put in."""
+    """Replaces, drops or inserts a byte."""
     at, kept = draw.randint(0, len(text)), draw.randint(0, 1)
     return text[:at] + draw.choice([b"", bytes([draw.choice(BYTES)])]) + text[at + kept :]
 
 
 def with_other_lines(draw, text):
-    """Two lines exchanged, or a line dropped, repeated, or put in."""
+    """Exchanges two lines, or drops, repeats or inserts a line."""
     lines = text.split(b"\n")
     at, other = draw.randrange(len(lines)), draw.randrange(len(lines))
     if draw.random() < 0.3:
@@ -171,13 +171,13 @@ def with_other_lines(draw, text):
 
 
 def bound(draw, text):
-    """A number at a limit or one beside it: a fixed one, or one that the text has."""
+    """Draws a number at a limit or next to it: a fixed limit, or a number of the text."""
     number = draw.choice([*BOUNDS, *map(number_of, SIGNED.findall(text[:40]))]) + draw.randint(-1, 1)
     return odd_number(draw, draw.choice([1, 1, -1]) * number, True)
 
 
 def with_other_field(draw, text):
-    """A field exchanged for another number or word, dropped, or repeated; often one of the problem line."""
+    """Replaces a field by another number or text, drops it, or repeats it; often a field of the problem line."""
     lines = text.split(b"\n")
     at = 0 if draw.random() < 0.3 else draw.randrange(len(lines))
     fields = FIELD.findall(lines[at])
@@ -208,7 +208,7 @@ def changed(draw, text):
 
 
 def within_memory(text):
-    """The text, and where it means a graph of very many vertices one arc line more; and how many it means."""
+    """Returns the text and how many vertices it has. If these are very many, the text gets one more arc line."""
     try:
         vertices = judged(text).vertices
         return (text, vertices) if vertices <= 2**20 else (text + b"\na", 0)
@@ -222,7 +222,7 @@ NAMES = ["a.gr", "b.gr", "c.gr", "./d.gr", "a b.gr", "größe.gr", "\x1b[2K.gr",
 
 
 def parts_of(draw, arcs):
-    """The arcs in 2 to 9 lists at random; some may be empty, and some arcs may be in two."""
+    """Divides the arcs into 2 to 9 lists at random. Some may be empty, and some arcs may be in two lists."""
     parts = [[] for _ in range(draw.randint(2, 9))]
     some = draw.sample(parts, draw.randint(1, len(parts)))
     for arc in arcs:
@@ -232,8 +232,8 @@ def parts_of(draw, arcs):
     return parts
 
 
-def with_fault(draw, vertices, text):
-    """A text beside others of so many vertices, or None for no file: one that may be malformed, or of other vertices."""
+def with_error(draw, vertices, text):
+    """Draws a text that can't be joined with others of so many vertices, if at all, or None for a missing file."""
     kind = draw.choices(["changed", "other", "none"], [5, 4, 1])[0]
     if kind == "changed":
         return within_memory(changed(draw, text))[0]
@@ -244,7 +244,7 @@ def with_fault(draw, vertices, text):
 
 
 def drawn_files(draw):
-    """Two files to nine, each with its name: an arc list cut at random; in some cases files are at fault."""
+    """Draws two to nine files with their names: an arc list divided at random. In some cases files have errors."""
     vertices, count = drawn_size(draw, "several files")
     parts = parts_of(draw, drawn_arcs(draw, vertices, count))
     texts = [spelled(draw, vertices, it) for it in parts]
@@ -253,20 +253,20 @@ def drawn_files(draw):
             raise AssertionError(f"the judge reads another graph than was spelled: {text!r:.600}")
     if draw.random() < 0.5:
         for at in draw.sample(range(len(texts)), draw.choice([1, 1, 2])):
-            texts[at] = with_fault(draw, vertices, texts[at])
+            texts[at] = with_error(draw, vertices, texts[at])
     files = list(zip(draw.sample(NAMES, len(texts)), texts))
-    # the same file again, or standard input, which comes once
+    # the same file again, or standard input, which may be given once
     return files + [draw.choice(files)] * (draw.random() < 0.1)
 
 
 def drawn_several(draw):
-    """A case of several files, some of them by threads."""
+    """Draws a case of several files, sometimes with threads."""
     files = [("-", text or b"") if name == "-" else (name, text) for name, text in drawn_files(draw)]
     case = Case("several files", dict(files).get("-", b""), [], draw.choice(["piped", "redirected"]), True, 2, 64, draw.random() < 0.5, files=files)
     groups = drawn_groups(draw, case)
     if draw.random() < 0.4:
         groups.append(["--threads", str(draw.choice([1, 2, 3, 8, 64]))])
-    # the names among the others, in their order
+    # the names between the other arguments, in their order
     places = sorted(draw.randint(0, len(groups)) for _ in files)
     for at, (name, _) in enumerate(files):
         groups.insert(places[at] + at, [name])
@@ -281,7 +281,7 @@ STREAMS, SOCKETS = ["read", "write"], ["recv", "send"]
 
 
 def drawn_groups(draw, case):
-    """The words of a case, those that belong together in a list, in any order."""
+    """Draws the arguments of a case in any order. Those that belong together are in a list."""
     groups = [["--plain"]] if case.plain else []
     if not case.plain and (case.workers, case.shards) == (2, 64):
         given = draw.choice([[], ["--workers"], ["--shards"]])
@@ -296,7 +296,7 @@ def drawn_groups(draw, case):
 
 
 def drawn_workers(draw):
-    """Their number and that of the shards."""
+    """Draws the number of workers and of shards."""
     if draw.random() < 0.15:
         return 2, 64
     some = draw.randint(0, 4), draw.randint(5, 16), draw.randint(17, MOST_WORKERS), MOST_WORKERS
@@ -306,35 +306,35 @@ def drawn_workers(draw):
 
 
 def drawn_call(draw, case):
-    """The name of the call that fails: of large texts and of runs by one thread more often that of a stream."""
+    """Draws the call that fails. For large texts and one thread, it is more often a call of a stream."""
     if case.plain or draw.random() < (0.8 if len(case.text) > 8000 else 0.3):
         return draw.choice(STREAMS)
     return draw.choice([*MAKERS, *SOCKETS * 5])
 
 
 def drawn_failure(draw, case, vertices):
-    """Which calls fail, and how."""
+    """Draws which calls fail, and how."""
     call = drawn_call(draw, case)
     error = draw.choice([*ERRORS, NOTHING] if call in STREAMS + SOCKETS else ERRORS)
-    # a byte at a time, where there aren't too many
+    # a byte at a time, if there aren't too many
     is_short = draw.random() < 0.15 and len(case.text) < 20_000 and (case.plain or (vertices + 10) * case.shards < 5000)
     most = {"read": len(case.text) + 2 if is_short else 6, "write": 3, "recv": 1000, "send": 1000}
     number = log_drawn(draw, most.get(call, 2 * case.workers + 4))
-    # (some of these are tried again for as long as they are interrupted)
+    # (some of these are retried as long as they are interrupted)
     last = number if call in MAKERS and error == EINTR else FAR
     last = draw.choice([number, number + draw.randint(1, 3), last])
     fails = {"FAIL_CALL": call, "FAIL_NUMBER": number, "FAIL_ERROR": error, "FAIL_LAST": last}
     return {**fails, "SHORT": 1} if is_short else fails
 
 
-def drawn_refusal(draw, case):
-    """Which allocations are refused."""
+def drawn_failures(draw, case):
+    """Draws which allocations fail."""
     first = log_drawn(draw, 40 if case.plain else 1000)
     return {"REFUSE_FIRST": first, "REFUSE_LAST": draw.choice([first, first, first + draw.randint(1, 9), FAR])}
 
 
 def drawn_case(seed, number):
-    """A case, by the seed and its number alone."""
+    """Draws a case, which depends only on the seed and its number."""
     draw = random.Random(f"{seed} {number}")
     sort = draw.choices(list(SORTS), list(SORTS.values()))[0]
     if sort == "several files":
@@ -346,9 +346,9 @@ def drawn_case(seed, number):
     case = Case(sort, text, [], given, is_plain, *drawn_workers(draw), draw.random() < 0.5)
     if sort == "failing":
         case.library, case.fails = "failing", drawn_failure(draw, case, vertices)
-    if sort == "refused memory":
-        case.library, case.fails = "refusing", drawn_refusal(draw, case)
-    # more than a page may come through a pipe in pieces, and then nobody knows behind which a read fails
+    if sort == "out of memory":
+        case.library, case.fails = "refusing", drawn_failures(draw, case)
+    # more than a page may come through a pipe in pieces, and then it isn't known after which piece a read fails
     if case.given == "piped" and case.fails.get("FAIL_CALL") == "read" and len(text) > PAGE:
         case.given = "redirected"
     case.words = sum(drawn_groups(draw, case), [])
@@ -356,13 +356,13 @@ def drawn_case(seed, number):
 
 
 def drawn_text(draw, sort):
-    """A text for a case of this sort, and how many vertices it has, or about so many where it isn't lawful."""
+    """Draws a text for a case of this sort. Returns it with its number of vertices, which is rough if it is malformed."""
     vertices, count = drawn_size(draw, sort)
     arcs = drawn_arcs(draw, vertices, count)
     text = spelled(draw, vertices, arcs)
     graph = judged(text)
     if (graph.vertices, graph.arcs) != (vertices, arcs):
         raise AssertionError(f"the judge reads another graph than was spelled: {text!r:.600}")
-    if sort == "malformed" or sort in ("failing", "refused memory") and draw.random() < 0.15:
+    if sort == "malformed" or sort in ("failing", "out of memory") and draw.random() < 0.15:
         return within_memory(changed(draw, text))
     return text, vertices

@@ -1,4 +1,4 @@
-"""What a run has to answer of a text: the forest of what it means, or its first fault, from docs/GR_FORMAT.md alone."""
+"""What a run on a text has to give: the forest of its graph, or its first error. Written from docs/GR_FORMAT.md alone."""
 import re
 from dataclasses import dataclass
 
@@ -12,7 +12,7 @@ LEAST_WEIGHT, MOST_WEIGHT = -(2**63), 2**63 - 1
 
 
 class Fault(Exception):
-    """The first fault of a text."""
+    """The first error of a text."""
 
     def __init__(self, line, kind):
         super().__init__(line, kind)
@@ -20,29 +20,29 @@ class Fault(Exception):
 
 
 def number_of(field):
-    """The number that a field writes. Twenty digits are past each limit, whatever follows them."""
+    """Returns the number in a field. Twenty digits exceed every limit, whatever follows them."""
     digits = field.lstrip(b"-").lstrip(b"0")[:20]
     return int(digits or b"0") * (-1 if field.startswith(b"-") else 1)
 
 
 class Graph:
-    """What the lines of a text said so far."""
+    """What the lines of a text have said so far."""
 
     def __init__(self):
         self.vertices, self.stated, self.arcs = None, None, []
 
-    def fault_of(self, line):
-        """The kind of the fault of the next line, or None; then what it says is taken."""
+    def error_of(self, line):
+        """Returns the error of the next line, or None. Then the line's content is added."""
         fields = FIELD.findall(line)
         if not fields or fields[0].startswith(b"c"):
             return None
         if fields[0] == b"p":
-            return self.fault_of_problem(fields)
+            return self.error_of_problem(fields)
         if fields[0] == b"a":
-            return self.fault_of_arc(fields)
+            return self.error_of_arc(fields)
         return "UnknownLine"
 
-    def fault_of_problem(self, fields):
+    def error_of_problem(self, fields):
         if self.vertices is not None:
             return "SecondProblem"
         if len(fields) != 4 or fields[1] != b"sp" or not all(DIGITS.fullmatch(it) for it in fields[2:]):
@@ -53,7 +53,7 @@ class Graph:
         self.vertices, self.stated = vertices, arcs
         return None
 
-    def fault_of_arc(self, fields):
+    def error_of_arc(self, fields):
         if self.vertices is None:
             return "NoProblemYet"
         if len(self.arcs) == self.stated:
@@ -70,13 +70,13 @@ class Graph:
 
 
 def judged(text, is_whole=True):
-    """The graph that a text means; raises its first fault. Of one that isn't whole only the ended lines are judged."""
+    """Returns the graph of a text, or raises its first error. If the text is truncated, only complete lines are judged."""
     *lines, rest = text.split(b"\n")
     if rest and is_whole:
         lines.append(rest)
     graph = Graph()
     for number, line in enumerate(lines, 1):
-        kind = graph.fault_of(line)
+        kind = graph.error_of(line)
         if kind:
             raise Fault(number, kind)
     if is_whole and graph.vertices is None:
@@ -88,7 +88,7 @@ def judged(text, is_whole=True):
 
 @dataclass
 class Answer:
-    """What a run gives: its status, the two texts, and of a good end what a report tells beside them."""
+    """The expected result of a run: its status, both outputs and, if it succeeds, what a report adds."""
 
     status: int
     output: bytes
@@ -102,25 +102,25 @@ def refusal(why, status=1):
     return Answer(status, b"", f"boruvka: {why}\n".encode())
 
 
-def answer_to(text):
-    """What a run gives of a text where nothing fails."""
+def result_for_text(text):
+    """Returns the expected result for a text if nothing fails."""
     try:
         graph = judged(text)
     except Fault as it:
         return refusal(f"line {it.line}: {it.kind}")
-    return answer_of(graph.vertices, graph.arcs)
+    return result_for_graph(graph.vertices, graph.arcs)
 
 
-def answer_of(vertices, arcs):
-    """What a run gives of a graph where nothing fails."""
+def result_for_graph(vertices, arcs):
+    """Returns the expected result for a graph if nothing fails."""
     forest = forest_of(vertices, arcs)
     links = sum(u != v for u, v, _ in arcs)
     return Answer(0, forest_text(vertices, forest), b"", vertices, links, forest)
 
 
-def answer_to_files(files):
-    """What a run gives of several files, each a name and a text, or None where there is no such file: the first that is at
-    fault is told. Standard input, which is `-`, comes once."""
+def result_for_files(files):
+    """Returns the expected result for several files, each a name and a text, or None for a missing file. The first error is
+    reported. Standard input, which is `-`, may be given once."""
     vertices, arcs, names = None, [], []
     for name, text in files:
         if text is None or name == "-" and name in names:
@@ -134,11 +134,11 @@ def answer_to_files(files):
             return refusal(f"{escaped(name)}: {graph.vertices} vertices in place of {vertices}")
         vertices = graph.vertices
         arcs += graph.arcs
-    return answer_of(vertices, arcs)
+    return result_for_graph(vertices, arcs)
 
 
-def answer_broken_off(text):
-    """What a run gives of a source whose read failed behind this text."""
+def result_for_failed_read(text):
+    """Returns the expected result if a read fails after this text."""
     try:
         judged(text, is_whole=False)
     except Fault as it:
@@ -148,7 +148,7 @@ def answer_broken_off(text):
 
 
 def rounds_of(vertices, forest):
-    """How many of Borůvka's rounds take links. All that they pick are links of the forest, so these are enough."""
+    """Returns how many of Borůvka's rounds take links. They pick only links of the forest, so the forest is enough."""
     components, left, rounds = Components(vertices), forest, 0
     while left:
         picks = {}

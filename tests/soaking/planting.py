@@ -1,11 +1,11 @@
-"""Wrong answers: each has to be told as a mismatch, else the comparison that it is for can't fail."""
+"""Wrong outputs. Each has to be reported as a mismatch; otherwise the comparison that it is for can't fail."""
 import re
 import signal
 from dataclasses import replace
 
 from cases.running import NO_MEMORY, escaped
 from soaking.comparing import Found
-from soaking.judging import answer_to, answer_to_files
+from soaking.judging import result_for_text, result_for_files
 
 PLANTS = {}
 
@@ -16,7 +16,7 @@ def plant(function):
 
 
 def with_errors(found, pattern, by):
-    """The same with the number that is found so in standard error changed; None where there is none."""
+    """Returns the result with the number changed that this pattern finds in standard error, or None if there is none."""
     it = re.search(pattern, found.errors)
     if not it:
         return None
@@ -24,7 +24,7 @@ def with_errors(found, pattern, by):
 
 
 @plant
-def a_link_of_the_forest_exchanged(_case, found):
+def a_link_of_the_forest_replaced(_case, found):
     lines = found.output.split(b"\n")
     if found.status or len(lines) < 3:
         return None
@@ -47,28 +47,28 @@ def a_forest_without_its_last_line_feed(_case, found):
 
 
 @plant
-def a_fault_a_line_later(_case, found):
+def an_error_a_line_later(_case, found):
     return with_errors(found, rb"line (\d+): [A-Z]", 1)
 
 
 @plant
-def a_fault_of_another_kind(_case, found):
+def an_error_of_another_kind(_case, found):
     errors = found.errors.replace(b"BadArc", b"EndOutOfRange").replace(b"MissingArcs", b"TooManyArcs")
     return replace(found, errors=errors) if errors != found.errors else None
 
 
 @plant
-def a_fault_passed_over(_case, found):
+def an_error_ignored(_case, found):
     return replace(found, status=0, output=b"p sp 2 0\n", errors=b"") if found.status == 1 else None
 
 
 @plant
-def a_lawful_text_refused(_case, found):
+def a_valid_text_rejected(_case, found):
     return None if found.status else replace(found, status=1, output=b"", errors=b"boruvka: line 1: BadProblem\n")
 
 
 @plant
-def a_forest_beside_a_fault(_case, found):
+def a_forest_with_an_error(_case, found):
     return replace(found, output=b"p sp 2 0\n") if found.status in (1, 4) else None
 
 
@@ -83,7 +83,7 @@ def a_round_more_in_the_report(_case, found):
 
 
 @plant
-def a_link_less_in_the_report(_case, found):
+def one_link_less_in_the_report(_case, found):
     return with_errors(found, rb"links=(\d+)", -1)
 
 
@@ -117,10 +117,10 @@ def a_failed_read_a_line_later(_case, found):
 
 
 @plant
-def a_failed_read_passed_over(case, found):
+def a_failed_read_ignored(case, found):
     if found.status != 3 or b"read" not in found.errors:
         return None
-    whole = answer_to(case.text)
+    whole = result_for_text(case.text)
     return Found(whole.status, whole.output, whole.errors, found.told)
 
 
@@ -140,7 +140,7 @@ def a_failed_write_with_status_0(_case, found):
 
 
 @plant
-def no_memory_where_none_was_refused(case, found):
+def out_of_memory_without_a_failed_allocation(case, found):
     if found.status or case.library == "refusing" and found.failed:
         return None
     return replace(found, status=4, output=b"", errors=NO_MEMORY)
@@ -164,19 +164,19 @@ def a_thread_that_was_not_joined(case, found):
 
 @plant
 def a_file_left_out(case, found):
-    fewer = answer_to_files(case.files[:-1]) if case.files and not found.status else None
+    fewer = result_for_files(case.files[:-1]) if case.files and not found.status else None
     return replace(found, output=fewer.output) if fewer and fewer.output != found.output else None
 
 
 @plant
-def a_fault_without_its_file(case, found):
+def an_error_without_its_file(case, found):
     names = [f"boruvka: {escaped(name)}: ".encode() for name, _ in case.files]
     lead = next((it for it in names if found.errors.startswith(it)), None)
     return replace(found, errors=b"boruvka: " + found.errors[len(lead) :]) if lead else None
 
 
 @plant
-def a_fault_of_another_file(case, found):
+def an_error_of_another_file(case, found):
     names = [f"boruvka: {escaped(name)}: ".encode() for name, _ in case.files]
     lead = next((it for it in names if found.errors.startswith(it)), None)
     other = next((it for it in names if it != lead), None)

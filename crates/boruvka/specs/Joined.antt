@@ -9,7 +9,7 @@ use Rattle.plain_run.specs.Parts.{Adds, ArePartsOf, IsAdded, PartsValue, WritesF
 use Rattle.plain_run.specs.declared.fault.PartFault.TheVariants as part
 use Rattle.plain_run.specs.declared.fault.RunFault.{RunFault}
 use Rattle.plain_run.specs.declared.report.Report.{Report}
-use Rattle.program_words.specs.Messages.{IsWritten, part_line, unopened_line}
+use Rattle.program_words.specs.Messages.{IsWritten, given_twice_line, part_line, unopened_line}
 use Rattle.program_words.specs.Statuses.{status_for_part}
 use Rattle.boruvka.specs.Status.{IsReported, IsUntouched, status_of_run, uncounted}
 use Rattle.boruvka.specs.Streams.{Standard}
@@ -69,9 +69,14 @@ abbrev pub name_of : Option (List ℕ) → List ℕ
 name_of None = codes "-"
 name_of (Some name) = name
 
+-- the line of a file that can't be opened, or of the input, which can't be read a second time
+abbrev pub not_opened_line : Option (List ℕ) → List ℕ
+not_opened_line None = given_twice_line
+not_opened_line (Some name) = unopened_line name
+
 -- the line that says why a file stopped the run
 abbrev pub stop_line : Option (List ℕ) → JoinFault → List ℕ
-stop_line file Unopened = unopened_line (name_of file)
+stop_line file Unopened = not_opened_line file
 stop_line file (Part why) = part_line (name_of file) why
 
 -- this file stops the run, and those before it don't

@@ -25,8 +25,8 @@ use crate::standard::{StandardStreams, workers_beside};
 use byte_streams::{Sink, Source, Uncounted, put};
 use forest_run::{Cutting, Report, RunFault, run_lines, run_plain, run_threads};
 use program_words::{
-    DEVICE, MEMORY, Options, OptionsFault, USAGE, options, write_fault, write_no_text, write_text,
-    write_unopened,
+    DEVICE, MEMORY, Options, OptionsFault, USAGE, options, usage_text, write_fault, write_no_text,
+    write_text, write_unopened,
 };
 use std::alloc::{Alloc, AllocError, Global};
 use std::convert::AsStr;
@@ -313,7 +313,7 @@ fn print_usage<O: Sink, E: Sink>(
     ensures help { ¬ IsMistake (kind_of error.now) → HelpEnds result (O.state output.old) (O.state output.new) }
     ensures refused { EndsRefused O.state result output.old output.new }
 {
-    let Ok(text) = format!(in alloc; "{error}") else {
+    let Ok(text) = usage_text(alloc, error) else {
         write_fault(errors, &RunFault::Memory);
         return MEMORY;
     };

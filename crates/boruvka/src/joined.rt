@@ -3,7 +3,7 @@ ghost use Rattle.std.specs.Prelude.{◌≡◌, ◌+◌, ◌<◌, ◌≤◌, ◌|
 ghost use Rattle.plain_run.specs.declared.parts.TheConstants.{MAX_FILES};
 ghost use Rattle.program_words.specs.Messages.{IsWritten};
 ghost use Rattle.boruvka.specs.Asked.{files_of};
-ghost use Rattle.boruvka.specs.Joined.{AddsFile, AddsFrom, AreAdded, EndsOnSeveral, StopsAt, status_for_stop, stop_line};
+ghost use Rattle.boruvka.specs.Joined.{AddsFile, AddsFrom, AreAdded, EndsOnSeveral, StopsAt, not_opened_line, status_for_stop, stop_line};
 ghost use Rattle.boruvka.specs.Joined.{name_of as the_name_of};
 ghost use Rattle.boruvka.specs.Status.{KeepsStreams};
 ghost use Rattle.boruvka.specs.Streams.{IsUntold, standard};
@@ -12,7 +12,9 @@ use crate::ends::write_end;
 use crate::progress::Watched;
 use byte_streams::{Sink, Source, Uncounted};
 use plain_run::{Crew, ManyThreads, PartFault, Parts};
-use program_words::{DEVICE, Options, status_of_part, write_part_fault, write_unopened};
+use program_words::{
+    DEVICE, Options, status_of_part, write_given_twice, write_part_fault, write_unopened,
+};
 use std::alloc::{Alloc, Global};
 use std::fs::{File, Files};
 use std::io::Write;
@@ -136,6 +138,17 @@ fn name_of(file: &Option<String>) -> &str
     }
 }
 
+// Writes that a file can't be opened, or that standard input is named a second time.
+fn write_not_opened<E: Sink>(file: &Option<String>, errors: &mut E)
+    requires { E.can_write errors.old }
+    ensures { IsWritten (not_opened_line (option_map string_bytes file.now)) (E.state errors.old) (E.state errors.new) }
+{
+    match file {
+        Some(name) => write_unopened(errors, name.as_str()),
+        None => write_given_twice(errors),
+    }
+}
+
 // Writes why a file stopped the run, and returns the exit status.
 fn write_stop<E: Sink>(file: &Option<String>, fault: &JoinFault, errors: &mut E) -> u8
     requires { E.can_write errors.old }
@@ -143,14 +156,13 @@ fn write_stop<E: Sink>(file: &Option<String>, fault: &JoinFault, errors: &mut E)
     ensures told { IsWritten (stop_line (option_map string_bytes file.now) fault.now)
         (E.state errors.old) (E.state errors.new) }
 {
-    let name = name_of(file);
     match fault {
         JoinFault::Unopened => {
-            write_unopened(errors, name);
+            write_not_opened(file, errors);
             DEVICE
         }
         JoinFault::Part(fault) => {
-            write_part_fault(errors, name, fault);
+            write_part_fault(errors, name_of(file), fault);
             status_of_part(fault)
         }
     }

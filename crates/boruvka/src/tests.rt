@@ -31,38 +31,39 @@ const SMALL_NET: &[u8; 108] =
 
 const SMALL_FOREST: &[u8; 50] = b"p sp 6 5\na 2 5 0\na 3 4 0\na 3 5 0\na 4 6 3\na 1 3 10\n";
 
-const HELP: &str = "Computes the minimum spanning forest of a graph in the .gr format.
+const HELP: &str = "Compute the minimum spanning forest of a weighted graph in DIMACS .gr format.
 
 Usage: boruvka [OPTIONS] [FILE]...
 
 Arguments:
-  [FILE]...  The graph; without it, or as -, standard input; with --plain several, joined
+  [FILE]...  Input graph; standard input if omitted or -; with --plain, several are joined
 
 Options:
-      --workers <N>  How many workers scan the shards: 0 to 64 [default: 2]
-      --shards <S>   How many shards the links are cut into: 1 to 4096 [default: 64]
-      --plain        Solve without workers
-      --threads <N>  With --plain, up to how many threads solve: 1 to 64 [default: 1]
-      --report       Print what the run did to standard error
-      --progress     Tell standard error how much was read, each 16 MB
+      --plain        Solve without workers: the fastest mode, and the one for untrusted files
+      --threads <N>  With --plain, use up to N threads: 1 to 64 [default: 1]
+      --workers <N>  Number of workers that scan the shards: 0 to 64 [default: 2]
+      --shards <S>   Number of shards that the edges are split into: 1 to 4096 [default: 64]
+      --report       Print counts and the forest's total weight to standard error
+      --progress     Show on standard error how much was read, after every 16 MB
   -h, --help         Print help
   -V, --version      Print version
 
 Exit status:
-  0  Done
-  1  The file is refused, and its first fault is told; or it can't be cut so
-  2  Wrong arguments
+  0  Success
+  1  FILE is malformed, doesn't match the FILEs before it, or needs more shards
+  2  Invalid arguments
   3  FILE can't be opened, or a read or a write failed
-  4  No memory
-  5  What the workers answered makes no forest
+  4  Out of memory
+  5  The workers' answers don't form a spanning forest
 
-Over workers each round sends 4 bytes for each vertex and shard: 17 GB for 64
-shards of a graph of 67108864 vertices. --plain sends nothing. It is the fastest,
-and the one for files from strangers.
+Without --plain, each round sends 4 bytes per vertex and shard to the workers:
+17 GB for 67108864 vertices and 64 shards.
 
 Examples:
   boruvka --plain net.gr > forest.gr
-  gzip -dc net.gr.gz | boruvka --plain > forest.gr
+  gzip -t net.gr.gz && gzip -dc net.gr.gz | boruvka --plain > forest.gr
+
+The manual page boruvka(1) has the file format and its errors.
 ";
 
 // Both values are the same. A call of this function costs less in the caller's proof than an assertion does. For the
@@ -146,7 +147,7 @@ fn joins_several_files(rt: HostRuntime) {
     expect(&rt, &words, b"p sp 5 0\n", 1, b"", other);
     let early = b"boruvka: -: line 1: NoProblemYet\n";
     expect(&rt, &words, b"a 1 2 3\n", 1, b"", early);
-    let again = b"boruvka: cannot open -\n";
+    let again = b"boruvka: - is given twice\n";
     let words = ["boruvka", "--plain", "-", name, "-", "no/such/file"];
     expect(&rt, &words, two, 3, b"", again);
     fs::remove_file(&rt, name).expect(&rt, "a file");
@@ -535,7 +536,7 @@ fn prints_the_version(rt: HostRuntime) {
 
 #[test]
 fn prints_a_help_that_cannot_be_written(rt: HostRuntime) {
-    expect_broken_off(&rt, &["boruvka", "--help"], b"Computes t");
+    expect_broken_off(&rt, &["boruvka", "--help"], b"Compute th");
 }
 
 // The tests of the built program cover longer files.
@@ -648,7 +649,7 @@ fn refuses_wrong_words(rt: HostRuntime) {
     expect_refused(&rt, &["boruvka", "a.gr", "b.gr"]);
     expect_refused(&rt, &["boruvka", "--workers", "0", "a.gr", "-"]);
     let wrong =
-        b"error: unexpected argument '--wrong' found\n\n  tip: to pass '--wrong' as a value, use '-- --wrong'\n\nUsage: boruvka [OPTIONS] [FILE]...\n\nFor more information, try '--help'.\n";
+        b"error: unexpected argument '--wrong' found\n\nUsage: boruvka [OPTIONS] [FILE]...\n\nFor more information, try '--help'.\n";
     expect(&rt, &["boruvka", "--wrong"], SMALL_NET, 2, b"", wrong);
 }
 
@@ -664,7 +665,7 @@ fn prints_why_there_are_no_words(rt: HostRuntime) {
     expect_same(
         &rt,
         errors.as_slice(),
-        b"boruvka: a word is not UTF-8\n".as_slice(),
+        b"boruvka: an argument is not UTF-8\n".as_slice(),
     );
     let given = env::args(&rt).expect(&rt, "words");
     let words = all_words(rt.alloc(), given).expect(&rt, "words");

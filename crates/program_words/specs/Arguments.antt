@@ -55,10 +55,10 @@ program =
     (with_rule
     (with_rule
     (with_rule
-    (with_rule (with_version (new_app (codes "boruvka"))) (default_rule (codes "workers") (codes "2") 0 MAX_WORKERS))
-    (default_rule (codes "shards") (codes "64") 1 MAX_SHARDS))
-    (flag_rule (codes "plain")))
+    (with_rule (with_version (new_app (codes "boruvka"))) (flag_rule (codes "plain")))
     (number_rule (codes "threads") 1 MAX_THREADS))
+    (default_rule (codes "workers") (codes "2") 0 MAX_WORKERS))
+    (default_rule (codes "shards") (codes "64") 1 MAX_SHARDS))
     (flag_rule (codes "report")))
     (flag_rule (codes "progress")))
     (words_rule (codes "file"))

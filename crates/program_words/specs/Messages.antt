@@ -31,7 +31,11 @@ message_line message = codes "boruvka: " ++ message ++ 10 ∷ []
 
 -- the line for an argument that isn't UTF-8
 abbrev pub no_text_line : List ℕ
-no_text_line = message_line (codes "a word is not UTF-8")
+no_text_line = message_line (codes "an argument is not UTF-8")
+
+-- the line of standard input that is named a second time
+abbrev pub given_twice_line : List ℕ
+given_twice_line = message_line (codes "- is given twice")
 
 -- the line for an error
 abbrev pub fault_line : RunFault → List ℕ

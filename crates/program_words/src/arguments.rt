@@ -18,7 +18,7 @@ use std::alloc::{AllocError, Global};
 use std::convert::AsStr;
 use std::env::Args;
 
-const ABOUT: &str = "Computes the minimum spanning forest of a graph in the .gr format.";
+const ABOUT: &str = "Compute the minimum spanning forest of a weighted graph in DIMACS .gr format.";
 
 const THREADS_ALONE: &str = "--threads needs --plain";
 
@@ -26,21 +26,22 @@ const FILES_ALONE: &str = "several FILEs need --plain";
 
 const TOO_MANY_FILES: &str = "at most 65536 FILEs";
 
-const BEHIND_THE_HELP: &str = "Exit status:
-  0  Done
-  1  The file is refused, and its first fault is told; or it can't be cut so
-  2  Wrong arguments
+const AFTER_THE_OPTIONS: &str = "Exit status:
+  0  Success
+  1  FILE is malformed, doesn't match the FILEs before it, or needs more shards
+  2  Invalid arguments
   3  FILE can't be opened, or a read or a write failed
-  4  No memory
-  5  What the workers answered makes no forest
+  4  Out of memory
+  5  The workers' answers don't form a spanning forest
 
-Over workers each round sends 4 bytes for each vertex and shard: 17 GB for 64
-shards of a graph of 67108864 vertices. --plain sends nothing. It is the fastest,
-and the one for files from strangers.
+Without --plain, each round sends 4 bytes per vertex and shard to the workers:
+17 GB for 67108864 vertices and 64 shards.
 
 Examples:
   boruvka --plain net.gr > forest.gr
-  gzip -dc net.gr.gz | boruvka --plain > forest.gr";
+  gzip -t net.gr.gz && gzip -dc net.gr.gz | boruvka --plain > forest.gr
+
+The manual page boruvka(1) has the file format and its errors.";
 
 fn workers_arg<'a>(alloc: Global) -> Arg<'a>
     ensures own { IsOwnArg result }
@@ -49,7 +50,7 @@ fn workers_arg<'a>(alloc: Global) -> Arg<'a>
     Arg::new(alloc, "workers")
         .long("workers")
         .value_name("N")
-        .help("How many workers scan the shards: 0 to 64")
+        .help("Number of workers that scan the shards: 0 to 64")
         .default_value("2")
         .value_parser(clap::value_parser!(u32).range(0..=MAX_WORKERS as i64))
 }
@@ -61,7 +62,7 @@ fn shards_arg<'a>(alloc: Global) -> Arg<'a>
     Arg::new(alloc, "shards")
         .long("shards")
         .value_name("S")
-        .help("How many shards the links are cut into: 1 to 4096")
+        .help("Number of shards that the edges are split into: 1 to 4096")
         .default_value("64")
         .value_parser(clap::value_parser!(u32).range(1..=MAX_SHARDS as i64))
 }
@@ -73,7 +74,7 @@ fn threads_arg<'a>(alloc: Global) -> Arg<'a>
     Arg::new(alloc, "threads")
         .long("threads")
         .value_name("N")
-        .help("With --plain, up to how many threads solve: 1 to 64 [default: 1]")
+        .help("With --plain, use up to N threads: 1 to 64 [default: 1]")
         .value_parser(clap::value_parser!(u32).range(1..=MAX_THREADS as i64))
 }
 
@@ -94,7 +95,7 @@ fn file_arg<'a>(alloc: Global) -> Arg<'a>
 {
     Arg::new(alloc, "file")
         .value_name("FILE")
-        .help("The graph; without it, or as -, standard input; with --plain several, joined")
+        .help("Input graph; standard input if omitted or -; with --plain, several are joined")
         .action(ArgAction::Append)
 }
 
@@ -115,21 +116,32 @@ fn the_command<'a>(alloc: Global) -> Result<Command<'a>, AllocError>
     let mut command = Command::new(alloc, "boruvka")
         .version(RELEASE)
         .about(ABOUT)
-        .after_help(BEHIND_THE_HELP);
-    command = with(command, workers_arg(alloc))?;
-    command = with(command, shards_arg(alloc))?;
-    command = with(command, flag(alloc, "plain", "Solve without workers"))?;
-    command = with(command, threads_arg(alloc))?;
+        .after_help(AFTER_THE_OPTIONS);
     command = with(
         command,
-        flag(alloc, "report", "Print what the run did to standard error"),
+        flag(
+            alloc,
+            "plain",
+            "Solve without workers: the fastest mode, and the one for untrusted files",
+        ),
+    )?;
+    command = with(command, threads_arg(alloc))?;
+    command = with(command, workers_arg(alloc))?;
+    command = with(command, shards_arg(alloc))?;
+    command = with(
+        command,
+        flag(
+            alloc,
+            "report",
+            "Print counts and the forest's total weight to standard error",
+        ),
     )?;
     command = with(
         command,
         flag(
             alloc,
             "progress",
-            "Tell standard error how much was read, each 16 MB",
+            "Show on standard error how much was read, after every 16 MB",
         ),
     )?;
     with(command, file_arg(alloc))

@@ -23,13 +23,15 @@ mod chosen;
 mod escapes;
 mod messages;
 mod statuses;
+mod usage;
 mod version;
 
 pub use arguments::{all_words, options};
 pub use chosen::{MAX_THREADS, Options, OptionsFault};
 pub use messages::{
-    write_fault, write_no_text, write_part_fault, write_progress, write_report, write_text,
-    write_unopened,
+    write_fault, write_given_twice, write_no_text, write_part_fault, write_progress, write_report,
+    write_text, write_unopened,
 };
 pub use statuses::{ANSWERS, DEVICE, MEMORY, USAGE, status_of, status_of_part};
+pub use usage::usage_text;
 pub use version::RELEASE;

@@ -4,7 +4,7 @@ ghost use Rattle.program_words.specs.declared.escapes.TheConstants.{END_ROOM, NA
 ghost use Rattle.arrayvec.specs.ArrayString.{array_string_len};
 ghost use Rattle.byte_streams.specs.Streams.{Took, WentOut};
 ghost use Rattle.program_words.specs.Messages.{IsWritten, IsPartWritten, escaped, escaped_char};
-ghost use Rattle.program_words.specs.Messages.{report_line, fault_line, part_line, progress_line, no_text_line, unopened_line};
+ghost use Rattle.program_words.specs.Messages.{report_line, fault_line, part_line, progress_line, no_text_line, given_twice_line, unopened_line};
 
 use crate::escapes::{END_ROOM, ESCAPED_ROOM, NAMED_LINE_ROOM, push_escaped};
 use arrayvec::ArrayString;
@@ -73,7 +73,15 @@ pub fn write_no_text<S: Sink>(sink: &mut S)
     requires { S.can_write sink.old }
     ensures { IsWritten no_text_line (S.state sink.old) (S.state sink.new) }
 {
-    write_text(sink, b"boruvka: a word is not UTF-8\n");
+    write_text(sink, b"boruvka: an argument is not UTF-8\n");
+}
+
+/// Writes that `-` is given twice, as a line after the program's name: standard input is read only once.
+pub fn write_given_twice<S: Sink>(sink: &mut S)
+    requires { S.can_write sink.old }
+    ensures { IsWritten given_twice_line (S.state sink.old) (S.state sink.new) }
+{
+    write_text(sink, b"boruvka: - is given twice\n");
 }
 
 // Appends a character to a line, escaped. If too little space may be left for it and an end, the line so far is written
