@@ -195,7 +195,7 @@ def the_threads_that_are_asked_for(room):
 
 @case
 def a_long_file_by_threads_takes_no_more_memory(room):
-    # loops give no links, so with one thread the length of the file needs no memory; the buffers of threads take 12 MiB
+    # loops give no links, so with one thread the length of the file needs no memory; the buffers of threads take 3 MiB
     count = 2**23
     name = f"{room}/loops.gr"
     with open(name, "wb") as it:
@@ -207,7 +207,7 @@ def a_long_file_by_threads_takes_no_more_memory(room):
         found, peak = told_by(room, [Program.path, *by(threads), name], b"", {"PEAK": "1"})
         expect(found, 0, b"p sp 1 0\n", b"")
         peaks[threads] = int(peak) << 10
-    if peaks[1] > 4 << 20 or not all(8 << 20 < peaks[it] - peaks[1] < 14 << 20 for it in [2, 4]):
+    if peaks[1] > 4 << 20 or not all(2 << 20 < peaks[it] - peaks[1] < 5 << 20 for it in [2, 4]):
         raise AssertionError(f"bytes by so many threads: {peaks}")
 
 
