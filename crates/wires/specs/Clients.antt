@@ -137,8 +137,9 @@ FollowTheirShards shelf (v ∷ frames) = FollowTheirShards (shelf_with shelf v) 
 
 -- Nothing failed, and exactly these frames were sent, none before the hello came:
 -- - the shards of the cut that are in the set, once each, and no others; each was asked about
--- - the asks of the exchanges, in their order, each after its shard The version of the worker has all of them. The
---   hello and exactly the answers of the exchanges were got.
+-- - the asks of the exchanges, in their order, each after its shard
+--
+-- The version of the worker has all of these frames. The hello and exactly the answers of the exchanges were got.
 pub record MatchesLine (client : Client) (said : List FrameValue) (exchanges : List Exchange) : Type 0 where
   pub no_failure : client.line.failures ≡ 0
   pub sent : client.line.sent ≡ Some (texts_of said)
