@@ -429,7 +429,7 @@ def ten_million_links_and_four_threads(room):
 @case
 def ten_thousand_calls_hold_no_more_memory(room):
     if not os.path.exists("/proc/self/smaps_rollup"):
-        raise Skipped("no /proc/self/smaps_rollup tells how much memory is held")
+        raise Skipped("no /proc/self/smaps_rollup shows how much memory the process has")
     expect(run([caller(room), "again"]), 0, b"", b"")
 
 

@@ -34,7 +34,7 @@ from cases.running import (
 from cases.sockets import NOTHING
 from cases.streams import READ_ROOM
 
-# the small net's arcs in two files, and in three
+# the arcs of the small graph in two files, and in three
 FIRST = b"p sp 6 4\na 1 2 17\na 1 3 10\na 2 4 2\na 3 5 0\n"
 SECOND = b"p sp 6 4\na 4 3 0\na 4 6 3\na 5 2 0\na 5 6 20\n"
 HALVES = [FIRST, SECOND]

@@ -29,7 +29,7 @@ def each_fails(room, words, source, output, errors, status=0):
                 break
             first += 1
         if first < 5:
-            raise AssertionError(f"only {first - 1} allocations were refused: is the library preloaded?")
+            raise AssertionError(f"only {first - 1} allocations failed: is the library preloaded?")
 
 
 def each_fails_over_workers(room, source, output, workers, shards, size=0, fewest=50):
@@ -46,7 +46,7 @@ def each_fails_over_workers(room, source, output, workers, shards, size=0, fewes
                 break
             first += 1
         if first <= fewest:
-            raise AssertionError(f"only {first - 1} allocations were refused: is the library preloaded?")
+            raise AssertionError(f"only {first - 1} allocations failed: is the library preloaded?")
 
 
 def expect_right_or_no_memory(found, output, workers, shards):
