@@ -111,7 +111,7 @@ class Progress:
         self.count, self.begun, self.said, self.is_open = count, time.monotonic(), None, False
         self.shows = sys.stderr.isatty()
 
-    def tell(self, done, under_way):
+    def report(self, done, under_way):
         now = time.monotonic()
         if self.said is not None and now - self.said < (1 if self.shows else SECONDS):
             return
@@ -252,7 +252,7 @@ def prove_libraries(plan, progress):
                     processes = plan.processes(name, sum(it.processes for it in running.values()), is_ahead)
                     running[name] = Room(name, plan, rooms)
                     running[name].begin(processes, is_ahead)
-                progress.tell(len(done), running)
+                progress.report(len(done), running)
                 time.sleep(0.2)
                 for name in [it for it in running if running[it].ended()]:
                     del running[name]
@@ -271,7 +271,7 @@ def is_static_library(crate, lines):
     return "staticlib" in lines[crate].partition(":")[0].split()
 
 
-def words_of(folder):
+def arguments_of(folder):
     """Returns the arguments of a program: the lines of its file `args`."""
     if not os.path.isfile(f"{folder}/args"):
         return []
@@ -285,11 +285,11 @@ def prove_top(plan, progress):
     log = f"{folder}/out/log"
     os.makedirs(f"{folder}/out", exist_ok=True)
     with open(source if os.path.isfile(source) else os.devnull, "rb") as given, open(log, "w+b") as said:
-        words = [*RT, "run" if is_program(plan.top) else "lib", "--jobs", str(plan.processes(plan.top, 0, True)), *words_of(folder)]
+        words = [*RT, "run" if is_program(plan.top) else "lib", "--jobs", str(plan.processes(plan.top, 0, True)), *arguments_of(folder)]
         process = subprocess.Popen(words, cwd=folder, stdin=given, stdout=said, stderr=said, start_new_session=True)
         try:
             while process.poll() is None:
-                progress.tell(len(plan.names) - 1, [plan.top])
+                progress.report(len(plan.names) - 1, [plan.top])
                 with contextlib.suppress(subprocess.TimeoutExpired):
                     process.wait(0.2)
         finally:
