@@ -447,7 +447,7 @@ def out_of_memory_is_reported_and_nothing_changed(room):
             found, told = with_library(room, [caller(room), "memory"], b"", environment, library="refusing")
             refused = bool(told)
             # a smaller growth may succeed after one that failed
-            wanted = found[1] if refused and is_alone else b"some refused\n" if refused else b"answered\n"
+            wanted = found[1] if refused and is_alone else b"some out of memory\n" if refused else b"all done\n"
             expect(found, 0, wanted, b"")
             first += 1
         if first < 10:
