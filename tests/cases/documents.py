@@ -692,7 +692,7 @@ def the_call_of_a_library_is_proved(room):
 
 
 @case
-def packed_files_that_are_broken(room):
+def compressed_files_that_are_broken(room):
     """A pipe has the exit status of its last command, and gzip reports a wrong checksum only after the whole text."""
     packed = gzip.compress(b"p sp 2 1\na 1 2 17\n", 0)
     page = text_of("man/boruvka.1").replace("\\-", "-")
