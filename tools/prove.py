@@ -99,9 +99,9 @@ class Plan:
         """Returns how many processes a check gets, if so many are in use and memory allows."""
         return min(self.most, max(1, self.room - taken)) if is_ahead and self.count[name] >= LARGE else 1
 
-    def is_ahead(self, name, beside):
+    def is_ahead(self, name, parallel):
         """Returns whether it has the longest chain of dependents of those that run."""
-        return all(self.chain[it] <= self.chain[name] for it in beside)
+        return all(self.chain[it] <= self.chain[name] for it in parallel)
 
 
 class Progress:
@@ -246,9 +246,9 @@ def prove_libraries(plan, progress):
         try:
             while len(done) < len(plan.names) - 1:
                 begun = plan.ready({*running, *done}, done)[: plan.most - len(running)]
-                beside = [*running, *begun]
+                parallel = [*running, *begun]
                 for name in begun:
-                    is_ahead = plan.is_ahead(name, beside)
+                    is_ahead = plan.is_ahead(name, parallel)
                     processes = plan.processes(name, sum(it.processes for it in running.values()), is_ahead)
                     running[name] = Room(name, plan, rooms)
                     running[name].begin(processes, is_ahead)
@@ -309,12 +309,12 @@ def show_order(plan):
     ends, processes, done, now, number = {}, {}, set(), 0, 0
     while len(done) < len(plan.names) - 1:
         begun = plan.ready({*ends, *done}, done)[: plan.most - len(ends)]
-        beside = [*ends, *begun]
+        parallel = [*ends, *begun]
         for name in begun:
             number += 1
-            is_ahead = plan.is_ahead(name, beside)
+            is_ahead = plan.is_ahead(name, parallel)
             processes[name] = plan.processes(name, sum(processes[it] for it in ends), is_ahead)
-            others = f"beside {', '.join(ends) or 'none'}{'' if is_ahead else ', later'}"
+            others = f"{'in parallel with ' if ends else 'alone'}{', '.join(ends)}{'' if is_ahead else ', at lower priority'}"
             print(f"{name} ({number} of {len(plan.names)}): {processes[name]} processes, {others}")
             ends[name] = now + plan.count[name]
         now = min(ends.values())
