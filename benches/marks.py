@@ -108,7 +108,7 @@ def print_head(*cells):
     print("|" + "---|" * len(cells))
 
 
-def beside(ours, mark):
+def with_ratio(ours, mark):
     """Formats two times and their ratio."""
     return f"{shown(ours)}, {shown(mark)}: {ours / mark:.2f}"
 
@@ -116,8 +116,8 @@ def beside(ours, mark):
 def print_plain(graphs):
     print_head("Graph", "Whole: `--plain`, tuned, ratio", "Reading", "Solving", "Writing")
     for graph in graphs:
-        parts = [beside(ours, mark) for ours, mark in zip(graph.parts["plain"], graph.parts["tuned"])]
-        print_row(graph.name, beside(graph.whole["plain"], graph.whole["tuned"]), *parts)
+        parts = [with_ratio(ours, mark) for ours, mark in zip(graph.parts["plain"], graph.parts["tuned"])]
+        print_row(graph.name, with_ratio(graph.whole["plain"], graph.whole["tuned"]), *parts)
 
 
 def named(setting):

@@ -85,7 +85,7 @@ class Measured:
         if not bytes_of(self.ours) == bytes_of(self.stepped) == bytes_of(self.theirs):
             sys.exit(f"{self.kind} {self.n}: the outputs differ")
 
-    def tell(self):
+    def print_results(self):
         size, size_out = os.path.getsize(self.graph) / 1e6, os.path.getsize(self.ours) / 1e6
         read, solve, write = self.parts
         print(f"{self.kind} {self.n}: {self.arcs} arcs, {size:.1f} MB in, {size_out:.1f} MB out")
@@ -109,7 +109,7 @@ def main():
             for graph in graphs.values():
                 graph.take_turn()
         for graph in graphs.values():
-            graph.tell()
+            graph.print_results()
     for kind in ("grid", "random"):
         small, large = graphs[kind, 10**5], graphs[kind, 10**6]
         growth, growth_cpp = (

@@ -10,9 +10,9 @@
  *
  * Errors
  * ------
- * A call that returns an int64_t returns a count or, on error, a negative enum boruvka_refusal. After an error all outputs
- * are unchanged, except `fault`. If several errors apply, the call returns the first one in the order that its comment gives.
- * boruvka_fault_text writes the text of an error.
+ * A call that returns an int64_t (except boruvka_key) returns a count or, on error, a negative enum boruvka_refusal. After an
+ * error all outputs are unchanged, except `fault`. If several errors apply, the call returns the first one in the order that
+ * its comment gives. boruvka_fault_text writes the text of an error.
  *
  * Rules for the caller
  * --------------------
@@ -122,7 +122,8 @@ int64_t boruvka_forest(uint32_t n, struct boruvka_link *links, size_t m);
  * loops and repeated edges are allowed. `room` is the number of elements of `places`.
  *
  * On success the indices of the forest's edges, counted from 0, are the first elements of `places`, sorted as the links are.
- * If an edge is repeated, in either direction, its first index is written. The other elements of `places` are unchanged.
+ * If an edge is repeated with the same weight, in either direction, its first index is written. The other elements of `places`
+ * are unchanged.
  *
  * The lesser of m and n - 1 elements is always enough for `places`, where m is the number of edges. No input makes the call
  * slow: in addition to finding the forest, it makes two passes over the edges, and at worst sorts them.

@@ -99,9 +99,9 @@ class Plan:
         """Returns how many processes a check gets, if so many are in use and memory allows."""
         return min(self.most, max(1, self.room - taken)) if is_ahead and self.count[name] >= LARGE else 1
 
-    def is_ahead(self, name, beside):
+    def is_ahead(self, name, parallel):
         """Returns whether it has the longest chain of dependents of those that run."""
-        return all(self.chain[it] <= self.chain[name] for it in beside)
+        return all(self.chain[it] <= self.chain[name] for it in parallel)
 
 
 class Progress:
@@ -111,7 +111,7 @@ class Progress:
         self.count, self.begun, self.said, self.is_open = count, time.monotonic(), None, False
         self.shows = sys.stderr.isatty()
 
-    def tell(self, done, under_way):
+    def report(self, done, under_way):
         now = time.monotonic()
         if self.said is not None and now - self.said < (1 if self.shows else SECONDS):
             return
@@ -246,13 +246,13 @@ def prove_libraries(plan, progress):
         try:
             while len(done) < len(plan.names) - 1:
                 begun = plan.ready({*running, *done}, done)[: plan.most - len(running)]
-                beside = [*running, *begun]
+                parallel = [*running, *begun]
                 for name in begun:
-                    is_ahead = plan.is_ahead(name, beside)
+                    is_ahead = plan.is_ahead(name, parallel)
                     processes = plan.processes(name, sum(it.processes for it in running.values()), is_ahead)
                     running[name] = Room(name, plan, rooms)
                     running[name].begin(processes, is_ahead)
-                progress.tell(len(done), running)
+                progress.report(len(done), running)
                 time.sleep(0.2)
                 for name in [it for it in running if running[it].ended()]:
                     del running[name]
@@ -271,7 +271,7 @@ def is_static_library(crate, lines):
     return "staticlib" in lines[crate].partition(":")[0].split()
 
 
-def words_of(folder):
+def arguments_of(folder):
     """Returns the arguments of a program: the lines of its file `args`."""
     if not os.path.isfile(f"{folder}/args"):
         return []
@@ -285,11 +285,11 @@ def prove_top(plan, progress):
     log = f"{folder}/out/log"
     os.makedirs(f"{folder}/out", exist_ok=True)
     with open(source if os.path.isfile(source) else os.devnull, "rb") as given, open(log, "w+b") as said:
-        words = [*RT, "run" if is_program(plan.top) else "lib", "--jobs", str(plan.processes(plan.top, 0, True)), *words_of(folder)]
+        words = [*RT, "run" if is_program(plan.top) else "lib", "--jobs", str(plan.processes(plan.top, 0, True)), *arguments_of(folder)]
         process = subprocess.Popen(words, cwd=folder, stdin=given, stdout=said, stderr=said, start_new_session=True)
         try:
             while process.poll() is None:
-                progress.tell(len(plan.names) - 1, [plan.top])
+                progress.report(len(plan.names) - 1, [plan.top])
                 with contextlib.suppress(subprocess.TimeoutExpired):
                     process.wait(0.2)
         finally:
@@ -309,12 +309,12 @@ def show_order(plan):
     ends, processes, done, now, number = {}, {}, set(), 0, 0
     while len(done) < len(plan.names) - 1:
         begun = plan.ready({*ends, *done}, done)[: plan.most - len(ends)]
-        beside = [*ends, *begun]
+        parallel = [*ends, *begun]
         for name in begun:
             number += 1
-            is_ahead = plan.is_ahead(name, beside)
+            is_ahead = plan.is_ahead(name, parallel)
             processes[name] = plan.processes(name, sum(processes[it] for it in ends), is_ahead)
-            others = f"beside {', '.join(ends) or 'none'}{'' if is_ahead else ', later'}"
+            others = f"{'in parallel with ' if ends else 'alone'}{', '.join(ends)}{'' if is_ahead else ', at lower priority'}"
             print(f"{name} ({number} of {len(plan.names)}): {processes[name]} processes, {others}")
             ends[name] = now + plan.count[name]
         now = min(ends.values())

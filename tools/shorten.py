@@ -354,7 +354,7 @@ def search_instead(crate, rounds):
         good = crate.judge(edits)
         crate.keep(crate.apply(good)[0])
         kept += len(good)
-        tell(f"{crate.name}, check {number}: {len(good)} of {len(edits)} edits kept, {sum(it.gain for it in good)} lines fewer")
+        report(f"{crate.name}, check {number}: {len(good)} of {len(edits)} edits kept, {sum(it.gain for it in good)} lines fewer")
     return len(tried), kept
 
 
@@ -491,11 +491,11 @@ def inline(crate, rounds):
         if not failed:
             count += len(chosen)
             crate.keep(files)
-        tell(f"{crate.name}, check {number}: {0 if failed else len(chosen)} lemmas taken out, {len(bad)} needed")
+        report(f"{crate.name}, check {number}: {0 if failed else len(chosen)} lemmas taken out, {len(bad)} needed")
     return count
 
 
-def tell(text):
+def report(text):
     print(text, file=sys.stderr, flush=True)
 
 
@@ -518,7 +518,7 @@ def main():
     proved = "logic=proved" in told
     if not proved:
         crate.keep(before)
-        tell(told[-2000:].rstrip())
+        report(told[-2000:].rstrip())
     print(f"{crate.name}: {kept} of {tried} edits, {gone} lemmas, {lines - crate.lines()} of {lines} lines gone, {'proved' if proved else 'NOT PROVED, put back'}")
     sys.exit(not proved)
 

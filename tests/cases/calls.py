@@ -7,7 +7,7 @@ import itertools
 import re
 from errno import EAGAIN, ECONNRESET, EINPROGRESS, EINTR, EIO, EMFILE, ENOMEM, ENOSPC, EPIPE, ETIMEDOUT, errorcode
 
-from cases.running import NOTHING_WRITTEN, SMALL_FOREST, SMALL_NET, Program, Report, case, drawn_graph, told_by, written
+from cases.running import NOTHING_WRITTEN, SMALL_FOREST, SMALL_NET, Program, Report, case, drawn_graph, with_library, written
 from cases.sockets import FAR, NOTHING
 from cases.streams import LEAST_PIECE, READ_ROOM
 from cases.workers import over
@@ -56,7 +56,7 @@ class Run:
         environment["PROCESSORS"] = str(processors)
         if last:
             environment["FAIL_LAST"] = str(last)
-        self.found, told = told_by(room, command, source, environment, seconds=20)
+        self.found, told = with_library(room, command, source, environment, seconds=20)
         self.number, self.error = number, error
         self.what = f"{' '.join(command[1:])}: {call} {number} {errorcode.get(error, 'nothing')}"
         telling = re.fullmatch(rb"(x*)(j*)", told)
@@ -232,7 +232,7 @@ def a_worker_whose_session_failed_begins_no_other(room):
         number = failed = 1
         while failed:
             environment = {"FAIL_CALL": call, "FAIL_NUMBER": str(number), "GREETED": "1"}
-            found, told = told_by(room, [Program.path, *over(2, 4)], SMALL_NET, environment, seconds=20)
+            found, told = with_library(room, [Program.path, *over(2, 4)], SMALL_NET, environment, seconds=20)
             failed = told.count(b"x")
             if found != (0, SMALL_FOREST, b"") or told.count(b"H") != 2:
                 raise AssertionError(f"{call} {number}: told {told!r}: {found!r:.600}")

@@ -157,7 +157,7 @@ def csv_recipe(room):
     return recipe(room, "A CSV with ids")
 
 
-def expect_refused(room, command, name, rows, line, told):
+def expect_rejected(room, command, name, rows, line, told):
     """Expects the command to fail with these lines in its file, and to report exactly the line, its number and the reason."""
     with open(f"{room}/{name}", "w", encoding="utf-8", newline="") as it:
         it.write("\n".join([*rows, ""]))
@@ -304,10 +304,10 @@ def weights_that_the_recipes_reject(room):
         [decimals] = recipe(room, "Decimal weights")
         for weight in wrong:
             arc, row = f"a 1 3 {weight}", f"p9,Old Mill,Gate,{weight}"
-            expect_refused(room, decimals, "decimals.gr", ["p sp 3 2", "a 1 2 0.75", arc], 3, arc)
-            expect_refused(room, plain, "pipes.csv", ["id,from,to,metres", "p1,Old Mill,Gate,0.75", row], 3, row)
+            expect_rejected(room, decimals, "decimals.gr", ["p sp 3 2", "a 1 2 0.75", arc], 3, arc)
+            expect_rejected(room, plain, "pipes.csv", ["id,from,to,metres", "p1,Old Mill,Gate,0.75", row], 3, row)
             row = f'p9,"Old Mill",Gate,"{weight}"'
-            expect_refused(room, quoted, "quoted.csv", ["id,from,to,metres", row], 2, f"p9\tOld Mill\tGate\t{weight}")
+            expect_rejected(room, quoted, "quoted.csv", ["id,from,to,metres", row], 2, f"p9\tOld Mill\tGate\t{weight}")
 
 
 @case
@@ -331,17 +331,17 @@ def lines_that_the_recipe_of_a_csv_rejects(room):
             ([head, 'p1,"Mill, old",Gate,1'], 2),
             (["id;from;to;metres", "p1;Old Mill;Gate;1"], 1),
         ]:
-            expect_refused(room, plain, "pipes.csv", rows, line, rows[line - 1])
+            expect_rejected(room, plain, "pipes.csv", rows, line, rows[line - 1])
         # with semicolons instead of commas
         semicolons = plain.replace("-F ,", "-F ';'")
         for row in ['p1;"Old Mill";Gate;1', "p\t1;Old Mill;Gate;1"]:
-            expect_refused(room, semicolons, "pipes.csv", [head.replace(",", ";"), "p0;Old Mill;Gate;2", row], 3, row)
+            expect_rejected(room, semicolons, "pipes.csv", [head.replace(",", ";"), "p0;Old Mill;Gate;2", row], 3, row)
         # (csv treats a quote after a space as a part of the field)
         for row, told in [('p1, "Old Mill",Gate,1', 'p1\t "Old Mill"\tGate\t1'), ('p1,"Old Mill","Gate ",1', "p1\tOld Mill\tGate \t1")]:
-            expect_refused(room, quoted, "quoted.csv", [head, row], 2, told)
+            expect_rejected(room, quoted, "quoted.csv", [head, row], 2, told)
         for row in ['p1,"Old\tMill",Gate,1', 'p1,"Old\nMill",Gate,1', 'p1,"Old\r\nMill",Gate,1']:
             fields = str(["p1", row.split('"')[1], "Gate", "1"])
-            expect_refused(room, quoted, "quoted.csv", [head, row], 2, fields)
+            expect_rejected(room, quoted, "quoted.csv", [head, row], 2, fields)
         for row in ['p1,"Old Mill,Gate,1', 'p1,"Old" Mill,Gate,1']:
             with open(f"{room}/quoted.csv", "w", encoding="utf-8") as it:
                 it.write(f"{head}\n{row}\n")
@@ -421,7 +421,7 @@ def names_in_files_of_others(room):
                 if found != (0, wanted):
                     raise AssertionError(f"{text!r}: wanted {wanted!r}, found {found!r:.600}")
         for row in ["Brno Praha 205 180", "New York 5 7", "Brno Praha", "Brno", ""]:
-            expect_refused(room, number, "trains.txt", [trains[0], row], 2, row)
+            expect_rejected(room, number, "trains.txt", [trains[0], row], 2, row)
 
 
 @case
@@ -692,7 +692,7 @@ def the_call_of_a_library_is_proved(room):
 
 
 @case
-def packed_files_that_are_broken(room):
+def compressed_files_that_are_broken(room):
     """A pipe has the exit status of its last command, and gzip reports a wrong checksum only after the whole text."""
     packed = gzip.compress(b"p sp 2 1\na 1 2 17\n", 0)
     page = text_of("man/boruvka.1").replace("\\-", "-")

@@ -938,7 +938,7 @@ static void memory(void) {
     const int64_t labelled = boruvka_labels(6, forest, 3, label);
     CHECK(labelled == BORUVKA_NO_MEMORY || labelled == 6);
     CHECK(labelled == 6 ? label[0] == 1 && label[4] == 2 && label[5] == 6 : label[0] == 9 && label[4] == 9 && label[5] == 9);
-    static const char some[] = "some refused\n", all[] = "answered\n";
+    static const char some[] = "some out of memory\n", all[] = "all done\n";
     fputs(count < 0 || length < 0 || placed < 0 || labelled < 0 ? some : all, stdout);
 }
 

@@ -6,7 +6,7 @@ import shutil
 import subprocess
 import sys
 
-from cases.running import ROOT, SMALL_FOREST, SMALL_NET, Skipped, case, drawn_graph, expect, ran, run, told_by, written
+from cases.running import ROOT, SMALL_FOREST, SMALL_NET, Skipped, case, drawn_graph, expect, ran, run, with_library, written
 
 LIBRARIES = f"{ROOT}/crates/boruvka_c/out"
 INCLUDE = f"-I{ROOT}/include"
@@ -15,23 +15,23 @@ NAMES = {"boruvka_bad_end", "boruvka_bad_link", "boruvka_fault_text", "boruvka_f
 MINUTES = 90  # it took 19 when nothing had been built before
 ENVIRONMENT = {it: word for it, word in os.environ.items() if it not in ("MAKEFLAGS", "MAKELEVEL", "MFLAGS", "DESTDIR")}
 # The error of each of these texts, by its name in docs/GR_FORMAT.md, and its line.
-FAULTY = [
+MALFORMED = [
     (b"x\n", "UnknownLine", 1), (b"c\na 1 2 3\n", "NoProblemYet", 2), (b"p sp 2 0\np sp 2 0\n", "SecondProblem", 2),
     (b"p sp two 0\n", "BadProblem", 1), (b"p sp 67108865 0\n", "TooLarge", 1), (b"p sp 2 1\na 1 2\n", "BadArc", 2),
     (b"p sp 2 1\na 1 3 1\n", "EndOutOfRange", 2), (b"p sp 2 1\na 1 2 9223372036854775808\n", "WeightOutOfRange", 2),
     (b"p sp 2 0\na 1 2 3\n", "TooManyArcs", 2), (b"", "MissingProblem", 1), (b"p sp 2 1\n", "MissingArcs", 2),
 ]
-# Each error, from the code -1 on: its name in include/boruvka.h, and its text. Those of a line are FAULTY's.
-REFUSALS = [
+# Each error, from the code -1 on: its name in include/boruvka.h, and its text. Those of a line are MALFORMED's.
+ERRORS = [
     ("NO_MEMORY", "no memory"), ("BAD_END", "an endpoint isn't a vertex"), ("TOO_MANY_VERTICES", "too many vertices"),
     ("TOO_MANY_LINKS", "too many links"), ("TOO_LONG", "the text is too long"),
-    *((re.sub("(?<=[a-z])(?=[A-Z])", "_", kind).upper(), kind) for _, kind, _ in FAULTY),
+    *((re.sub("(?<=[a-z])(?=[A-Z])", "_", kind).upper(), kind) for _, kind, _ in MALFORMED),
     ("LENGTHS_DIFFER", "array lengths differ"), ("TOO_FEW_PLACES", "the output array is too small"), ("CYCLE", "links contain a cycle"),
     ("DESCENDING", "links aren't sorted by weight"), ("OVERLAP", "an output overlaps an input"),
 ]
 NO_CODE = "not an error code"
 # A line for each number from -22 to 3, and its text.
-TEXTS = "".join(f"{-code} {REFUSALS[code - 1][1] if 0 < code <= len(REFUSALS) else NO_CODE}\n" for code in range(22, -4, -1)).encode()
+TEXTS = "".join(f"{-code} {ERRORS[code - 1][1] if 0 < code <= len(ERRORS) else NO_CODE}\n" for code in range(22, -4, -1)).encode()
 
 # Two files of one program, which use boruvka.hpp in both of its modes.
 KINDS = {
@@ -335,7 +335,7 @@ def indices_are_those_of_the_worked_forests(room):
 def malformed_texts_have_the_errors_of_the_program(room):
     with open(f"{ROOT}/include/boruvka.h", encoding="utf-8") as it:
         codes = {name.replace("_", "").lower(): int(code) for name, code in re.findall(r"BORUVKA_(\w+) = (-\d+)", it.read())}
-    for source, kind, line in FAULTY:
+    for source, kind, line in MALFORMED:
         code = codes[kind.lower()]
         expect(ran(["--plain"], source), 1, b"", b"boruvka: line %d: %s\n" % (line, kind.encode()))
         expect(run([caller(room), "text", "100"], source), 0, b"", b"%d %d %d %s\n" % (code, code, line, kind.encode()))
@@ -350,7 +350,7 @@ def calls_at_their_limits(room):
 def each_error_has_its_code_in_the_header(room):
     with open(f"{ROOT}/include/boruvka.h", encoding="utf-8") as it:
         found = re.findall(r"BORUVKA_(\w+) = (-\d+)", it.read())
-    expect((found, b"", b""), [(name, str(-place)) for place, (name, _) in enumerate(REFUSALS, 1)], b"", b"")
+    expect((found, b"", b""), [(name, str(-place)) for place, (name, _) in enumerate(ERRORS, 1)], b"", b"")
 
 
 @case
@@ -429,7 +429,7 @@ def ten_million_links_and_four_threads(room):
 @case
 def ten_thousand_calls_hold_no_more_memory(room):
     if not os.path.exists("/proc/self/smaps_rollup"):
-        raise Skipped("no /proc/self/smaps_rollup tells how much memory is held")
+        raise Skipped("no /proc/self/smaps_rollup shows how much memory the process has")
     expect(run([caller(room), "again"]), 0, b"", b"")
 
 
@@ -444,10 +444,10 @@ def out_of_memory_is_reported_and_nothing_changed(room):
         first, refused = 1, True
         while refused:
             environment = {"REFUSE_FIRST": str(first), **({"REFUSE_LAST": str(first)} if is_alone else {})}
-            found, told = told_by(room, [caller(room), "memory"], b"", environment, library="refusing")
+            found, told = with_library(room, [caller(room), "memory"], b"", environment, library="refusing")
             refused = bool(told)
             # a smaller growth may succeed after one that failed
-            wanted = found[1] if refused and is_alone else b"some refused\n" if refused else b"answered\n"
+            wanted = found[1] if refused and is_alone else b"some out of memory\n" if refused else b"all done\n"
             expect(found, 0, wanted, b"")
             first += 1
         if first < 10:

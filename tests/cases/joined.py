@@ -8,7 +8,7 @@ import socket
 from errno import EINTR, EIO
 
 from cases.calls import ERRORS, each_position, expect_positions, expect_writes
-from cases.memory import grown_space, in_space, refused
+from cases.memory import grown_space, in_space, with_failures
 from cases.progress import COMMENT
 from cases.running import (
     NO_MEMORY,
@@ -28,13 +28,13 @@ from cases.running import (
     forest_text,
     ran,
     run,
-    told_by,
+    with_library,
     written,
 )
 from cases.sockets import NOTHING
 from cases.streams import READ_ROOM
 
-# the small net's arcs in two files, and in three
+# the arcs of the small graph in two files, and in three
 FIRST = b"p sp 6 4\na 1 2 17\na 1 3 10\na 2 4 2\na 3 5 0\n"
 SECOND = b"p sp 6 4\na 4 3 0\na 4 6 3\na 5 2 0\na 5 6 20\n"
 HALVES = [FIRST, SECOND]
@@ -49,7 +49,7 @@ TOO_MANY = b"error: at most 65536 FILEs\n"
 MAX_FILES = 65_536
 
 # files with errors, for six vertices, and the text that is reported
-FAULTS = [
+FILE_ERRORS = [
     (b"x\n", b"line 1: UnknownLine"),
     (b"\x1f\x8b\x08\0", b"line 1: UnknownLine"),
     (b"a 1 2 3\np sp 6 1\n", b"line 1: NoProblemYet"),
@@ -253,7 +253,7 @@ def many_arcs_of_a_million_vertices_take_no_more_memory(room):
     text = b"p sp %d 2\na 1 2 3\na 1 3 3\n" % vertices
     peaks = {}
     for count in [2, 4, 8]:
-        found, peak = told_by(room, [Program.path, "--plain", *["net.gr"] * count], b"", {"PEAK": "1"}, cwd=room)
+        found, peak = with_library(room, [Program.path, "--plain", *["net.gr"] * count], b"", {"PEAK": "1"}, cwd=room)
         expect(found, 0, text, b"")
         peaks[count] = int(peak) << 10
     if not 16 * arcs < peaks[4] or peaks[8] > 1.05 * peaks[4]:
@@ -305,7 +305,7 @@ def many_arcs_a_vertex_take_no_more_memory(room):
     name = written(f"{room}/net.gr", file)
     peaks = {}
     for count in [2, 4, 100]:
-        found, peak = told_by(room, [Program.path, "--plain", *[name] * count], b"", {"PEAK": "1"})
+        found, peak = with_library(room, [Program.path, "--plain", *[name] * count], b"", {"PEAK": "1"})
         expect(found, 0, text, b"")
         peaks[count] = int(peak) << 10
     if peaks[100] > 12 << 20 or peaks[100] - peaks[4] > 1 << 20:
@@ -347,7 +347,7 @@ def another_number_of_vertices(room):
 @case
 def each_error_in_the_first_file_and_in_later_ones(room):
     good = files_in(room, THIRDS)
-    for text, told in FAULTS:
+    for text, told in FILE_ERRORS:
         written(f"{room}/bad.gr", text)
         # a single file is reported without its name
         for words in MODES:
@@ -569,7 +569,7 @@ def an_output_that_is_full_or_closed(room):
             ("<&-", ["-", *names], 3, b"", unread),
         ]:
             shell = ["sh", "-c", f'exec "$0" "$@" {closed}']
-            found, told = told_by(room, [*shell, Program.path, *words, *given], b"", {}, seconds=10)
+            found, told = with_library(room, [*shell, Program.path, *words, *given], b"", {}, seconds=10)
             expect((found, told, b""), (status, output, errors), b"", b"")
     # no file got the number of a closed descriptor
     for name, text in zip(names, HALVES, strict=True):
@@ -599,7 +599,7 @@ def each_allocation_of_several_files_fails(room):
             for is_alone in (False, True):
                 lines, first, count = [], 1, 1
                 while count:
-                    found, count = refused(room, [*words, *names], b"", first, first if is_alone else None)
+                    found, count = with_failures(room, [*words, *names], b"", first, first if is_alone else None)
                     # a smaller growth may succeed after one that failed
                     if count and not (is_alone and found[0] == 0):
                         expect(found, 4, b"", found[2])
@@ -616,7 +616,7 @@ def each_allocation_of_several_files_fails(room):
 def each_allocation_of_several_files_without_plain_fails(room):
     first = count = 1
     while count:
-        found, count = refused(room, ["a.gr", "b.gr", "c.gr"], b"", first, None)
+        found, count = with_failures(room, ["a.gr", "b.gr", "c.gr"], b"", first, None)
         expect(found, *((4, b"", NO_MEMORY) if count else (2, b"", SEVERAL_ALONE)))
         first += 1
     if first < 5:
@@ -630,7 +630,7 @@ def threads_that_do_not_start_for_several_files(room):
     text = forest_text(120_000, forest_of(120_000, arcs))
     for first in [1, 2, 5]:
         environment = {"FAIL_CALL": "thread", "FAIL_NUMBER": str(first), "FAIL_LAST": "1000000"}
-        found, told = told_by(room, [Program.path, "--plain", "--threads", "7", *names], b"", environment)
+        found, told = with_library(room, [Program.path, "--plain", "--threads", "7", *names], b"", environment)
         expect(found, 0, text, b"")
         if b"x" not in told or b"J" in told:
             raise AssertionError(f"from the {first}th thread on refused: recorded {told!r:.300}")

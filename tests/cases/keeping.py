@@ -3,7 +3,7 @@
 import os
 import random
 
-from cases.running import Program, case, expect, file_of, forest_of, forest_text, ran, told_by
+from cases.running import Program, case, expect, file_of, forest_of, forest_text, ran, with_library
 
 LONG = 32_768
 WEIGHTS = {
@@ -101,7 +101,7 @@ def edges_in_both_directions_take_the_memory_of_one(room):
     for name, arcs in [("one", edges), ("both", [arc for u, v, weight in edges for arc in [(u, v, weight), (v, u, weight)]])]:
         with open(f"{room}/{name}.gr", "wb") as it:
             it.write(file_of(vertices, arcs))
-        found, peak = told_by(room, [Program.path, "--plain", f"{room}/{name}.gr"], b"", {"PEAK": "1"})
+        found, peak = with_library(room, [Program.path, "--plain", f"{room}/{name}.gr"], b"", {"PEAK": "1"})
         expect(found, 0, forest_text(vertices, forest_of(vertices, edges)), b"")
         peaks[name] = int(peak) << 10
     if not 8 << 20 < peaks["one"] < 40 << 20 or peaks["both"] > 1.05 * peaks["one"]:
@@ -119,7 +119,7 @@ def many_arcs_of_a_million_vertices_take_the_memory_of_ten_per_vertex(room):
             it.write(b"a 1 2 3\na 1 3 3\n" * (arcs // 40))
     text = b"p sp %d 2\na 1 2 3\na 1 3 3\n" % vertices
     for words in THREADS:
-        found, peak = told_by(room, [Program.path, *words, name], b"", {"PEAK": "1"})
+        found, peak = with_library(room, [Program.path, *words, name], b"", {"PEAK": "1"})
         expect(found, 0, text, b"")
         if not 16 * 10 * vertices < int(peak) << 10 < 16 * 25 * vertices:
             raise AssertionError(f"{words}: {peak.decode()} KiB")

@@ -2,15 +2,15 @@
 import re
 import resource
 
-from cases.running import NO_MEMORY, ROOT, SMALL_FOREST, SMALL_NET, SMALL_REPORT, Program, Report, case, drawn_graph, expect, ran, told_by, written
+from cases.running import NO_MEMORY, ROOT, SMALL_FOREST, SMALL_NET, SMALL_REPORT, Program, Report, case, drawn_graph, expect, ran, with_library, written
 from cases.workers import healthy_report, over
 
 
-def refused(room, words, source, first, last, size=0):
+def with_failures(room, words, source, first, last, size=0):
     """Runs the program with the allocations from the first to the last failing, and returns its result and how many failed.
     Allocations of fewer bytes than the size aren't counted."""
     environment = {"REFUSE_FIRST": str(first), "COUNT_FROM": str(size), **({"REFUSE_LAST": str(last)} if last else {})}
-    found, told = told_by(room, [Program.path, *words], source, environment, library="refusing")
+    found, told = with_library(room, [Program.path, *words], source, environment, library="refusing")
     return found, len(told)
 
 
@@ -19,7 +19,7 @@ def each_fails(room, words, source, output, errors, status=0):
     for is_alone in (False, True):
         first = 1
         while True:
-            found, count = refused(room, words, source, first, first if is_alone else None)
+            found, count = with_failures(room, words, source, first, first if is_alone else None)
             # a smaller growth may succeed after one that failed
             if not count or is_alone and found[0] == status:
                 expect(found, status, output, errors)
@@ -29,7 +29,7 @@ def each_fails(room, words, source, output, errors, status=0):
                 break
             first += 1
         if first < 5:
-            raise AssertionError(f"only {first - 1} allocations were refused: is the library preloaded?")
+            raise AssertionError(f"only {first - 1} allocations failed: is the library preloaded?")
 
 
 def each_fails_over_workers(room, source, output, workers, shards, size=0, fewest=50):
@@ -39,14 +39,14 @@ def each_fails_over_workers(room, source, output, workers, shards, size=0, fewes
     for is_alone in (False, True):
         first = 1
         while True:
-            found, count = refused(room, words, source, first, first if is_alone else None, size)
+            found, count = with_failures(room, words, source, first, first if is_alone else None, size)
             expect_right_or_no_memory(found, output, workers, shards)
             if not count:
                 healthy_report(found, output, workers, shards)
                 break
             first += 1
         if first <= fewest:
-            raise AssertionError(f"only {first - 1} allocations were refused: is the library preloaded?")
+            raise AssertionError(f"only {first - 1} allocations failed: is the library preloaded?")
 
 
 def expect_right_or_no_memory(found, output, workers, shards):
@@ -58,7 +58,7 @@ def expect_right_or_no_memory(found, output, workers, shards):
 
 @case
 def the_first_allocation_fails(room):
-    found, count = refused(room, ["--plain"], SMALL_NET, 1, None)
+    found, count = with_failures(room, ["--plain"], SMALL_NET, 1, None)
     expect((found[0], found[1], found[2]), 4, b"", NO_MEMORY)
     expect((count > 0, b"", b""), True, b"", b"")
 
@@ -96,7 +96,7 @@ def a_worker_that_runs_out_of_memory_is_left_out(room):
     closed, number, told = [], 1, b"x"
     while told:
         environment = {"REFUSE_FIRST": str(number), "REFUSE_LAST": str(number), "THREADS": "1"}
-        found, told = told_by(room, words, SMALL_NET, environment, library="refusing")
+        found, told = with_library(room, words, SMALL_NET, environment, library="refusing")
         if told == b"t":
             expect(found, 0, SMALL_FOREST, found[2])
             report = Report(found[2])
@@ -120,7 +120,7 @@ def no_allocation_of_twice_the_largest_list(room):
     # (for 4,096 answers of 32 bytes each, without the offers)
     words = [Program.path, *over(64, 4096)]
     more = {"REFUSE_ABOVE": str(2 * 4096 * 32 - 1)}
-    found, told = told_by(room, words, SMALL_NET, more, library="refusing")
+    found, told = with_library(room, words, SMALL_NET, more, library="refusing")
     expect(found, 0, SMALL_FOREST, b"")
     expect((told, b"", b""), b"", b"", b"")
 
@@ -197,7 +197,7 @@ def no_more_memory_than_is_documented(room):
                 resource.setrlimit(resource.RLIMIT_AS, (space, space))
                 resource.setrlimit(resource.RLIMIT_STACK, (1 << 20, 1 << 20))
 
-            found, _ = told_by(room, [Program.path, *words], file, {"PROCESSORS": "1"}, preexec_fn=limit)
+            found, _ = with_library(room, [Program.path, *words], file, {"PROCESSORS": "1"}, preexec_fn=limit)
             expect(found, 0, text, b"")
 
 

@@ -3,7 +3,7 @@ import os
 import re
 import subprocess
 
-from cases.running import NOTHING_WRITTEN, SMALL_FOREST, SMALL_NET, SMALL_REPORT, Program, case, expect, ran, run, told_by, written
+from cases.running import NOTHING_WRITTEN, SMALL_FOREST, SMALL_NET, SMALL_REPORT, Program, case, expect, ran, run, with_library, written
 
 # a comment of a thousand bytes
 COMMENT = b"c" + 998 * b"." + b"\n"
@@ -64,7 +64,7 @@ def a_failed_read_begins_a_line(room):
     name = written(f"{room}/long.gr", LONG_NET)
     line = LONG_NET[: 300 * 65_536].count(b"\n") + 1
     environment = {"FAIL_CALL": "read", "FAIL_NUMBER": "301"}
-    found, told = told_by(room, [Program.path, "--plain", "--progress", name], b"", environment)
+    found, told = with_library(room, [Program.path, "--plain", "--progress", name], b"", environment)
     expect(found, 3, b"", b"read 16 MB\r\nboruvka: line %d: read failed\n" % line)
     expect((told, b"", b""), b"x", b"", b"")
 

@@ -51,7 +51,7 @@ def ran(words, source=b"", output=subprocess.PIPE, **more):
     return run([Program.path, *words], source, output, **more)
 
 
-def told_by(room, words, source, environment, library="failing", **more):
+def with_library(room, words, source, environment, library="failing", **more):
     """Runs a command with tests/failing.c preloaded. Returns its result and what that library recorded: an `x` for each call
     that failed, a `T` for each text for the user that went to a socket, and a `J` if a thread wasn't joined at the end. With
     tests/refusing.c there is an `x` for each allocation that failed."""

@@ -3,7 +3,7 @@ report shows it. The effect of a single failed call is in calls.py."""
 import sys
 from errno import EAGAIN, ECONNRESET, EINTR, ETIMEDOUT
 
-from cases.running import NOTHING_WRITTEN, SMALL_FOREST, SMALL_NET, Program, Report, case, drawn_graph, expect, told_by
+from cases.running import NOTHING_WRITTEN, SMALL_FOREST, SMALL_NET, Program, Report, case, drawn_graph, expect, with_library
 from cases.workers import over
 
 WORKERS, SHARDS = 2, 4
@@ -16,7 +16,7 @@ def failed_from(room, source, text, call, number, more, workers=WORKERS):
     """Returns the report of a run in which calls of this name failed from that number on, and how many failed."""
     words = [Program.path, *over(workers, SHARDS), "--report"]
     environment = {"FAIL_CALL": call, "FAIL_NUMBER": str(number), **more}
-    (status, output, errors), told = told_by(room, words, source, environment, seconds=20)
+    (status, output, errors), told = with_library(room, words, source, environment, seconds=20)
     what = f"{call} {number} {more}"
     if (status, output) != (0, text):
         raise AssertionError(f"{what}: found {(status, output, errors)!r:.600}")
@@ -128,7 +128,7 @@ def nobody_else_is_listened_to(room):
     # the library records a listener on all addresses, but not the program's
     listen = "import socket, sys; it = socket.socket(); it.bind((sys.argv[1], 0)); it.listen()"
     for address, wanted in [("127.0.0.1", b""), ("0.0.0.0", b"A")]:
-        found, told = told_by(room, [sys.executable, "-c", listen, address], b"", {})
+        found, told = with_library(room, [sys.executable, "-c", listen, address], b"", {})
         expect(found, 0, b"", b"")
         expect((told.strip(b"T"), b"", b""), wanted, b"", b"")
     failed_from(room, SMALL_NET, SMALL_FOREST, "none", 1, {}, workers=8)
@@ -148,7 +148,7 @@ def no_thread_outlives_the_program(room):
     ]
     for source, how, wanted in ends:
         environment = {"JOINED": "1", "FAIL_NUMBER": "1", **how}
-        found, told = told_by(room, [Program.path, *over(WORKERS, SHARDS)], source, environment, seconds=20)
+        found, told = with_library(room, [Program.path, *over(WORKERS, SHARDS)], source, environment, seconds=20)
         if found != wanted or told.strip(b"xj") or told.count(b"j") < WORKERS:
             raise AssertionError(f"wanted {wanted!r}, and each thread joined: found {found!r:.600}, told {told!r}")
 
@@ -161,7 +161,7 @@ def answers_that_form_no_forest(room):
         ("1", [(1, 1)], b"round 3 is past the bound"),
     ]:
         for size in sizes:
-            found, told = told_by(room, [Program.path, *over(*size), "--report"], SMALL_NET, {"OFFERS": offers}, seconds=20)
+            found, told = with_library(room, [Program.path, *over(*size), "--report"], SMALL_NET, {"OFFERS": offers}, seconds=20)
             expect(found, 5, b"", b"boruvka: " + why + b"\n")
             expect((told, b"", b""), b"", b"", b"")
 

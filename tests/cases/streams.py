@@ -21,7 +21,7 @@ from cases.running import (
     drawn_graph,
     expect,
     ran,
-    told_by,
+    with_library,
     written,
 )
 
@@ -143,7 +143,7 @@ def closed_descriptors(room):
     for words in MODES:
         for closed, more, status, output, errors in rows:
             shell = ["sh", "-c", f'exec "$0" "$@" {closed}']
-            found, told = told_by(room, [*shell, Program.path, *words, *more], SMALL_NET, {}, seconds=10)
+            found, told = with_library(room, [*shell, Program.path, *words, *more], SMALL_NET, {}, seconds=10)
             if (found, told) != ((status, output, errors), b""):
                 raise AssertionError(f"{closed} {words} {more}: {found!r:.600}, told {told!r}")
 
@@ -193,7 +193,7 @@ def reads_of_64_KiB_and_one_write_for_each_8_KiB(room):
     name = written(f"{room}/net.gr", file)
     reads = -(-len(file) // READ_ROOM) + 1
     for words in MODES:
-        found, told = told_by(room, [Program.path, *words, name], b"", {"COUNTED": "1", "PROCESSORS": "1"})
+        found, told = with_library(room, [Program.path, *words, name], b"", {"COUNTED": "1", "PROCESSORS": "1"})
         expect(found, 0, text, b"")
         # the first line of the text is a write of its own
         lines, writes = len(text) - text.index(b"\n") - 1, told.count(b"w")
@@ -207,7 +207,7 @@ def by_threads_reads_of_more_and_one_write_for_each_8192_links(room):
     name = written(f"{room}/net.gr", file)
     links = text.count(b"\n") - 1
     for words, processors in [(["--plain", "--threads", "2"], "1"), (MODES[1], "2")]:
-        found, told = told_by(room, [Program.path, *words, name], b"", {"COUNTED": "1", "PROCESSORS": processors})
+        found, told = with_library(room, [Program.path, *words, name], b"", {"COUNTED": "1", "PROCESSORS": processors})
         expect(found, 0, text, b"")
         # the first MiB is read as with one thread, and the rest in one read; the first line of the text is a write of its own
         if told != b"R" * -(-(1 << 20) // READ_ROOM) + b"rr" + b"w" * (1 + -(-links // 8192)):

@@ -17,7 +17,7 @@ from cases.running import (
     drawn_graph,
     expect,
     ran,
-    told_by,
+    with_library,
     written,
 )
 
@@ -117,7 +117,7 @@ def pipes_by_threads(_room):
 def an_input_byte_by_byte_by_threads(room):
     file = b"p sp 2 150000\n" + 150_000 * b"a 1 2 3\n"
     for source in [file, file[:-1], file + b"c"]:
-        found, _ = told_by(room, [Program.path, *by(2)], source, {"SHORT": "1"})
+        found, _ = with_library(room, [Program.path, *by(2)], source, {"SHORT": "1"})
         expect(found, 0, b"p sp 2 1\na 1 2 3\n", b"")
 
 
@@ -138,7 +138,7 @@ def reads_that_fail_after_what_threads_share(room):
                 environment = {"FAIL_CALL": "read", "FAIL_NUMBER": str(number)}
                 for words in [[*by(threads), it], by(threads)]:
                     with open(it, "rb") as source:
-                        found, told = told_by(room, [Program.path, *words], source, environment)
+                        found, told = with_library(room, [Program.path, *words], source, environment)
                     expect(found, status, b"", errors)
                     if told != failed:
                         raise AssertionError(f"read {number}: told {told!r}")
@@ -173,7 +173,7 @@ def threads_that_do_not_start(room):
     for first in [1, 2, 5]:
         for threads in THREADS:
             environment = {"FAIL_CALL": "thread", "FAIL_NUMBER": str(first), "FAIL_LAST": "1000000"}
-            found, told = told_by(room, [Program.path, *by(threads), name], b"", environment)
+            found, told = with_library(room, [Program.path, *by(threads), name], b"", environment)
             expect(found, 0, text, b"")
             if b"J" in told or threads == 1 and told:
                 raise AssertionError(f"{threads} threads, from the {first}th on refused: told {told!r:.300}")
@@ -186,7 +186,7 @@ def the_threads_that_are_asked_for(room):
     name, text = large_graph(room)
     for names in [[name], [name, name]]:
         for threads in THREADS:
-            found, told = told_by(room, [Program.path, *by(threads), *names], b"", {"PROCESSORS": "1", "STARTED": "0"})
+            found, told = with_library(room, [Program.path, *by(threads), *names], b"", {"PROCESSORS": "1", "STARTED": "0"})
             expect(found, 0, text, b"")
             others = told.count(b"a")
             if b"J" in told or not min(threads - 1, 50) <= others < threads:
@@ -204,7 +204,7 @@ def a_long_file_by_threads_takes_no_more_memory(room):
             it.write(b"a 1 1 5\n" * (count // 8))
     peaks = {}
     for threads in [1, 2, 4]:
-        found, peak = told_by(room, [Program.path, *by(threads), name], b"", {"PEAK": "1"})
+        found, peak = with_library(room, [Program.path, *by(threads), name], b"", {"PEAK": "1"})
         expect(found, 0, b"p sp 1 0\n", b"")
         peaks[threads] = int(peak) << 10
     if peaks[1] > 4 << 20 or not all(2 << 20 < peaks[it] - peaks[1] < 5 << 20 for it in [2, 4]):

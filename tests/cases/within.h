@@ -26,7 +26,7 @@ static unsigned char *edged(size_t size) {
 static void given_back(unsigned char *block, size_t size) {
     for (size_t i = 0; i < EDGE; i++) {
         if (block[i] != SIGN || block[EDGE + size + i] != SIGN) {
-            fprintf(stderr, "within.h: a byte beside %zu bytes of memory was written\n", size);
+            fprintf(stderr, "within.h: a byte next to %zu bytes of memory was written\n", size);
             exit(1);
         }
     }

@@ -43,7 +43,7 @@ function within(from, call) {
     view.setBigUint64(base + 8, BigInt(size), true);
     new Uint8Array(exports.memory.buffer, from + size, 64).fill(SIGN);
     const answer = call(BigInt(base));
-    if (!new Uint8Array(exports.memory.buffer, from + size, 64).every((it) => it === SIGN)) throw new Error("a byte behind the memory was written");
+    if (!new Uint8Array(exports.memory.buffer, from + size, 64).every((it) => it === SIGN)) throw new Error("a byte after the memory was written");
     if (answer !== NO_MEMORY || size > 2 ** 33) return answer;
   }
 }
@@ -57,7 +57,7 @@ function text(source, room) {
   new Uint8Array(exports.memory.buffer, into, room + 64).fill(SIGN);
   const answer = within(from, (memory) => exports.boruvka_forest_text_within(memory, BigInt(given), BigInt(source.length), BigInt(into), BigInt(room), BigInt(base + 16)));
   const length = answer < 0n ? 0 : Math.min(Number(answer), room);
-  if (!new Uint8Array(exports.memory.buffer, into + length, room + 64 - length).every((it) => it === SIGN)) throw new Error("a byte behind the text was written");
+  if (!new Uint8Array(exports.memory.buffer, into + length, room + 64 - length).every((it) => it === SIGN)) throw new Error("a byte after the text was written");
   writeSync(1, new Uint8Array(exports.memory.buffer, into, length));
   const view = new DataView(exports.memory.buffer);
   const kind = view.getBigInt64(base + 16, true), line = view.getBigUint64(base + 24, true);
@@ -113,7 +113,7 @@ function numbers(end, room, call) {
   new Uint8Array(exports.memory.buffer, into, 4 * room + 64).fill(SIGN);
   const answer = within(unit(behind + 64), (memory) => call(memory, BigInt(into), BigInt(room)));
   const from = answer < 0n ? into : into + 4 * Number(answer);
-  if (!new Uint8Array(exports.memory.buffer, from, behind + 64 - from).every((it) => it === SIGN)) throw new Error("a byte behind the numbers was written");
+  if (!new Uint8Array(exports.memory.buffer, from, behind + 64 - from).every((it) => it === SIGN)) throw new Error("a byte after the numbers was written");
   const found = answer < 0n ? [answer] : [...new Uint32Array(exports.memory.buffer, into, Number(answer))];
   writeSync(1, found.map((it) => `${it}\n`).join(""));
 }

@@ -5,7 +5,7 @@ import re
 import shutil
 import subprocess
 
-from cases.embedding import ENVIRONMENT, FAULTY, INCLUDE, MINUTES, NO_CODE, REFUSALS, TEXTS, compiler, libraries, listed, worked
+from cases.embedding import ENVIRONMENT, ERRORS, INCLUDE, MALFORMED, MINUTES, NO_CODE, TEXTS, compiler, libraries, listed, worked
 from cases.running import ROOT, SMALL_FOREST, SMALL_NET, Skipped, case, drawn_graph, expect, forest_text, ran, run
 
 BUILT = f"{ROOT}/crates/boruvka_within/out"
@@ -82,7 +82,7 @@ def expect_results(of):
         expect(run(of("list"), source), 0, forest_text(vertices, [(weight, low, high) for low, high, weight in forest]), b"")
     with open(f"{ROOT}/include/boruvka.h", encoding="utf-8") as it:
         codes = {name.replace("_", "").lower(): int(code) for name, code in re.findall(r"BORUVKA_(\w+) = (-\d+)", it.read())}
-    for source, kind, line in FAULTY:
+    for source, kind, line in MALFORMED:
         code = codes[kind.lower()]
         expect(run(of("text", "100"), source), 0, b"", b"%d %d %d %s\n" % (code, code, line, kind.encode()))
 
@@ -182,7 +182,7 @@ def the_page_has_a_remedy_for_each_error_of_a_line(room):
     with open(f"{ROOT}/web/causes.js", encoding="utf-8") as it:
         causes = it.read().partition("const CAUSES = {")[2].partition("\n};")[0]
     told = {word or name for word, name in re.findall(r"^  (?:'([^']+)'|(\w+)): '", causes, re.M)}
-    expect((({it for _, it in REFUSALS[5:16]} | {"no memory"}) - told, b"", b""), set(), b"", b"")
+    expect((({it for _, it in ERRORS[5:16]} | {"no memory"}) - told, b"", b""), set(), b"", b"")
 
 
 @case

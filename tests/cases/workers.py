@@ -5,7 +5,7 @@ import random
 import resource
 import time
 
-from cases.running import SMALL_FOREST, SMALL_NET, Program, Report, case, drawn_graph, expect, file_of, forest_of, forest_text, ran, told_by, written
+from cases.running import SMALL_FOREST, SMALL_NET, Program, Report, case, drawn_graph, expect, file_of, forest_of, forest_text, ran, with_library, written
 
 
 def over(workers, shards):
@@ -109,7 +109,7 @@ def answers_that_are_read_by_64_kib(room):
     for workers, shards in [(1, 1), (2, 2)]:
         words = [Program.path, *over(workers, shards), "--report"]
         for more in [{}, {"WHOLE": "1"}]:
-            found, told = told_by(room, words, file, more)
+            found, told = with_library(room, words, file, more)
             healthy_report(found, text, workers, shards)
             expect((told, b"", b""), b"", b"", b"")
 
@@ -195,7 +195,7 @@ def forty_times(seed, vertices, arcs):
 def started_by(room, file, text, workers, shards, processors):
     """Returns the report of a run on so many processors, and what was recorded of the threads that it started."""
     words = [Program.path, *over(workers, shards), "--report"]
-    found, told = told_by(room, words, file, {"PROCESSORS": str(processors), "STARTED": str(workers)})
+    found, told = with_library(room, words, file, {"PROCESSORS": str(processors), "STARTED": str(workers)})
     if b"J" in told:
         raise AssertionError(f"{workers} workers: a thread was not joined")
     return healthy_report(found, text, workers, shards), told
@@ -239,7 +239,7 @@ def each_worker_that_is_asked_for_is_started(room):
     # each sends one hello, and has a thread; another thread starts for each lane of a round except one
     for workers in [1, 3, 63, 64]:
         words = [Program.path, *over(workers, 4), "--report"]
-        found, told = told_by(room, words, SMALL_NET, {"PROCESSORS": "4", "STARTED": str(workers), "GREETED": "1"})
+        found, told = with_library(room, words, SMALL_NET, {"PROCESSORS": "4", "STARTED": str(workers), "GREETED": "1"})
         report = healthy_report(found, SMALL_FOREST, workers, 4)
         threads = workers + (report.rounds + 1) * (workers - 1)
         if (told.count(b"H"), told.count(b"s")) != (workers, threads):

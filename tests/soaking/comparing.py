@@ -4,7 +4,7 @@ import shutil
 import subprocess
 from dataclasses import dataclass, replace
 
-from cases.running import NO_MEMORY, SECONDS, Program, Report, expect, run, told_by, total_of, written
+from cases.running import NO_MEMORY, SECONDS, Program, Report, expect, run, with_library, total_of, written
 from cases.sockets import NOTHING
 from cases.streams import LEAST_PIECE, READ_ROOM
 from soaking.judging import result_for_failed_read, result_for_text, result_for_files, rounds_of
@@ -59,7 +59,7 @@ def found_of(room, case, source):
     if not case.library:
         return Found(*run(words, source, **more), b"")
     fails = {name: str(value) for name, value in case.fails.items()}
-    found, told = told_by(room, words, source, fails, library=case.library, **more)
+    found, told = with_library(room, words, source, fails, library=case.library, **more)
     return Found(*found, told)
 
 
