@@ -14,13 +14,16 @@ def expect_too_many_vertices(server, most):
     query = f"SELECT i AS id, i AS source, i + 1 AS target, 1 AS cost FROM generate_series(1, {most}) i"
     for call in (f"boruvka_forest(id, source, target, cost) FROM ({query}) it", f"* FROM boruvka_kruskal('{query}')"):
         status, _, errors = server.psql(f"\\set VERBOSITY verbose\nSELECT {call}")
-        if not status or f"54000: edge {most} brings more than {most} vertices" not in errors or "HINT:" not in errors:
+        if not status or f"54000: edge {most} exceeds the limit of {most} vertices" not in errors or "HINT:" not in errors:
             raise AssertionError(f"{call:.60}: {status} {errors}")
         server.expect(f"SELECT {call.replace(str(most), str(most - 1))}")
 
 
+FUNCTIONS = ["aggregate", "kruskal", "components", "linkage", "clusters", "tree"]
+
+
 def calls(table):
-    """Each function over a table."""
+    """Each of FUNCTIONS over a table."""
     query = f"SELECT id, source, target, cost FROM {table}"
     yield "aggregate", f"SELECT cardinality(boruvka_forest(id, source, target, cost)) FROM {table}"
     yield "kruskal", f"SELECT count(*) FROM boruvka_kruskal('{query}')"
@@ -36,32 +39,33 @@ def filled(server, edges):
 
 
 def lateness(server, call, seconds):
-    """How much later than a timeout a call ended, or None if it ended before."""
-    begun = time.monotonic()
-    status, _, errors = server.psql(f"SET statement_timeout = {int(seconds * 1000)}; {call}")
-    took = time.monotonic() - begun
+    """How much later than a timeout a call ended, or None if it ended before. psql measures the time of the call alone."""
+    status, output, errors = server.psql(f"SET statement_timeout = {int(seconds * 1000)};\n\\timing on\n{call};", seconds=3600)
     if status and "canceling statement due to statement timeout" not in errors:
         raise AssertionError(f"{call}: {errors}")
-    return took - seconds if status else None
+    return seconds_of(output) - seconds if status else None
 
 
-def expect_timeouts(server, edges, fractions, late):
-    """The latest of all timeouts. A psql takes about 0.05 s of that."""
-    table = filled(server, edges)
-    worst = {}
+def seconds_of(output):
+    """The last time that psql printed."""
+    return float(re.findall(r"^Time: ([\d.]+) ms", output, re.M)[-1]) / 1000
+
+
+def expect_timeouts(server, table, names, fractions, late):
+    """The latest end of each of these functions after timeouts, in seconds, and how long it takes without a timeout."""
+    found = {}
     for name, call in calls(table):
-        begun = time.monotonic()
-        server.expect(call)
-        whole = time.monotonic() - begun
-        found = [it for it in (lateness(server, call, whole * part) for part in fractions) if it is not None]
-        worst.update({name: max(found)} if found else {})
-    if not worst or max(worst.values()) > late:
-        raise AssertionError(f"ended so late after a timeout: {worst}")
-    return worst
+        if name in names:
+            whole = seconds_of(server.expect(f"\\timing on\n{call};", seconds=3600))
+            ends = [it for it in (lateness(server, call, whole * part) for part in fractions) if it is not None]
+            found[name] = (round(max(ends, default=0), 3), round(whole, 1), len(ends))
+    if not any(ends for _, _, ends in found.values()) or max(found.values())[0] > late:
+        raise AssertionError(f"ended so late after a timeout: {found}")
+    return found
 
 
 def timeouts(server):
-    expect_timeouts(server, EDGES, [0.2, 0.4], LATE + 0.3)  # (other work on the machine may take some of that)
+    expect_timeouts(server, filled(server, EDGES), FUNCTIONS, [0.2, 0.4], LATE + 0.3)  # (other work on the machine may take some of that)
 
 
 def a_cancel(server):
