@@ -132,50 +132,75 @@ void join_components(uint32 *parents, const Edge *edge, const int64 *ids, uint32
     parents[*joined] = *kept;
 }
 
-/* The library's forest of a batch. Its memory isn't the server's. */
-static uint32 forest_of_batch(uint32 n_vertices, struct boruvka_link *links, uint32 count) {
-    int64 left = boruvka_forest(n_vertices, links, count);
+/* Edges between components. For the library, the vertices are these components, and an edge's weight is its index. */
+typedef struct Batch {
+    uint32 *parents;            /* which vertices have the same component */
+    uint32 *components;         /* in this batch */
+    uint32 *numbers;            /* components[numbers[c]] is c if the component c is in this batch */
+    uint32 *labels;             /* what the library returns for them */
+    uint32 count;               /* of components */
+    struct boruvka_link *links;
+} Batch;
 
-    if (left == BORUVKA_NO_MEMORY)
+static Batch batch_create(const Graph *graph) {
+    size_t most = Min(graph->n_edges, BATCH_EDGES), most_components = Min(graph->n_vertices, 2 * most);
+
+    return (Batch) {.parents = components_create(graph),
+                    .components = allocate(most_components, sizeof(uint32)),
+                    .numbers = allocate(graph->n_vertices, sizeof(uint32)),
+                    .labels = allocate(most_components, sizeof(uint32)),
+                    .links = allocate(most, sizeof(struct boruvka_link))};
+}
+
+/* The number of a component in a batch, from 1 on. */
+static uint32 number_of(Batch *batch, uint32 component) {
+    uint32 number = batch->numbers[component];
+
+    if (number >= batch->count || batch->components[number] != component) {
+        number = batch->numbers[component] = batch->count++;
+        batch->components[number] = component;
+    }
+    return number + 1;
+}
+
+/* What the library returned, unless it is an error. The library does not allocate the server's memory. */
+static uint32 checked(int64 answer) {
+    if (answer == BORUVKA_NO_MEMORY)
         ereport(ERROR, errcode(ERRCODE_OUT_OF_MEMORY), errmsg("out of memory"),
                 errdetail("The library failed to allocate memory for a batch of edges."),
                 errhint("Run fewer queries at the same time."));
-    if (left < 0) elog(ERROR, "the library returned " INT64_FORMAT, left);
-    return (uint32) left;
+    if (answer < 0) elog(ERROR, "the library returned " INT64_FORMAT, answer);
+    return (uint32) answer;
 }
 
-/* Keep only the edges of the forest, in their order. A batch has the next edges that connect different components. The library
- * gets components as vertices, numbered from 1 in each batch, and the indices of edges as weights. */
+/* Keep only the edges of the forest, in their order. Each batch has the next edges that connect different components. */
 void graph_keep_forest(Graph *graph) {
+    MemoryContext scratch, caller;
     Edge *edges = graph->edges;
-    uint32 *parents, *numbers, last = 0, a, b;
-    struct boruvka_link *links;
     size_t kept = 0;
+    Batch batch;
 
     if (graph->n_forest == graph->n_edges) return;
     merge_forest(graph);
-    parents = components_create(graph);
-    numbers = allocate(graph->n_vertices, sizeof(uint32));
-    links = allocate(Min(graph->n_edges, BATCH_EDGES), sizeof(struct boruvka_link));
+    scratch = AllocSetContextCreate(CurrentMemoryContext, "boruvka batches", ALLOCSET_SMALL_SIZES);
+    caller = MemoryContextSwitchTo(scratch);
+    batch = batch_create(graph);
     for (size_t next = 0; next < graph->n_edges;) {
-        uint32 count = 0, before = last, left;
+        uint32 count = 0, left;
 
+        batch.count = 0;
         for (; count < BATCH_EDGES && more(next, graph->n_edges); next++) {
-            a = find_component(parents, edges[next].low);
-            b = find_component(parents, edges[next].high);
-            if (a == b) continue;
-            if (numbers[a] <= before) numbers[a] = ++last;
-            if (numbers[b] <= before) numbers[b] = ++last;
-            links[count++] = (struct boruvka_link) {(int64) next, numbers[a] - before, numbers[b] - before};
+            uint32 a = find_component(batch.parents, edges[next].low), b = find_component(batch.parents, edges[next].high);
+
+            if (a != b) batch.links[count++] = (struct boruvka_link) {(int64) next, number_of(&batch, a), number_of(&batch, b)};
         }
-        left = forest_of_batch(last - before, links, count);
-        for (uint32 i = 0; i < left; i++) {
-            join_components(parents, &edges[links[i].weight], graph->ids, &a, &b);
-            edges[kept++] = edges[links[i].weight];
-        }
+        left = checked(boruvka_forest(batch.count, batch.links, count));
+        for (uint32 i = 0; i < left; i++) edges[kept++] = edges[batch.links[i].weight];
+        if (next == graph->n_edges) break;
+        checked(boruvka_labels(batch.count, batch.links, left, batch.labels));
+        for (uint32 i = 0; i < batch.count; i++) batch.parents[batch.components[i]] = batch.components[batch.labels[i] - 1];
     }
     graph->n_edges = graph->n_forest = kept;
-    pfree(parents);
-    pfree(numbers);
-    pfree(links);
+    MemoryContextSwitchTo(caller);
+    MemoryContextDelete(scratch);
 }
