@@ -1,11 +1,10 @@
 #!/usr/bin/env python3
-"""What takes too long for `make installcheck`: clang-tidy; a server whose processes may use little memory; each function
-under valgrind, and with gcc's checks of undefined behaviour; and each function over ten million edges, where each of several
-timeouts has to end it in time.
+"""Tests that take too long for `make installcheck`: clang-tidy, a server with little memory, each function under valgrind and
+with gcc's checks of undefined behaviour, and timeouts of each function over ten million edges.
 
 usage: tests/stress.py [WORD..]
 
-Runs the steps of STEPS whose names contain one of these words, or all steps. The last line is `N passed, M failed`.
+Without arguments all steps run, otherwise those whose names contain one of these words. The last line is `N passed, M failed`.
 """
 import os
 import re
@@ -31,7 +30,7 @@ SHAPES = {
 
 
 def timeouts(shape, name):
-    """A cancel is a timeout that another session asks for: the process notices both at the same places."""
+    """Each timeout ends a call in time. A process notices a cancel and a timeout at the same points of its code."""
     with Server(settings=["shared_buffers=256MB", "max_wal_size=8GB"]) as server:
         server.expect(f"CREATE UNLOGGED TABLE strip AS {SHAPES[shape].format(TEN_MILLION)}", seconds=3600)
         late, whole, ends = trouble.expect_timeouts(server, "strip", [name], FRACTIONS, trouble.LATE)[name]
@@ -39,7 +38,7 @@ def timeouts(shape, name):
 
 
 def little_address_space(room):
-    """Queries fail for want of memory, each with an error, and the server goes on."""
+    """Queries that run out of memory fail with an error, and the server goes on."""
     with Server(limits="-v 600000") as server:
         server.expect(f"CREATE UNLOGGED TABLE strip_3000000 AS {SHAPES['sparse'].format(3_000_000)}")
         found = {}
@@ -49,7 +48,7 @@ def little_address_space(room):
                 raise AssertionError(f"{name}: {errors}")
             found[name] = "out of memory" if status else "ended"
         if "out of memory" not in found.values():
-            raise AssertionError(f"no call was short of memory: {found}")
+            raise AssertionError(f"no call ran out of memory: {found}")
         server.expect("SELECT 1")
 
 
@@ -75,14 +74,14 @@ def under_valgrind(room):
 
 
 def under_a_sanitizer(room):
-    """An overflow, a shift or an alignment that C leaves undefined ends the server's process."""
+    """Undefined behaviour in the extension's C ends the server's process."""
     with Server(library=built(f"{room}/sanitized", COPT="-g -DBATCH_EDGES=50 -fsanitize=undefined -fno-sanitize-recover=all")) as server:
         every_function(server)
         if "runtime error" in server.logged():
             raise AssertionError(server.logged()[-3000:])
 
 
-# (the server asks for the name _PG_init, and SQL for the order of an edge's columns)
+# (the server requires the name _PG_init, and the ids of an edge are all numbers)
 CHECKS = "-*,clang-*,bugprone-*,cert-*,concurrency-*,misc-*,performance-*,portability-*," \
     "-bugprone-reserved-identifier,-cert-dcl37-c,-cert-dcl51-cpp,-bugprone-easily-swappable-parameters"
 
