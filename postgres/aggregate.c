@@ -1,8 +1,8 @@
 /* SPDX-License-Identifier: MIT OR Apache-2.0 */
 /* aggregate.c: boruvka_forest(id, source, target, cost), the ids of the edges in the forest, lightest first.
  *
- * The forest of the forests of parts is the forest of all edges. So a parallel worker hands over the forest of its edges,
- * and more edges may follow after the final function: the aggregate works over a window, too. */
+ * The forest of the parts' forests is the forest of all edges. So a parallel worker sends only the forest of its edges. The
+ * final function keeps the forest in the state, and more edges may follow, as over a window. */
 #include "graph.h"
 
 #include "catalog/pg_type.h"
@@ -12,14 +12,14 @@
 PG_MODULE_MAGIC;
 void _PG_init(void);
 
-/* The library is compiled for x86-64-v2: on an older processor its first call would end the server. */
+/* The library is compiled for x86-64-v2. On an older processor its first call would crash the server. */
 void _PG_init(void) {
     if (!__builtin_cpu_supports("sse4.2") || !__builtin_cpu_supports("popcnt"))
         ereport(ERROR, errcode(ERRCODE_FEATURE_NOT_SUPPORTED), errmsg("boruvka needs a processor with SSE4.2 and POPCNT"),
-                errhint("Run the server on a newer processor, or let its virtual machine show these."));
+                errhint("Run the server on a newer processor, or let its virtual machine expose these features."));
 }
 
-/* The state, or a new one before the first edge. */
+/* The state, which is new before the first edge. */
 static Graph *state_of(FunctionCallInfo fcinfo) {
     MemoryContext context;
 
@@ -97,7 +97,7 @@ Datum boruvka_ids(PG_FUNCTION_ARGS) {
 
         if (graph_add_vertex(seen, id, id) != i)
             ereport(ERROR, errcode(ERRCODE_UNIQUE_VIOLATION), errmsg("two edges of the forest have the id " INT64_FORMAT, id),
-                    errhint("Give each edge an id of its own, for example by row_number()."));
+                    errhint("Give each edge its own id, for example by row_number()."));
         ids[i] = Int64GetDatum(id);
     }
     PG_RETURN_ARRAYTYPE_P(construct_array(ids, (int) graph->n_edges, INT8OID, sizeof(int64), FLOAT8PASSBYVAL, TYPALIGN_DOUBLE));

@@ -38,11 +38,11 @@ END;
 COMMENT ON FUNCTION boruvka_kruskal(text)
 IS 'edges of the minimum spanning forest, lightest first';
 COMMENT ON FUNCTION boruvka_components(text)
-IS 'vertices by component, each component with the name of its least vertex';
+IS 'component of each vertex, named by its least vertex';
 COMMENT ON FUNCTION boruvka_linkage(text)
-IS 'clusters that the edges of the forest join, by single linkage';
+IS 'clusters that each edge of the forest joins (single linkage)';
 COMMENT ON FUNCTION boruvka_clusters(text, double precision, bigint)
-IS 'vertices by cluster of single linkage, up to a height or to a number of clusters';
+IS 'cluster of each vertex, up to a height or down to a number of clusters (single linkage)';
 COMMENT ON FUNCTION boruvka_tree(text, bigint[], bigint)
 IS 'trees of the minimum spanning forest from these roots, breadth first';
 COMMENT ON FUNCTION boruvka_tree(text, bigint, bigint)

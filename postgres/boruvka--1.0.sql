@@ -37,8 +37,8 @@ CREATE AGGREGATE boruvka_forest(id bigint, source bigint, target bigint, cost nu
 );
 
 COMMENT ON AGGREGATE boruvka_forest(bigint, bigint, bigint, double precision)
-IS 'ids of the edges in the minimum spanning forest, lightest first';
+IS 'ids of the edges in the minimum spanning forest, lightest first; duplicate ids of other edges are not reported';
 COMMENT ON AGGREGATE boruvka_forest(bigint, bigint, bigint, bigint)
-IS 'ids of the edges in the minimum spanning forest, lightest first';
+IS 'ids of the edges in the minimum spanning forest, lightest first; duplicate ids of other edges are not reported';
 COMMENT ON AGGREGATE boruvka_forest(bigint, bigint, bigint, numeric)
-IS 'ids of the edges in the minimum spanning forest, lightest first';
+IS 'ids of the edges in the minimum spanning forest, lightest first; duplicate ids of other edges are not reported';

@@ -1,5 +1,5 @@
 /* SPDX-License-Identifier: MIT OR Apache-2.0 */
-/* cost.c: costs as whole numbers of the same order. */
+/* cost.c: costs as whole numbers in the same order. */
 #include "graph.h"
 
 #include <math.h>
@@ -13,32 +13,30 @@ void reject_null(int column, int64 id) {
     ereport(ERROR, errcode(ERRCODE_NULL_VALUE_NOT_ALLOWED),
             column == ID ? errmsg("the id of an edge is NULL")
                          : errmsg("the %s of edge " INT64_FORMAT " is NULL", column_names[column], id),
-            errhint("Leave such edges out: WHERE %s IS NOT NULL.", column_names[column]));
+            errhint("Leave such edges out by WHERE %s IS NOT NULL.", column_names[column]));
 }
 
-/* The bits of doubles have their order if those of negative ones are mirrored; -0 is 0. */
 static int64 key_of_float(double cost, int64 id) {
-    union { double cost; int64 bits; } it = {cost};
+    int64 key = boruvka_key(cost);
 
-    if (isnan(cost))
+    if (key == BORUVKA_NAN)
         ereport(ERROR, errcode(ERRCODE_INVALID_PARAMETER_VALUE),
-                errmsg("edge " INT64_FORMAT " has the cost NaN, which has no place in the order of costs", id),
-                errhint("Leave such edges out, or make them the last ones by the cost 'Infinity'."));
-    return it.bits < 0 ? -(it.bits & PG_INT64_MAX) : it.bits;
+                errmsg("edge " INT64_FORMAT " has the cost NaN, which cannot be ordered", id),
+                errhint("Leave such edges out, or give them the cost 'Infinity', which comes last."));
+    return key;
 }
 
-/* A numeric has the key of its nearest double, if that is printed as the numeric is. So no two numerics share a double,
- * and rounding keeps their order. */
+/* A numeric has the key of its nearest double, if that has the same 15 digits. Two such numerics never share a double, so
+ * rounding keeps their order. */
 static int64 key_of_numeric(Datum cost, int64 id) {
     Datum nearest = DirectFunctionCall1(numeric_float8_no_overflow, cost);
 
     if (!isnan(DatumGetFloat8(nearest)) &&
         !DatumGetBool(DirectFunctionCall2(numeric_eq, DirectFunctionCall1(float8_numeric, nearest), cost)))
         ereport(ERROR, errcode(ERRCODE_NUMERIC_VALUE_OUT_OF_RANGE),
-                errmsg("edge " INT64_FORMAT " has the numeric cost %s, whose place in the order of costs is lost by rounding", id,
+                errmsg("edge " INT64_FORMAT " has the numeric cost %s, which is not a float8 of at most 15 digits", id,
                        DatumGetCString(DirectFunctionCall1(numeric_out, cost))),
-                errdetail("A numeric cost may have 15 digits, within the range of float8."),
-                errhint("Round it by cost::float8, or scale it to a whole number: (cost * 1000)::bigint."));
+                errhint("Round it by cost::float8, or make it a whole number, for example by (cost * 1000)::bigint."));
     return key_of_float(DatumGetFloat8(nearest), id);
 }
 
@@ -53,15 +51,13 @@ int64 key_of(Datum cost, Oid type, int64 id) {
     }
 }
 
-/* The cost of an edge, which isn't negative. It is rejected if no double has it. */
+/* The cost of an edge. It is an error if no double is equal to it. */
 double cost_of(const Graph *graph, const Edge *edge) {
-    union { int64 bits; double cost; } it = {edge->key};
+    double cost = graph->has_whole_costs ? (double) edge->key : boruvka_weight(edge->key);
 
-    if (!graph->has_whole_costs) return it.cost;
-    it.cost = (double) edge->key;
-    if (it.cost == 0x1p63 || (int64) it.cost != edge->key)
+    if (graph->has_whole_costs && (cost == 0x1p63 || (int64) cost != edge->key))
         ereport(ERROR, errcode(ERRCODE_NUMERIC_VALUE_OUT_OF_RANGE),
                 errmsg("edge " INT64_FORMAT " has the cost " INT64_FORMAT ", which float8 would round", edge->id, edge->key),
-                errhint("The aggregate boruvka_forest returns ids without costs."));
-    return it.cost;
+                errhint("Use the aggregate boruvka_forest, which returns only ids."));
+    return cost;
 }

@@ -1,5 +1,5 @@
 /* SPDX-License-Identifier: MIT OR Apache-2.0 */
-/* graph.h: edges that become their minimum spanning forest when their buffer is full. */
+/* graph.h: a buffer of edges that is reduced to their minimum spanning forest when it is full. */
 #ifndef BORUVKA_GRAPH_H
 #define BORUVKA_GRAPH_H
 
@@ -10,7 +10,7 @@
 #include "fmgr.h"
 #include "miscadmin.h"
 
-/* The most edges of one call of the library, which takes about 10 ms and can't be canceled. Tests build with smaller limits. */
+/* The most edges in one call of the library, which takes about 10 ms and can't be canceled. Tests set lower limits. */
 #ifndef BATCH_EDGES
 #define BATCH_EDGES 65536
 #endif
@@ -18,7 +18,9 @@
 #define MAX_VERTICES BORUVKA_MAX_VERTICES
 #endif
 
-/* The columns of an edge, in the order in which the aggregate takes them. */
+#define NO_VERTEX PG_UINT32_MAX
+
+/* The columns of an edge, in the order of the aggregate's arguments. */
 enum { ID, SOURCE, TARGET, COST, N_COLUMNS };
 extern const char *const column_names[];
 
@@ -28,27 +30,19 @@ typedef struct Edge {
 } Edge;
 
 typedef struct Graph {
-    MemoryContext context; /* the arrays are allocated in it */
-    int64 *ids;            /* of the vertices, in the order of their arrival */
+    MemoryContext context; /* the arrays are in it */
+    int64 *ids;            /* of the vertices */
     uint32 *slots;         /* a hash table: 0, or 1 + an index into ids */
     uint64 seed;           /* of its hash function */
     uint32 n_slots;        /* a power of 2; ids has room for half as many */
     uint32 n_vertices;
     Edge *edges;
     size_t n_edges, max_edges;
-    size_t n_forest;       /* so many of the first edges are a forest, in its order */
-    bool has_whole_costs;  /* then a key is the cost */
+    size_t n_forest;       /* the first n_forest edges are a forest, in ascending order */
+    bool has_whole_costs;  /* if so, a key is the cost */
 } Graph;
 
-/* The components that lighter edges left, and a batch of edges between them. */
-typedef struct Batch {
-    uint32 *parent; /* of each vertex: another one of its component, or itself if it stands for the component */
-    uint32 *number; /* of each component within the batch, if names[number] is the component */
-    uint32 *names, n_names, *labels;
-    struct boruvka_link *links; /* between numbers, which begin at 1; their weights are positions */
-} Batch;
-
-/* Whether i < count, at the head of a loop. It can be canceled there. */
+/* Return whether i < count, for the head of a loop. A query that was canceled ends here. */
 static inline bool more(size_t i, size_t count) {
     if (i % 65536 == 0) CHECK_FOR_INTERRUPTS();
     return i < count;
@@ -57,16 +51,14 @@ static inline bool more(size_t i, size_t count) {
 /* graph.c */
 extern void *allocate(size_t count, size_t size);
 extern Graph *graph_create(MemoryContext context);
-extern bool graph_has_vertex(const Graph *graph, int64 vertex, uint32 *index);
+extern uint32 graph_find_vertex(const Graph *graph, int64 vertex);
 extern uint32 graph_add_vertex(Graph *graph, int64 vertex, int64 edge);
 extern void graph_add_edge(Graph *graph, int64 id, int64 source, int64 target, int64 key);
 extern void sort_edges(Edge *edges, size_t count, const int64 *ids);
 extern void graph_keep_forest(Graph *graph);
-extern Batch *batch_create(const Graph *graph);
-extern uint32 batch_begin(Batch *batch, const Edge *edges, size_t left);
-extern uint32 batch_find(Batch *batch, uint32 vertex);
-extern void batch_join(Batch *batch, uint32 count);
-extern int64 checked(int64 answer);
+extern uint32 *components_create(const Graph *graph);
+extern uint32 find_component(uint32 *parents, uint32 vertex);
+extern void join_components(uint32 *parents, const Edge *edge, const int64 *ids, uint32 *kept, uint32 *joined);
 
 /* cost.c */
 extern int64 key_of(Datum cost, Oid type, int64 id);

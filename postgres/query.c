@@ -1,7 +1,7 @@
 /* SPDX-License-Identifier: MIT OR Apache-2.0 */
 /* query.c: the forest of the edges that a query returns, in pgRouting's columns.
  *
- * The executor hands each row to receive_edge: no copy of the query's result is kept. */
+ * The executor calls receive_edge for each row. The query's result is not stored. */
 #include "graph.h"
 
 #include "catalog/pg_operator.h"
@@ -12,15 +12,15 @@
 #include "utils/memutils.h"
 #include "utils/tuplesort.h"
 
-/* The ids of most tables: a megabyte, and much faster than a sort. */
+/* The ids of most tables are below this limit. A bitmap of them has 1 MB, and is much faster than a sort. */
 #define SEEN_IDS (1 << 23)
 
 typedef struct EdgeReceiver {
     DestReceiver pub;
     Graph *graph;
-    uint8 *seen;         /* a bit for each id from 0 to SEEN_IDS - 1 */
-    Tuplesortstate *ids; /* all others */
-    MemoryContext row;   /* for what one row needs */
+    uint8 *seen;         /* one bit for each id from 0 to SEEN_IDS - 1 */
+    Tuplesortstate *ids; /* all other ids */
+    MemoryContext row;   /* reset after each row */
     int columns[N_COLUMNS];
     Oid types[N_COLUMNS];
 } EdgeReceiver;
@@ -48,7 +48,7 @@ static void start_edges(DestReceiver *self, int operation pg_attribute_unused(),
         if (column < 1)
             ereport(ERROR, errcode(column == NONE ? ERRCODE_UNDEFINED_COLUMN : ERRCODE_AMBIGUOUS_COLUMN),
                     errmsg("edges_sql returns %s column \"%s\"", column == NONE ? "no" : "more than one", column_names[i]),
-                    errhint("It has to return id, source, target and cost."));
+                    errhint("It has to return the columns id, source, target and cost, each once."));
         if (!is_whole(type) && (i != COST || (type != FLOAT4OID && type != FLOAT8OID && type != NUMERICOID)))
             ereport(ERROR, errcode(ERRCODE_DATATYPE_MISMATCH),
                     errmsg("the column \"%s\" has the type %s", column_names[i], format_type_be(type)),
@@ -58,12 +58,12 @@ static void start_edges(DestReceiver *self, int operation pg_attribute_unused(),
     if (find_column(shape, "reverse_cost") != NONE)
         ereport(ERROR, errcode(ERRCODE_INVALID_PARAMETER_VALUE),
                 errmsg("edges_sql returns a column \"reverse_cost\", but the edges of a forest have no direction"),
-                errhint("Return the cost that counts alone, for example least(cost, reverse_cost) AS cost."));
+                errhint("Return one cost, for example least(cost, reverse_cost) AS cost."));
 }
 
 static void reject_id(int64 id) {
     ereport(ERROR, errcode(ERRCODE_UNIQUE_VIOLATION), errmsg("two edges have the id " INT64_FORMAT, id),
-            errhint("Give each edge an id of its own, for example by row_number(), or keep one by DISTINCT ON (id)."));
+            errhint("Give each edge its own id, for example by row_number(), or keep one edge per id by DISTINCT ON (id)."));
 }
 
 static void check_new(EdgeReceiver *receiver, int64 id) {
@@ -89,8 +89,8 @@ static bool receive_edge(TupleTableSlot *slot, DestReceiver *self) {
     }
     if (values[COST] < 0)
         ereport(ERROR, errcode(ERRCODE_INVALID_PARAMETER_VALUE), errmsg("edge " INT64_FORMAT " has a negative cost", values[ID]),
-                errhint("To pgRouting that is no edge: leave it out by WHERE cost >= 0. "
-                        "The aggregate boruvka_forest orders negative costs."));
+                errhint("pgRouting ignores such edges. To do the same, add WHERE cost >= 0. "
+                        "The aggregate boruvka_forest accepts negative costs."));
     graph_add_edge(receiver->graph, values[ID], values[SOURCE], values[TARGET], values[COST]);
     check_new(receiver, values[ID]);
     MemoryContextSwitchTo(caller);
@@ -110,7 +110,7 @@ static void check_others(Tuplesortstate *ids) {
     tuplesort_end(ids);
 }
 
-/* The forest of the query that is the first argument of a function. */
+/* The forest of the edges that the first argument of a function, a query, returns. */
 Graph *forest_of_query(FunctionCallInfo fcinfo) {
     EdgeReceiver receiver = {.pub = {receive_edge, start_edges, end_edges, end_edges, DestNone}};
     SPIExecuteOptions options = {.read_only = true, .dest = &receiver.pub};
@@ -122,8 +122,8 @@ Graph *forest_of_query(FunctionCallInfo fcinfo) {
     SPI_connect();
     plan = SPI_prepare_cursor(query, 0, NULL, CURSOR_OPT_PARALLEL_OK);
     if (plan == NULL || !SPI_is_cursor_plan(plan))
-        ereport(ERROR, errcode(ERRCODE_INVALID_PARAMETER_VALUE), errmsg("edges_sql isn't one query that returns rows"),
-                errhint("Pass a query that returns id, source, target and cost."));
+        ereport(ERROR, errcode(ERRCODE_INVALID_PARAMETER_VALUE), errmsg("edges_sql is not a single query that returns rows"),
+                errhint("Pass a query that returns the columns id, source, target and cost."));
     receiver.seen = palloc0(SEEN_IDS / 8);
     receiver.row = AllocSetContextCreate(CurrentMemoryContext, "boruvka row", ALLOCSET_SMALL_SIZES);
     receiver.ids = tuplesort_begin_datum(INT8OID, Int8LessOperator, InvalidOid, false, work_mem, NULL, TUPLESORT_NONE);
@@ -134,7 +134,7 @@ Graph *forest_of_query(FunctionCallInfo fcinfo) {
     return receiver.graph;
 }
 
-/* Put a row without NULLs into the result of a function. */
+/* Add a row without NULLs to the result of a function. */
 void put_row(FunctionCallInfo fcinfo, Datum *row) {
     static bool is_null[8];
     ReturnSetInfo *result = (ReturnSetInfo *) fcinfo->resultinfo;

@@ -1,4 +1,4 @@
--- A small network: the forest is 7, 5, 4, 6, 2, of the cost 13.
+-- A small network, whose forest is 7, 5, 4, 6, 2 and costs 13.
 CREATE TABLE network (id bigint, source bigint, target bigint, cost float8);
 INSERT INTO network VALUES (1, 1, 2, 17), (2, 1, 3, 10), (3, 2, 4, 2), (4, 3, 5, 0), (5, 4, 3, 0), (6, 4, 6, 3), (7, 5, 2, 0), (8, 5, 6, 20);
 SELECT boruvka_forest(id, source, target, cost) FROM network;
@@ -12,36 +12,36 @@ SELECT boruvka_forest(1, 2, 2, 4.5::float8);
 SELECT boruvka_forest(id, source, target, cost::float8)
 FROM (VALUES (1, 1, 2, 5), (2, 2, 1, 4), (3, 1, 2, 4), (4, 1, 1, 0), (5, 2, 2, -9)) AS edges (id, source, target, cost);
 
--- Groups, some of them small or left empty by FILTER.
+-- Groups, of which some are small or are empty after FILTER.
 SELECT region, boruvka_forest(id, source, target, cost), boruvka_forest(id, source, target, cost) FILTER (WHERE cost > 2)
 FROM (VALUES ('a', 1, 1, 2, 3.0::float8), ('a', 2, 2, 3, 1), ('a', 3, 3, 1, 2), ('b', 4, 1, 2, 1), ('c', 5, 7, 7, 4)) AS edges (region, id, source, target, cost)
 GROUP BY region ORDER BY region;
 
--- Over a window, the forest of a network that grows.
+-- A window: the forest of a network that grows.
 SELECT id, boruvka_forest(id, source, target, cost) OVER (ORDER BY id) FROM network ORDER BY id;
 
--- Ties go by the lower endpoint, the higher endpoint, then the id: here all costs are equal, and the edges close cycles.
+-- All costs are equal, and the edges close cycles. Ties are broken by the lower endpoint, then the higher one, then the id.
 SELECT boruvka_forest(id, source, target, 1::float8)
 FROM (VALUES (1, 3, 4), (2, 4, 1), (3, 2, 1), (4, 3, 2), (5, 1, 2), (6, 3, 1)) AS edges (id, source, target);
 SELECT boruvka_forest(id, source, target, 1::float8)
 FROM (VALUES (10, 4, 3), (9, 3, -1), (8, -1, 4), (7, -2, -1)) AS edges (id, source, target);
 
--- Ids at both ends of bigint.
+-- The least and the greatest bigint as ids.
 SELECT boruvka_forest(id, source, target, cost::float8)
 FROM (VALUES (9223372036854775807, -9223372036854775808, 9223372036854775807, 1),
              (-9223372036854775808, 9223372036854775807, 0, 2),
              (0, 0, -9223372036854775808, 3)) AS edges (id, source, target, cost);
 
--- Costs in their order; -0 and 0 are equal, so that edge 9, between lower vertices, comes before edge 8.
+-- Costs of each kind in their order. -0 and 0 are equal, so edge 9 comes before edge 8, because its endpoints are lower.
 SELECT boruvka_forest(id, id, id - 1, cost) FROM (VALUES (1, '-Infinity'::float8), (2, -1.5), (3, -5e-324), (5, 5e-324), (6, 1e-310), (7, 'Infinity'), (4, 0)) AS edges (id, cost);
 SELECT boruvka_forest(id, source, target, cost) FROM (VALUES (8, 3, 4, '-0'::float8), (9, 1, 2, 0)) AS edges (id, source, target, cost);
 
--- Whole costs are exact past 2^53, where neighbours share a float8.
+-- Whole costs are exact above 2^53, where float8 would round them.
 SELECT boruvka_forest(id, 1, 2, cost) FROM (VALUES (1, 9007199254740993), (2, 9007199254740992), (3, 9007199254740994)) AS edges (id, cost);
 SELECT boruvka_forest(id, 1, 2, cost) FROM (VALUES (1, 9223372036854775807), (2, 9223372036854775806)) AS edges (id, cost);
 SELECT boruvka_forest(id, 1, 2, cost) FROM (VALUES (1, -9223372036854775807), (2, -9223372036854775808)) AS edges (id, cost);
 
--- Types that have a cast, and numeric costs.
+-- Types with an implicit cast, and numeric costs.
 SELECT boruvka_forest(id, source, target, cost)
 FROM (VALUES (1::smallint, 1::int, 2::bigint, 2::smallint), (2, 2, 3, 1), (3, 3, 1, 0)) AS edges (id, source, target, cost);
 SELECT boruvka_forest(id, id, id + 1, cost::real) FROM generate_series(1, 3) id, LATERAL (SELECT 4 - id) AS it (cost);
@@ -49,6 +49,6 @@ SELECT boruvka_forest(id, 1, 2, cost)
 FROM (VALUES (1, 0.300000000000001), (2, 0.3), (3, 0.30), (4, 99999999999999.9)) AS edges (id, cost);
 SELECT boruvka_forest(id, id, id - 1, cost) FROM (VALUES (1, 'Infinity'::numeric), (2, '-Infinity'), (3, -0.1), (4, 1e20), (5, 0.0)) AS edges (id, cost);
 
--- An edge twice in a list is one edge.
+-- A row that is there twice counts once.
 SELECT boruvka_forest(id, source, target, cost) FROM (SELECT * FROM network UNION ALL SELECT * FROM network) AS twice;
 DROP TABLE network;

@@ -2,7 +2,7 @@
 CREATE TABLE good (id bigint, source bigint, target bigint, cost float8);
 INSERT INTO good VALUES (1, 1, 2, 1), (2, 2, 3, 2);
 
--- The aggregate: NULL, NaN, digits, ids.
+-- The aggregate: NULL, NaN, too many digits, duplicate ids.
 SELECT boruvka_forest(id, source, target, cost) FROM (TABLE good UNION ALL VALUES (NULL::bigint, 1, 3, 4::float8)) AS it;
 \echo :LAST_ERROR_SQLSTATE
 SELECT boruvka_forest(id, source, target, cost) FROM (TABLE good UNION ALL VALUES (7, NULL::bigint, 3, 4::float8)) AS it;
@@ -23,12 +23,12 @@ SELECT boruvka_forest(7, 1, 3, 1e-400);
 \echo :LAST_ERROR_SQLSTATE
 SELECT boruvka_forest(7, source, target, cost) FROM good;
 \echo :LAST_ERROR_SQLSTATE
--- An id that an edge outside of the forest repeats isn't seen: no id of the result is ambiguous for the aggregate.
+-- The aggregate does not report a duplicate id if one of the two edges is not in the forest.
 SELECT boruvka_forest(7, 1, 2, cost) FROM good;
 SELECT boruvka_forest(id, source, target, 'heavy'::text) FROM good;
 \echo :LAST_ERROR_SQLSTATE
 
--- The functions: the same in a query, and its columns.
+-- The functions: the same errors in a query, and errors in its columns.
 SELECT * FROM boruvka_kruskal('TABLE good UNION ALL VALUES (NULL::bigint, 1, 3, 4::float8)');
 \echo :LAST_ERROR_SQLSTATE
 SELECT * FROM boruvka_components('TABLE good UNION ALL VALUES (7, NULL::bigint, 3, 4::float8)');
@@ -69,7 +69,7 @@ SELECT * FROM boruvka_kruskal('SELECT id::float8, source, target, cost FROM good
 SELECT * FROM boruvka_kruskal('SELECT id, source, target, cost::money FROM good');
 \echo :LAST_ERROR_SQLSTATE
 
--- What isn't one query.
+-- Texts that are not a single query.
 SELECT * FROM boruvka_kruskal(NULL);
 \echo :LAST_ERROR_SQLSTATE
 SELECT * FROM boruvka_kruskal('');
@@ -112,7 +112,7 @@ SELECT * FROM boruvka_tree('TABLE good', 1, -1);
 SELECT * FROM boruvka_tree('TABLE good', 1, NULL);
 \echo :LAST_ERROR_SQLSTATE
 
--- After an error the session goes on, also within a block that catches it.
+-- The session goes on after an error, also in a block that catches it.
 DO $$ BEGIN PERFORM * FROM boruvka_kruskal('TABLE good UNION ALL VALUES (7, 1, 3, ''NaN''::float8)');
 EXCEPTION WHEN invalid_parameter_value THEN RAISE NOTICE 'caught: %', SQLERRM; END $$;
 SELECT * FROM boruvka_kruskal('TABLE good');

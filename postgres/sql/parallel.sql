@@ -1,4 +1,4 @@
--- 19,997 edges of a strip of 5,000 by 2 vertices whose costs tie often, in four partitions.
+-- 19,997 edges of a strip of 5,000 by 2 vertices, in four partitions. Many costs are equal.
 CREATE TABLE strip (id bigint, source bigint, target bigint, cost float8) PARTITION BY HASH (id);
 CREATE TABLE strip_0 PARTITION OF strip FOR VALUES WITH (MODULUS 4, REMAINDER 0);
 CREATE TABLE strip_1 PARTITION OF strip FOR VALUES WITH (MODULUS 4, REMAINDER 1);
@@ -27,7 +27,7 @@ SET parallel_leader_participation = off;
 INSERT INTO answers SELECT '3 workers, without the leader', boruvka_forest(id, source, target, cost) FROM strip;
 RESET parallel_leader_participation;
 
--- Partitions that are aggregated one by one, then together.
+-- Each partition is aggregated, then the results are combined.
 SET max_parallel_workers_per_gather = 0;
 SET enable_partitionwise_aggregate = on;
 EXPLAIN (COSTS OFF) SELECT boruvka_forest(id, source, target, cost) FROM strip;
@@ -37,10 +37,10 @@ INSERT INTO answers SELECT 'a function', array_agg(edge) FROM boruvka_kruskal('S
 SET max_parallel_workers_per_gather = 3;
 INSERT INTO answers SELECT 'a function, 3 workers', array_agg(edge) FROM boruvka_kruskal('SELECT * FROM strip');
 SELECT count(DISTINCT ids), count(*), min(cardinality(ids)), max(cardinality(ids)) FROM answers;
--- The cost of the forest is what another program found.
+-- Another program found the same cost.
 SELECT sum(cost) FROM strip JOIN (SELECT unnest(ids) AS id FROM (SELECT ids FROM answers LIMIT 1) AS it) AS forest USING (id);
 
--- Groups in several workers.
+-- Groups that are split among workers.
 SELECT id % 3 AS part, cardinality(boruvka_forest(id, source, target, cost)) FROM strip GROUP BY part ORDER BY part;
 SET max_parallel_workers_per_gather = 0;
 SELECT id % 3 AS part, cardinality(boruvka_forest(id, source, target, cost)) FROM strip GROUP BY part ORDER BY part;

@@ -1,4 +1,4 @@
--- From each version to the next one. Version 1.0 had the aggregate alone.
+-- Version 1.0 has only the aggregate. The update adds the functions.
 SELECT extversion FROM pg_extension WHERE extname = 'boruvka';
 CREATE VIEW here AS SELECT string_agg(proname || '(' || pg_get_function_identity_arguments(oid) || ')', E'\n' ORDER BY proname, oid::regprocedure::text) AS functions
 FROM pg_proc WHERE proname LIKE 'boruvka\_%' AND prokind IN ('a', 'f') AND NOT 'internal'::regtype = ANY (proargtypes);
@@ -12,7 +12,7 @@ ALTER EXTENSION boruvka UPDATE;
 TABLE here;
 SELECT functions = (SELECT functions FROM before) AS same FROM here;
 SELECT extversion FROM pg_extension WHERE extname = 'boruvka';
--- It can move to another schema, and its functions still work there.
+-- The functions work after the extension moved to another schema.
 CREATE SCHEMA elsewhere;
 ALTER EXTENSION boruvka SET SCHEMA elsewhere;
 SELECT elsewhere.boruvka_forest(1, 2, 3, 4::bigint);

@@ -1,10 +1,11 @@
 #!/usr/bin/env python3
-"""Times the extension beside pgRouting on three tables, each call in turn, and prints the least times and the peaks.
+"""Times the extension and pgRouting on three tables, in turn, and prints the least times and the highest peaks.
 
 usage: tests/bench.py [TURNS [TABLE..]]
 
-Each call has a session of its own, which has read a row of the table before. The peak is that of the session's process
-without shared pages; the workers of a parallel plan aren't in it. A time is the least of all turns, 3 if none are named.
+Each call has its own session, which has read a row of the table before. Processor time and peak memory are those of the
+session's process: the workers of a parallel plan are not included, and neither are shared pages. Without arguments, each call
+runs 3 times on each table.
 """
 import re
 import sys
@@ -28,14 +29,18 @@ CALLS = {
     "boruvka_forest": (0, "SELECT cardinality(boruvka_forest(id, source, target, cost)) FROM {}"),
     "boruvka_forest, 2 workers": (2, "SELECT cardinality(boruvka_forest(id, source, target, cost)) FROM {}"),
 }
-PEAK = "SELECT substring(it FROM 'VmHWM:\\s+(\\d+)')::int - substring(it FROM 'RssShmem:\\s+(\\d+)')::int FROM pg_read_file('/proc/self/status') it"
+# Milliseconds of processor time and kB of memory so far.
+USED = """SELECT (split_part(stat, ' ', 14)::int + split_part(stat, ' ', 15)::int) * 10,
+    substring(status FROM 'VmHWM:\\s+(\\d+)')::int - substring(status FROM 'RssShmem:\\s+(\\d+)')::int
+    FROM pg_read_file('/proc/self/stat') stat, pg_read_file('/proc/self/status') status"""
 
 
 def measured(server, table, workers, call):
-    """Milliseconds, megabytes, and what the call returned."""
-    script = f"SET max_parallel_workers_per_gather = {workers};\nSELECT 1 FROM {table} LIMIT 1;\n\\timing on\n{call.format(table)};\n\\timing off\n{PEAK};\n"
-    _, answer, time, peak = server.expect(script, seconds=3600).splitlines()
-    return float(re.match(r"Time: ([\d.]+) ms", time)[1]), int(peak) / 1024, answer
+    """Milliseconds of elapsed time, milliseconds of processor time, megabytes, and what the call returned."""
+    script = f"SET max_parallel_workers_per_gather = {workers};\nSELECT 1 FROM {table} LIMIT 1;\n{USED};\n\\timing on\n{call.format(table)};\n\\timing off\n{USED};\n"
+    _, before, answer, time, after = server.expect(script, seconds=3600).splitlines()
+    (began, _), (ended, peak) = (map(int, it.split("|")) for it in (before, after))
+    return float(re.match(r"Time: ([\d.]+) ms", time)[1]), ended - began, peak / 1024, answer
 
 
 def main(arguments):
@@ -48,10 +53,11 @@ def main(arguments):
             for _ in range(turns):
                 for name, (workers, call) in CALLS.items():
                     found[name].append(measured(server, table, workers, call))
-            least = {name: (min(it[0] for it in turns), max(it[1] for it in turns)) for name, turns in found.items()}
-            time, peak = least["pgr_kruskal"]
-            for name, (ms, mb) in least.items():
-                print(f"{table}: {name}: {ms:.0f} ms, {ms / time:.3f} of pgr_kruskal's; {mb:.0f} MB, {mb / peak:.3f} of its peak; {found[name][0][2]}", flush=True)
+            best = {name: (min(it[0] for it in turns), min(it[1] for it in turns), max(it[2] for it in turns)) for name, turns in found.items()}
+            for name, (elapsed, used, peak) in best.items():
+                parts = [mine / theirs for mine, theirs in zip((elapsed, used, peak), best["pgr_kruskal"], strict=True)]
+                print(f"{table}: {name}: {elapsed:.0f} ms, {parts[0]:.3f} of pgr_kruskal's; {used} ms of processor time, {parts[1]:.3f}; "
+                      f"{peak:.0f} MB, {parts[2]:.3f}; {found[name][0][3]}", flush=True)
 
 
 if __name__ == "__main__":

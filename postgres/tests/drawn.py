@@ -1,5 +1,5 @@
-"""Tables drawn at random, each with its forest, components, merges and trees by a reference that is written otherwise:
-Kruskal's algorithm over Python's sort, numbers and dictionaries."""
+"""Random tables, each with its forest, components, merges and trees. An independent reference computes these: Kruskal's
+algorithm with Python's sort, numbers and dictionaries."""
 import json
 import random
 from decimal import Decimal
@@ -9,13 +9,13 @@ LEAST, MOST = -(2**63), 2**63 - 1
 FLOATS = [0.0, -0.0, 5e-324, 1e-320, 2.2250738585072014e-308, 0.1, 0.1 + 2**-56, 0.5, 1.0, 1.5, 2.0, 3.0, 2.0**53, 1.7976931348623157e308, float("inf")]
 NUMERICS = ["0", "0.1", "0.10", "0.30000", "0.300001", "1", "1.00", "123456789012345", "0.000000000000001", "1e20", "99999.9999999999", "Infinity"]
 WHOLES = [0, 1, 2, 3, 2**53 - 1, 2**53, 2**53 + 1, 2**53 + 2, 2**62, MOST - 1, MOST]
-# Workers, the order of endpoints, and that of rows.
+# The number of workers, the order of endpoints, and the order of rows.
 SOME_SWAPPED = "CASE WHEN id % 2 = 0 THEN source ELSE target END, CASE WHEN id % 2 = 0 THEN target ELSE source END"
 PLANS = [(0, "source, target", ""), (1, "target, source", ""), (3, SOME_SWAPPED, ""), (0, SOME_SWAPPED, "ORDER BY hashint8(id)"), (3, "target, source", "ORDER BY hashint8(id)")]
 
 
 def drawn_table(seed):
-    """Rows (id, source, target, float, whole, numeric, exact): the last one is a whole cost that a double holds."""
+    """Rows (id, source, target, float, whole, numeric, exact), where `exact` is a whole cost that a double can hold."""
     draw = random.Random(seed)
     n, m = draw.choice([(1, 3), (2, 9), (6, 12), (20, 30), (40, 160), (60, 60)])
     vertices = draw.sample([LEAST, LEAST + 1, -1, 0, 1, MOST - 1, MOST, *range(100, 200)], n)
@@ -27,7 +27,7 @@ def drawn_table(seed):
 
 
 class Reference:
-    """What one table of edges (id, source, target, cost) gives."""
+    """The results for one table of edges (id, source, target, cost)."""
 
     def __init__(self, edges):
         self.cluster = {v: v for _, source, target, _ in edges for v in (source, target)}
@@ -44,7 +44,7 @@ class Reference:
             self.cuts.append(self.cluster)
 
     def members(self, edges):
-        """The rows (seq, name, vertex) after the first edges of the forest."""
+        """The rows (seq, name, vertex) after this many edges of the forest."""
         return [(i, *it) for i, it in enumerate(sorted((name, v) for v, name in self.cuts[edges].items()), 1)]
 
     def tree(self, root, depth=MOST):
@@ -59,7 +59,7 @@ class Reference:
 
 
 def rows_of(output):
-    """The rows that psql printed, by the number of their table."""
+    """The rows that psql printed, grouped by the number of their table."""
     found = {}
     for line in output.splitlines():
         table, *fields = line.split("|")
@@ -86,7 +86,7 @@ def fill(server, tables):
 
 
 def expect_aggregates(server, tables):
-    """One set of ids for each order of rows and endpoints, each plan, and each type of costs."""
+    """The ids are the same for each order of rows and endpoints, each plan, and each type of costs."""
     casts = {"f": (3, float), "w": (4, int), "n": (5, Decimal), "-f": (3, lambda it: -float(it)), "-w": (4, lambda it: -it)}
     settings = "SET parallel_setup_cost = 0; SET parallel_tuple_cost = 0; SET min_parallel_table_scan_size = 0; SET max_parallel_workers_per_gather = {};"
     for column, (place, value) in casts.items():

@@ -1,11 +1,11 @@
 #!/usr/bin/env python3
-"""What `make installcheck` runs, on a server of its own: pg_regress over sql/, tables drawn at random, and trouble.
+"""The tests of `make installcheck`, on a temporary server: pg_regress over sql/, random tables, and trouble.
 
 usage: tests/installcheck.py
 
-
-The drawn tables and the limits are tried twice: with the extension as it was built, and with one whose batches of edges are
-small. In the environment NAMES may choose among the steps, by words of their names. The last line is `N passed, M failed`, and the status is 0 only if none failed.
+Random tables are tested with the extension as it was built, and with a build whose batches of edges are small. If the
+environment variable NAMES is set, only the steps that it names run. The last line is `N passed, M failed`, and the exit status
+is 0 only if no step failed.
 """
 import os
 import re
@@ -26,7 +26,7 @@ REGRESS = ["aggregate", "parallel", "functions", "errors", "upgrade"]
 
 
 def built(folder, **variables):
-    """A copy of the extension that is built in a folder with other variables of make."""
+    """Builds a copy of the extension in a folder, with other variables of make."""
     shutil.copytree(HERE, folder, ignore=shutil.ignore_patterns("*.o", "*.so", "tests"))
     base = os.path.dirname(HERE)
     found = {"LIBBORUVKA": os.environ.get("LIBBORUVKA", f"{base}/crates/boruvka_c/out/libboruvka.a"), "HEADERS": os.environ.get("HEADERS", f"{base}/include"),
@@ -59,7 +59,7 @@ def with_small_batches(server, room):
 
 
 def readme(server, room):
-    """Its queries run one after the other, and the first ones return what it shows."""
+    """Runs the queries of README.md in order, and compares the results that it shows."""
     with open(f"{HERE}/README.md", encoding="utf-8") as it:
         blocks = re.findall(r"^```(sql|text)\n(.*?)^```$", it.read(), re.M | re.S)
     server.expect("CREATE DATABASE page")

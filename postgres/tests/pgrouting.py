@@ -1,18 +1,19 @@
-"""The graph of pgRouting's manual, with what its manual says of it; and, if pgRouting is there, its answers for drawn tables.
+"""The graph of pgRouting's manual with the results that the manual shows, and pgRouting's results for random tables, if it is
+installed.
 
-The forest's cost and its number of edges, the components, and the vertices and depths of trees without ties don't depend on
-which of several equal edges is taken: there the two have to agree."""
+Both have to agree on whatever does not depend on the choice among equal edges: the number and cost of the forest's edges, the
+components, and trees without equal costs."""
 
 SAMPLE = """CREATE TABLE sample (id int, source int, target int, cost float8, reverse_cost float8);
 INSERT INTO sample VALUES (1, 5, 6, 1, 1), (2, 6, 10, -1, 1), (3, 10, 15, -1, 1), (4, 6, 7, 1, 1), (5, 10, 11, 1, -1), (6, 1, 3, 1, 1),
 (7, 3, 7, 1, 1), (8, 7, 11, 1, 1), (9, 11, 16, 1, 1), (10, 7, 8, 1, 1), (11, 11, 12, 1, -1), (12, 8, 12, 1, -1), (13, 12, 17, 1, -1),
 (14, 8, 9, 1, 1), (15, 16, 17, 1, 1), (16, 15, 16, 1, 1), (17, 2, 4, 1, 1), (18, 13, 14, 1, 1);"""
-# The edges that have a cost in either direction, as pgRouting reads them.
+# The edges that have a cost in at least one direction, as pgRouting reads them.
 EDGES = "SELECT id, source, target, CASE WHEN cost < 0 THEN reverse_cost WHEN reverse_cost < 0 THEN cost ELSE least(cost, reverse_cost) END AS cost FROM sample"
 
 
 def expect_sample(server):
-    """The manual's graph: 17 vertices in the components 1 (13 of them), 2 and 13; all costs are 1, so any forest costs 14."""
+    """The manual's graph has 17 vertices in the components 1, 2 and 13. All costs are 1, so any forest costs 14."""
     server.expect(SAMPLE)
     found = server.expect(f"SELECT count(*), sum(cost) FROM boruvka_kruskal('{EDGES}')").strip()
     components = server.expect(f"SELECT component, string_agg(node::text, ' ' ORDER BY node) FROM boruvka_components('{EDGES}') GROUP BY 1 ORDER BY 1").splitlines()

@@ -1,5 +1,5 @@
-"""A PostgreSQL server for tests: on a Unix socket in a temporary folder, by an unprivileged user, with the extension as it
-was built. Nothing is installed: the server's programs are copied into the folder, where they find the extension, too."""
+"""A PostgreSQL server for tests, which has the extension as it was built. It runs as an unprivileged user, on a Unix socket in a
+temporary folder. The tests install nothing: they copy the server's programs into the folder, where these find the extension."""
 import os
 import pwd
 import shutil
@@ -9,20 +9,20 @@ import sys
 import tempfile
 import time
 
-# (so that a server is stopped, too, whoever ends the tests)
+# SIGTERM ends the tests by an exception, so that they stop their servers.
 signal.signal(signal.SIGTERM, lambda *_: sys.exit(1))
 HERE = os.path.dirname(os.path.dirname(os.path.realpath(__file__)))
 SETTINGS = ["listen_addresses=", "fsync=off", "jit=off", "max_connections=40", "logging_collector=off"]
 
 
 def configured(name):
-    """One of the folders of the PostgreSQL that the extension was built for."""
+    """A folder of the PostgreSQL that the extension was built for."""
     words = [os.environ.get("PG_CONFIG", "pg_config"), f"--{name}"]
     return subprocess.run(words, check=True, capture_output=True, text=True).stdout.strip()
 
 
 def mirror(folder, into):
-    """Another folder with the same files, as symbolic links."""
+    """Creates a folder of symbolic links to the files of another folder."""
     os.makedirs(into)
     for name in os.listdir(folder):
         os.symlink(f"{folder}/{name}", f"{into}/{name}")
@@ -30,7 +30,7 @@ def mirror(folder, into):
 
 class Server:
     def __init__(self, library=f"{HERE}/boruvka.so", wrapper=(), settings=(), limits=None):
-        """The server runs as an argument of `wrapper`, if there is one, and with these limits of `ulimit`."""
+        """`wrapper` is a command that runs the server, and `limits` are arguments of `ulimit`."""
         self.library, self.wrapper, self.settings, self.limits = library, wrapper, settings, limits
         self.user, self.owner = None, {}
         if os.geteuid() == 0:
@@ -108,7 +108,7 @@ class Server:
             time.sleep(0.05)
 
     def use(self, library):
-        """Sessions that begin from now on load this build of the extension."""
+        """Makes later sessions load this build of the extension."""
         shutil.copy(library, f"{self.folder}/new.so")
         os.replace(f"{self.folder}/new.so", f"{self.folder}{configured('pkglibdir')}/boruvka.so")
 
@@ -117,21 +117,21 @@ class Server:
             return it.read()
 
     def words(self, database="trial"):
-        """The beginning of a command of psql."""
+        """The command psql with its first arguments."""
         return [f"{self.bin}/psql", "-X", "-q", "-A", "-t", "-v", "ON_ERROR_STOP=1", "-h", f"{self.folder}/socket", "-U", "tester", "-d", database]
 
     def start(self, script, database="trial"):
-        """A process that runs a script."""
+        """Starts a process that runs a script."""
         started = subprocess.Popen([*self.words(database), "-c", script], stdin=subprocess.DEVNULL, stdout=subprocess.PIPE, stderr=subprocess.PIPE, text=True)
         return started
 
     def psql(self, script, database="trial", seconds=600):
-        """Status, standard output and standard error of a script."""
+        """Runs a script, and returns its exit status, standard output and standard error."""
         ended = subprocess.run(self.words(database), input=script, capture_output=True, text=True, timeout=seconds, check=False)
         return ended.returncode, ended.stdout, ended.stderr
 
     def expect(self, script, database="trial", seconds=600):
-        """What a script writes; it has to succeed."""
+        """Runs a script, which has to succeed, and returns its standard output."""
         status, output, errors = self.psql(script, database, seconds)
         if status:
             raise AssertionError(f"{script:.300}: {errors}")

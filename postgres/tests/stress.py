@@ -1,11 +1,10 @@
 #!/usr/bin/env python3
-"""What takes too long for `make installcheck`: each function over ten million edges, where timeouts have to end it in time;
-a server whose processes may use little memory; each function under valgrind, and with gcc's checks of undefined
-behaviour; and clang-tidy.
+"""Tests that take too long for `make installcheck`: clang-tidy, a server with little memory, each function under valgrind and
+with gcc's checks of undefined behaviour, and timeouts of each function over ten million edges.
 
-usage: tests/stress.py [NAME..]
+usage: tests/stress.py [WORD..]
 
-Names choose among the steps, which are those of STEPS. The last line is `N passed, M failed`.
+Without arguments all steps run, otherwise those whose names contain one of these words. The last line is `N passed, M failed`.
 """
 import os
 import re
@@ -26,22 +25,20 @@ FRACTIONS = [0.2, 0.35, 0.5, 0.65, 0.8, 0.9]  # of the time that a call takes wi
 SHAPES = {
     "sparse": "SELECT i AS id, (i * 7919) % 5000011 AS source, (i * 104729 + i / 3) % 5000011 AS target, ((i * 2654435761) % 1000003)::float8 AS cost FROM generate_series(1::bigint, {}) i",
     "dense": "SELECT i AS id, (i * 7919) % 30011 AS source, (i * 104729 + i / 3) % 30011 AS target, ((i * 2654435761) % 1000003)::float8 AS cost FROM generate_series(1::bigint, {}) i",
-    "a line": "SELECT i AS id, i AS source, i + 1 AS target, 1::float8 AS cost FROM generate_series(1::bigint, {}) i",
+    "line": "SELECT i AS id, i AS source, i + 1 AS target, 1::float8 AS cost FROM generate_series(1::bigint, {}) i",
 }
 
 
-def timeouts_of_ten_million_edges(room):
-    """A cancel is a timeout that another session asks for: the process notices both at the same places."""
+def timeouts(shape, name):
+    """Each timeout ends a call in time. A process notices a cancel and a timeout at the same points of its code."""
     with Server(settings=["shared_buffers=256MB", "max_wal_size=8GB"]) as server:
-        for name, query in SHAPES.items():
-            server.expect(f"CREATE UNLOGGED TABLE strip_{TEN_MILLION} AS {query.format(TEN_MILLION)}", seconds=3600)
-            worst = trouble.expect_timeouts(server, TEN_MILLION, FRACTIONS, trouble.LATE + 0.1)
-            print(f"stress: {name}: the latest end in seconds after the timeout: {worst}", flush=True)
-            server.expect(f"DROP TABLE strip_{TEN_MILLION}")
+        server.expect(f"CREATE UNLOGGED TABLE strip AS {SHAPES[shape].format(TEN_MILLION)}", seconds=3600)
+        late, whole, ends = trouble.expect_timeouts(server, "strip", [name], FRACTIONS, trouble.LATE)[name]
+        print(f"stress: the latest of {ends} ends was {late} s after the timeout; the whole call takes {whole} s", flush=True)
 
 
 def little_address_space(room):
-    """Queries fail for want of memory, each with an error, and the server goes on."""
+    """Queries that run out of memory fail with an error, and the server goes on."""
     with Server(limits="-v 600000") as server:
         server.expect(f"CREATE UNLOGGED TABLE strip_3000000 AS {SHAPES['sparse'].format(3_000_000)}")
         found = {}
@@ -51,7 +48,7 @@ def little_address_space(room):
                 raise AssertionError(f"{name}: {errors}")
             found[name] = "out of memory" if status else "ended"
         if "out of memory" not in found.values():
-            raise AssertionError(f"no call was short of memory: {found}")
+            raise AssertionError(f"no call ran out of memory: {found}")
         server.expect("SELECT 1")
 
 
@@ -77,30 +74,40 @@ def under_valgrind(room):
 
 
 def under_a_sanitizer(room):
-    """An overflow, a shift or an alignment that C leaves undefined ends the server's process."""
+    """Undefined behaviour in the extension's C ends the server's process."""
     with Server(library=built(f"{room}/sanitized", COPT="-g -DBATCH_EDGES=50 -fsanitize=undefined -fno-sanitize-recover=all")) as server:
         every_function(server)
         if "runtime error" in server.logged():
             raise AssertionError(server.logged()[-3000:])
 
 
+# (the server requires the name _PG_init, and the ids of an edge are all numbers)
+CHECKS = "-*,clang-*,bugprone-*,cert-*,concurrency-*,misc-*,performance-*,portability-*," \
+    "-bugprone-reserved-identifier,-cert-dcl37-c,-cert-dcl51-cpp,-bugprone-easily-swappable-parameters"
+
+
 def clang_tidy(_room):
     base = os.environ.get("HEADERS", f"{os.path.dirname(HERE)}/include")
-    words = ["clang-tidy", "--quiet", "--warnings-as-errors=*", *(it for it in os.listdir(HERE) if it.endswith(".c"))]
-    words += ["--", "-std=gnu11", "-isystem", configured("includedir-server"), f"-I{base}"]
+    words = ["clang-tidy", "--quiet", "--warnings-as-errors=*", f"--checks={CHECKS}", *(it for it in os.listdir(HERE) if it.endswith(".c"))]
+    words += ["--", "-std=gnu11", "-Wall", "-Wextra", "-isystem", configured("includedir-server"), f"-I{base}"]
     ended = subprocess.run(words, cwd=HERE, capture_output=True, text=True, check=False)
     if ended.returncode:
         raise AssertionError(ended.stdout[-3000:])
 
 
-STEPS = [clang_tidy, timeouts_of_ten_million_edges, little_address_space, under_valgrind, under_a_sanitizer]
+STEPS = {
+    "clang-tidy": clang_tidy,
+    "little address space": little_address_space,
+    "valgrind": under_valgrind,
+    "sanitizer": under_a_sanitizer,
+    **{f"timeouts, {shape}, {name}": lambda room, it=(shape, name): timeouts(*it) for shape in SHAPES for name in trouble.FUNCTIONS},
+}
 
 
-def main(names):
+def main(words):
     passed = failed = 0
-    for step in STEPS:
-        name = step.__name__.replace("_", " ")
-        if names and name not in names:
+    for name, step in STEPS.items():
+        if words and not any(it in name for it in words):
             continue
         begun = time.monotonic()
         try:
@@ -112,7 +119,7 @@ def main(names):
             failed += 1
             print(f"stress: {name}: FAILED: {error}", flush=True)
     print(f"{passed} passed, {failed} failed")
-    return 1 if failed else 0
+    return 1 if failed or not passed else 0
 
 
 if __name__ == "__main__":

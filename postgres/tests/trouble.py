@@ -1,4 +1,4 @@
-"""What a server does to a query while it runs: cancel, timeouts, little memory, a killed process, many clients."""
+"""Queries that are canceled, time out, lack memory or are killed, and queries of many clients."""
 import os
 import re
 import signal
@@ -6,7 +6,7 @@ import subprocess
 import time
 
 EDGES = 100_000
-LATE = 0.2  # seconds after which a cancel has to take effect
+LATE = 0.2  # seconds within which a cancel has to take effect
 STRIP = "SELECT i AS id, i AS source, i + 1 + (i % 3) AS target, (i * 7919) % 1000003 AS cost FROM generate_series(1::bigint, {}) i"
 
 
@@ -14,13 +14,16 @@ def expect_too_many_vertices(server, most):
     query = f"SELECT i AS id, i AS source, i + 1 AS target, 1 AS cost FROM generate_series(1, {most}) i"
     for call in (f"boruvka_forest(id, source, target, cost) FROM ({query}) it", f"* FROM boruvka_kruskal('{query}')"):
         status, _, errors = server.psql(f"\\set VERBOSITY verbose\nSELECT {call}")
-        if not status or f"54000: edge {most} brings more than {most} vertices" not in errors or "HINT:" not in errors:
+        if not status or f"54000: edge {most} exceeds the limit of {most} vertices" not in errors or "HINT:" not in errors:
             raise AssertionError(f"{call:.60}: {status} {errors}")
         server.expect(f"SELECT {call.replace(str(most), str(most - 1))}")
 
 
+FUNCTIONS = ["aggregate", "kruskal", "components", "linkage", "clusters", "tree"]
+
+
 def calls(table):
-    """Each function over a table."""
+    """Each of FUNCTIONS over a table."""
     query = f"SELECT id, source, target, cost FROM {table}"
     yield "aggregate", f"SELECT cardinality(boruvka_forest(id, source, target, cost)) FROM {table}"
     yield "kruskal", f"SELECT count(*) FROM boruvka_kruskal('{query}')"
@@ -36,32 +39,34 @@ def filled(server, edges):
 
 
 def lateness(server, call, seconds):
-    """How much later than a timeout a call ended, or None if it ended before."""
-    begun = time.monotonic()
-    status, _, errors = server.psql(f"SET statement_timeout = {int(seconds * 1000)}; {call}")
-    took = time.monotonic() - begun
+    """How many seconds after a timeout a call ended, by psql's clock, or None if it ended before."""
+    status, output, errors = server.psql(f"SET statement_timeout = {int(seconds * 1000)};\n\\timing on\n{call};", seconds=3600)
     if status and "canceling statement due to statement timeout" not in errors:
         raise AssertionError(f"{call}: {errors}")
-    return took - seconds if status else None
+    return seconds_of(output) - seconds if status else None
 
 
-def expect_timeouts(server, edges, fractions, late):
-    """The latest of all timeouts. A psql takes about 0.05 s of that."""
-    table = filled(server, edges)
-    worst = {}
+def seconds_of(output):
+    """The last time that psql printed."""
+    return float(re.findall(r"^Time: ([\d.]+) ms", output, re.M)[-1]) / 1000
+
+
+def expect_timeouts(server, table, names, fractions, late):
+    """For each of these functions: how many seconds after a timeout it ended at the latest, how long it takes without a timeout,
+    and how many timeouts it had."""
+    found = {}
     for name, call in calls(table):
-        begun = time.monotonic()
-        server.expect(call)
-        whole = time.monotonic() - begun
-        found = [it for it in (lateness(server, call, whole * part) for part in fractions) if it is not None]
-        worst.update({name: max(found)} if found else {})
-    if not worst or max(worst.values()) > late:
-        raise AssertionError(f"ended so late after a timeout: {worst}")
-    return worst
+        if name in names:
+            whole = seconds_of(server.expect(f"\\timing on\n{call};", seconds=3600))
+            ends = [it for it in (lateness(server, call, whole * part) for part in fractions) if it is not None]
+            found[name] = (round(max(ends, default=0), 3), round(whole, 1), len(ends))
+    if not any(ends for _, _, ends in found.values()) or max(found.values())[0] > late:
+        raise AssertionError(f"(latest end after a timeout, time without a timeout, timeouts): {found}")
+    return found
 
 
 def timeouts(server):
-    expect_timeouts(server, EDGES, [0.2, 0.4], LATE + 0.3)  # (other work on the machine may take some of that)
+    expect_timeouts(server, filled(server, EDGES), FUNCTIONS, [0.2, 0.4], LATE + 0.3)  # (the machine may be busy)
 
 
 def a_cancel(server):
@@ -83,7 +88,7 @@ def little_work_mem(server):
 
 
 def memory_after_errors(server):
-    """Errors that are caught leave the memory of a session as it was."""
+    """A session uses no more memory after many errors than before them."""
     table = filled(server, EDGES)
     query = f"SELECT id, source, target, CASE WHEN id = 60000 THEN ''NaN'' ELSE cost::float8 END AS cost FROM {table} WHERE id <= 60000"
     server_side = f"""DO $$ BEGIN FOR i IN 1..ROUNDS LOOP
@@ -101,7 +106,7 @@ def memory_after_errors(server):
 
 
 def a_killed_process(server):
-    """The server restarts itself after one of its processes was killed in the middle, and answers as before."""
+    """The server restarts after one of its processes was killed, and returns the same result as before."""
     table = filled(server, EDGES)
     call = dict(calls(table))["linkage"]
     wanted = server.expect(call)
@@ -109,14 +114,14 @@ def a_killed_process(server):
     time.sleep(0.3)
     pid = int(server.expect("SELECT pid FROM pg_stat_activity WHERE query LIKE '/* to kill%'"))
     if f"{server.folder}/" not in os.readlink(f"/proc/{pid}/exe"):
-        raise AssertionError(f"{pid} is another's process")
+        raise AssertionError(f"the process {pid} is not one of this server")
     os.kill(pid, signal.SIGKILL)
     _, errors = started.communicate(timeout=60)
     if "server closed the connection" not in errors:
         raise AssertionError(errors)
     server.wait()
     if server.expect(call) != wanted:
-        raise AssertionError("another answer")
+        raise AssertionError("the result is different")
 
 
 def many_clients(server):
@@ -129,7 +134,7 @@ def many_clients(server):
 
 
 def no_memory(server):
-    """A process that may have no more memory ends its query with an error that says so, and goes on."""
+    """A query of a process without free memory fails with an error that says so, and the session goes on."""
     table = filled(server, EDGES)
     pid_and_limit = "SELECT pg_backend_pid(), substring(pg_read_file('/proc/self/status') FROM 'VmSize:\\s+(\\d+)')"
     for name, call in calls(table):
@@ -139,7 +144,7 @@ def no_memory(server):
 
 
 def limited(server, script):
-    """Runs a script in a session whose process may have 8 MB more than it has at its first line."""
+    """Runs a script in a session. After its first line, the process may allocate only 8 MB more."""
     words = [it for it in server.words() if it not in ("-v", "ON_ERROR_STOP=1")]
     with subprocess.Popen(words, stdin=subprocess.PIPE, stdout=subprocess.PIPE, stderr=subprocess.PIPE, text=True) as started:
         first, _, rest = script.partition("\n")

@@ -1,5 +1,5 @@
-"""The extension for PostgreSQL: it is built out of the library by the server's own rules, without a warning, and its tests
-pass on a server that they start. Without the server's headers the cases are skipped."""
+"""The extension for PostgreSQL compiles with PGXS without a warning, and its tests pass on a server that they start. The cases
+are skipped if the server's headers aren't installed."""
 import gzip
 import json
 import os
@@ -16,7 +16,7 @@ PLACES = {"LIBBORUVKA": f"{LIBRARIES}/libboruvka.a", "HEADERS": f"{ROOT}/include
 
 
 def configured(name):
-    """A folder of the PostgreSQL that is installed with all that the extension needs."""
+    """A folder of the installed PostgreSQL, which has everything that the extension needs."""
     if not shutil.which("pg_config"):
         raise Skipped("there is no pg_config")
     words = ["pg_config", "--pgxs", "--bindir", f"--{name}"]
@@ -27,7 +27,7 @@ def configured(name):
 
 
 def copied(room):
-    """The extension in a folder of its own, built once, so that nothing is built in the repository."""
+    """A copy of the extension, built once, so that nothing is built in the repository."""
     configured("bindir")
     libraries()
     folder = f"{room}/../postgres"
@@ -44,7 +44,7 @@ def sources():
 
 
 def tested(room, *names):
-    """What the tests of these names print last; a step that is skipped skips the case."""
+    """Runs the tests of these names, which have to pass. A skipped test skips the case."""
     status, output, errors = run(["make", "-s", "-C", copied(room), "installcheck", f"NAMES={' '.join(names)}"], env={**PLAIN, **PLACES}, seconds=600)
     text = output.decode()
     if status or not re.search(r"^\d+ passed, 0 failed\n\Z", text, re.M):
@@ -76,7 +76,7 @@ def the_functions_of_the_extension_are_short(_room):
 
 @case
 def the_sentences_of_the_extensions_page_are_short(_room):
-    from cases.documents import MOST_IN_A_SENTENCE, thoughts  # (whose cases run later)
+    from cases.documents import MOST_IN_A_SENTENCE, thoughts  # (here, as importing them earlier would run those cases first)
     sentences = [it for part in thoughts("postgres/README.md") for it in re.split(r"(?<=[.?!:])\s", part)]
     is_so([it for it in sentences if len(it.split()) > MOST_IN_A_SENTENCE], [])
     is_so(len(sentences) > 50, True)
@@ -99,7 +99,7 @@ def the_extension_beside_pgrouting(room):
 
 @case
 def one_version_of_the_extension(_room):
-    """The control file's is the one that the scripts lead to, and that of META.json, which has three numbers."""
+    """The version is the same in the control file, in META.json, and in the name of the last script."""
     with open(f"{SOURCES}/boruvka.control", encoding="utf-8") as it:
         number = re.search(r"^default_version = '(.*)'$", it.read(), re.M)[1]
     with open(f"{SOURCES}/META.json", encoding="utf-8") as it:
@@ -111,7 +111,7 @@ def one_version_of_the_extension(_room):
         is_so(set(re.search(r"^DATA = (.*)$", it.read(), re.M)[1].split()), scripts)
 
 
-# What packs the extension alone.
+# A program that packs only the extension.
 PACK = """
 import sys
 sys.path.insert(0, "tools")
@@ -120,7 +120,7 @@ name, content = dist.extension(dist.Release(sys.argv[1], sys.argv[2]), sys.argv[
 dist.put(f"{sys.argv[3]}/{name}", content)
 print(name)
 """
-# What a server of the tests does with the extension of a package.
+# A program that runs a query with the extension of a package on a server of the tests.
 PACKAGE = """
 import sys
 sys.path.insert(0, sys.argv[1])
