@@ -34,7 +34,7 @@ def chunks_of(columns, cuts):
 
 def bounded(most):
     """Has at most so many edges a vertex kept, or so many at all if there are fewer vertices."""
-    return mock.patch.multiple(_chunks, _A_VERTEX=most, _AT_LEAST=most)
+    return mock.patch.multiple(_chunks, _PER_VERTEX=most, _AT_LEAST=most)
 
 
 def each_part_is_worth_a_thread():
@@ -100,7 +100,7 @@ class Drawn(unittest.TestCase):
     def test_at_the_bound(self):
         """As many edges as are kept, one more and one less, in one chunk, in two and one by one."""
         most = 64
-        with mock.patch.multiple(_chunks, _A_VERTEX=8, _AT_LEAST=1):
+        with mock.patch.multiple(_chunks, _PER_VERTEX=8, _AT_LEAST=1):
             for m in [*range(most - 1, most + 2), *range(most + 56, most + 60)]:
                 for seed in range(6):
                     graph = Graph(0)
@@ -120,7 +120,7 @@ class Drawn(unittest.TestCase):
         graph.n, m = 9000, 200_000
         graph.held = [draw.integers(0, graph.n, m), draw.integers(0, graph.n, m), draw.integers(0, 50, m)]
         graph.u, graph.v, graph.w = (it.tolist() for it in graph.held)
-        self.assertGreater(m, 2 * max(_chunks._A_VERTEX * graph.n, _chunks._AT_LEAST))
+        self.assertGreater(m, 2 * max(_chunks._PER_VERTEX * graph.n, _chunks._AT_LEAST))
         for size in (m, 30_000):
             self.expect_forest(graph, size, False, size)
 
@@ -141,11 +141,11 @@ class Kept(unittest.TestCase):
             sizes.append(len(w))
             return reduced(count, u, v, w)
 
-        reduced = _chunks.places_of_own
-        most = max(_chunks._A_VERTEX * n, _chunks._AT_LEAST)
+        reduced = _chunks.indices_of_checked
+        most = max(_chunks._PER_VERTEX * n, _chunks._AT_LEAST)
         tracemalloc.start()
         self.addCleanup(tracemalloc.stop)
-        with mock.patch.object(_chunks, "places_of_own", places):
+        with mock.patch.object(_chunks, "indices_of_checked", places):
             forest = forest_of_chunks(n, chunks())
         peak = tracemalloc.get_traced_memory()[1]
         self.assertEqual((len(forest), max(sizes)), (n - 1, most))
@@ -245,7 +245,7 @@ class Weights(unittest.TestCase):
             for held in ([0, whole], np.array([0, whole]), np.array([0, abs(whole)], np.uint64)):
                 bad = ([0, 1], [1, 2], held)
                 fine, floats = ([0], [1], [1]), ([0], [1], [1.0])
-                told = rf"w\[1\] of chunk {{}} is {held[1]}, and would be rounded beside the floats of chunk {{}}: give one dtype$"
+                told = rf"w\[1\] of chunk {{}} is {held[1]}, which would be rounded, because chunk {{}} has floats: use one dtype$"
                 for chunks, number, row, first in [
                     ([bad, floats], 1, 0, 1), ([floats, bad], 1, 1, 0), ([fine, bad, fine, floats], 3, 1, 3), ([fine, floats, floats, bad], 3, 3, 1),
                 ]:  # fmt: skip
@@ -280,14 +280,14 @@ class Refused(unittest.TestCase):
 
     def test_what_is_no_vertex_no_weight_or_no_column(self):
         for error, words, chunk in [
-            (ValueError, r"u\[1\] is 3, and a vertex is at least 0 and below n = 3$", ([0, 3], [1, 2], [1, 1])),
+            (ValueError, r"u\[1\] is 3, but a vertex is at least 0 and below n = 3$", ([0, 3], [1, 2], [1, 1])),
             (ValueError, r"v\[0\] is -1, ", ([0, 1], [-1, 2], [1, 1])),
             (ValueError, r"v\[1\] is 4294967296, ", ([0, 1], [1, 2**32], [1, 1])),
             (ValueError, r"v\[1\] is 3, .*: are they numbered from 1\?$", ([1, 2], [2, 3], [1, 1])),
             (TypeError, r"u has the dtype float64, .*: \.astype\(int\)", ([0.0, 1.0], [1, 2], [1, 1])),
             (TypeError, r"v has the dtype <U1, .*: boruvka.from_edges", ([0, 1], ["a", "b"], [1, 1])),
-            (ValueError, r"w\[1\] is NaN, which has no place", ([0, 1], [1, 2], [1, math.nan])),
-            (ValueError, r"w\[0\] is 9223372036854775808, past", ([0], [1], np.array([2**63], np.uint64))),
+            (ValueError, r"w\[1\] is NaN, which can't be ordered", ([0, 1], [1, 2], [1, math.nan])),
+            (ValueError, r"w\[0\] is 9223372036854775808, but a weight", ([0], [1], np.array([2**63], np.uint64))),
             (ValueError, r"w\[0\] is 9007199254740993, which numpy would round", ([0, 1], [1, 2], [2**53 + 1, 0.5])),
             (TypeError, r"w has the dtype complex128", ([0], [1], [1j])),
             (TypeError, r"w has the dtype object", ([0], [1], [None])),
@@ -295,16 +295,16 @@ class Refused(unittest.TestCase):
             (ValueError, r"u has masked entries", (np.ma.array([0, 1], mask=[0, 1]), [1, 2], [1, 1])),
             (ValueError, r"u, v and w differ in length: 2, 2 and 1$", ([0, 1], [1, 2], [1])),
             (ValueError, r"u, v and w differ in length: 2, 1 and 2$", ([0, 1], [1], [1, 1])),
-            (TypeError, r"it has numbers instead of columns: is it a column\? \[\(u, v, w\)\] has one chunk$", (0, 1, 5)),
-            (ValueError, r"u is 0, and has to be an array or a list", (0, [1], [5])),
+            (TypeError, r"it has numbers instead of columns, so it may be a column: \[\(u, v, w\)\] has one chunk$", (0, 1, 5)),
+            (ValueError, r"u is 0, but has to be an array or a list", (0, [1], [5])),
             (ValueError, r"u has 2 dimensions", ([[0, 1]], [[1, 2]], [[1, 1]])),
-            (TypeError, r"it has the length 2, and needs three columns", ([[0, 1], [1, 2]], [1, 1])),
+            (TypeError, r"it has the length 2, but needs three columns", ([[0, 1], [1, 2]], [1, 1])),
             (TypeError, r"it has the length 4, ", tuple(minimum_spanning_forest(3, *self.FINE))),
             (TypeError, r"it has the length 0, ", ()),
             (TypeError, r"it is a NoneType, ", None),
             (ValueError, r"it is a maximum forest, which lacks edges that a minimum forest may need: find both with", minimum_spanning_forest(3, *self.FINE, maximum=True)),
             (ValueError, r"it is a forest with names, .*: boruvka\.from_edges takes pandas\.concat", from_edges({"u": ["a"], "v": ["b"], "w": [1]})),
-            (ValueError, r"v\[0\] is 8, and a vertex is at least 0 and below n = 3", minimum_spanning_forest([0], [8], [1])),
+            (ValueError, r"v\[0\] is 8, but a vertex is at least 0 and below n = 3", minimum_spanning_forest([0], [8], [1])),
             (TypeError, r"it is a ndarray, ", np.zeros((3, 3), int)),
             (TypeError, r"it is a dict, ", dict(zip("uvw", self.FINE))),
             (TypeError, r"it is a str, ", "uvw"),
@@ -315,10 +315,10 @@ class Refused(unittest.TestCase):
 
     def test_chunks_are_not_asked_for_before_n_is_judged(self):
         for error, words, n in [
-            (TypeError, "^n is None, and has to be a whole number", None),
+            (TypeError, "^n is None, but has to be a whole number", None),
             (TypeError, "^n is 3.0, ", 3.0),
             (TypeError, r"^n is \[", [[0, 1]]),
-            (ValueError, "^n is -1, and has to be from 0 to 2\\^26$", -1),
+            (ValueError, "^n is -1, but has to be from 0 to 2\\^26$", -1),
             (ValueError, "^n is 67108865, ", 2**26 + 1),
         ]:
             with self.assertRaisesRegex(error, words):
@@ -327,12 +327,12 @@ class Refused(unittest.TestCase):
 
     def test_what_are_no_chunks(self):
         for chunks in (None, 5, forest_of_chunks):
-            with self.assertRaisesRegex(TypeError, "^chunks are .*, and have to be an iterable of"):
+            with self.assertRaisesRegex(TypeError, "^chunks is .*, but has to be an iterable of"):
                 forest_of_chunks(3, chunks)
         # (three columns in place of chunks)
-        with self.assertRaisesRegex(TypeError, "^chunk 0: it has numbers instead of columns: is it a column"):
+        with self.assertRaisesRegex(TypeError, "^chunk 0: it has numbers instead of columns, so it may be a column"):
             forest_of_chunks(3, ([0, 1, 2], [1, 2, 0], [1, 1, 1]))
-        with self.assertRaisesRegex(TypeError, r"^chunks are <Forest of .*, and have to be an iterable of .*: \[\(u, v, w\)\] has one chunk$"):
+        with self.assertRaisesRegex(TypeError, r"^chunks is <Forest of .*, but has to be an iterable of .*: \[\(u, v, w\)\] has one chunk$"):
             forest_of_chunks(3, minimum_spanning_forest(3, *self.FINE))
         with self.assertRaisesRegex(TypeError, "^chunk 0: it is a ndarray"):
             forest_of_chunks(3, tuple(map(np.array, self.FINE)))
@@ -386,7 +386,7 @@ class Pairs(unittest.TestCase):
 
     def test_no_other_shape(self):
         for index in (np.zeros((2, 3), int), np.zeros((1, 2), int), np.zeros((2, 2, 2), int), 0):
-            with self.assertRaisesRegex(ValueError, "^the arrays of the forest have the shapes"):
+            with self.assertRaisesRegex(ValueError, "^u, v, w and index have the shapes"):
                 Forest([0, 1], [1, 2], [5, 6], index)
 
 
@@ -433,7 +433,7 @@ class Threads(unittest.TestCase):
                 together.wait(30)
             return whole(count, u, v, w)
 
-        whole = _library.places
+        whole = _library.indices
         few = [(1, 4, 9, 1), (15, 4, 9, 1), (15, 2, 9, 1), (16, 4, 9, 2), (16, 2, 9, 2), (18, 9, 9, 3), (24, 4, 9, 4), (24, 9, 9, 4)]
         many = [(64, 1, 9, 1), (64, 3, 9, 3), (64, 10**6, 9, 9), (64, 10**6, 5, 5), (64, 10**30, 1, 1), (64, 4, 2, 2), (24, 10**6, 9, 4)]
         for edges, threads, processors, parts in few + many:
@@ -441,7 +441,7 @@ class Threads(unittest.TestCase):
             ends = np.arange(m) % n
             together = threading.Barrier(parts)
             calls.clear()
-            with mock.patch.object(_library, "places", places), mock.patch.object(_threads, "_processors", lambda: processors):
+            with mock.patch.object(_library, "indices", places), mock.patch.object(_threads, "_processors", lambda: processors):
                 forest = minimum_spanning_forest(n, ends, (ends + 1) % n, np.arange(m), threads=threads)
             self.assertEqual(forest.index.tolist(), list(range(n - 1)))
             self.assertEqual([it[0] for it in calls], [m // parts] * parts + [parts * (n - 1)] * (parts > 1))
@@ -452,13 +452,13 @@ class Threads(unittest.TestCase):
         # (of two vertices ten thousand parts would be worth a thread)
         m = 120_000
         before, most = threading.active_count(), []
-        whole = _library.places
+        whole = _library.indices
 
         def places(count, u, v, w):
             most.append(threading.active_count() - before)
             return whole(count, u, v, w)
 
-        with mock.patch.object(_library, "places", places):
+        with mock.patch.object(_library, "indices", places):
             weights = np.arange(m, 0, -1, np.int64)
             forest = minimum_spanning_forest(2, np.zeros(m, np.int32), np.ones(m, np.int32), weights, threads=10**6)
         self.assertEqual(forest.index.tolist(), [m - 1])
@@ -474,17 +474,17 @@ class Threads(unittest.TestCase):
 
     def test_no_number_of_threads(self):
         for threads in (0, -1):
-            with self.assertRaisesRegex(ValueError, f"^threads is {threads}, and has to be at least 1$"):
+            with self.assertRaisesRegex(ValueError, f"^threads is {threads}, but has to be at least 1$"):
                 minimum_spanning_forest(2, [0], [1], [1], threads=threads)
         for threads in (1.0, None, "2", True):
-            with self.assertRaisesRegex(TypeError, "^threads is .*, and has to be a whole number$"):
+            with self.assertRaisesRegex(TypeError, "^threads is .*, but has to be a whole number$"):
                 minimum_spanning_forest(2, [0], [1], [1], threads=threads)
 
     def test_a_refusal_in_a_thread_is_passed_on(self):
         def places(count, u, v, w):
             raise MemoryError("no memory for the forest")
 
-        with mock.patch.object(_library, "places", places), each_part_is_worth_a_thread():
+        with mock.patch.object(_library, "indices", places), each_part_is_worth_a_thread():
             with self.assertRaises(MemoryError):
                 minimum_spanning_forest(2, [0, 0], [1, 1], [1, 2], threads=2)
 

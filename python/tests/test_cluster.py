@@ -494,14 +494,14 @@ class Estimators(unittest.TestCase):
             ("min_size is '2'", SingleLinkage(min_size="2")),
             ("max_cluster_size is 9.5", HDBSCAN(max_cluster_size=9.5)),
         ]:
-            with self.assertRaisesRegex(TypeError, f"^{words}, and has to be a whole number$"):
+            with self.assertRaisesRegex(TypeError, f"^{words}, but has to be a whole number$"):
                 made.fit(points)
 
     def test_whole_numbers_that_doubles_round(self):
         apart = [[2**53, 0], [2**53 + 1, 0], [2**53 + 2, 0]]
         for points in (apart, np.array(apart), np.array(apart, np.uint64)):
             for made in (SingleLinkage(), HDBSCAN(2)):
-                with self.assertRaisesRegex(ValueError, r"^X\[1, 0\] is 9007199254740993, which a double would round: take the least"):
+                with self.assertRaisesRegex(ValueError, r"^X\[1, 0\] is 9007199254740993, which a double would round: subtract the least"):
                     made.fit(points)
         for made in (SingleLinkage(), HDBSCAN(2)):
             with self.assertRaisesRegex(ValueError, r"^X\[1\]\[0\] is 9007199254740993, which numpy would round to"):
@@ -519,27 +519,27 @@ class Estimators(unittest.TestCase):
             (np.array([[1], [2], [5]], "m8[s]"), r"dtype timedelta64\[s\]"),
         ]:
             for made in (SingleLinkage(), HDBSCAN(2)):
-                with self.assertRaisesRegex(TypeError, f"^X has the {told}, and has to be real numbers of up to 64 bits$"):
+                with self.assertRaisesRegex(TypeError, f"^X has the {told}, but has to be real numbers of up to 64 bits$"):
                     made.fit(points)
 
     def test_masked_points(self):
         hidden = np.ma.masked_equal([[0.0, 0.0], [1.0, 1.0], [99.0, 99.0]], 99)
         for points in (hidden, [*hidden]):
             for made in (SingleLinkage(), HDBSCAN(2)):
-                with self.assertRaisesRegex(ValueError, r"^X has masked entries, as X\[[\d, ]+\] is: leave them out first$"):
+                with self.assertRaisesRegex(ValueError, r"^X has masked entries, such as X\[[\d, ]+\]: leave them out first$"):
                     made.fit(points)
 
     def test_choices_that_cannot_be(self):
         points = np.random.default_rng(5).random((9, 2))
         for error, words, made in [
-            (ValueError, "^cluster_selection_epsilon is -1, and a distance is at least 0$", HDBSCAN(cluster_selection_epsilon=-1)),
+            (ValueError, "^cluster_selection_epsilon is -1, but a distance is at least 0$", HDBSCAN(cluster_selection_epsilon=-1)),
             (ValueError, "^cluster_selection_epsilon is nan, ", HDBSCAN(cluster_selection_epsilon=np.nan)),
-            (TypeError, "^cluster_selection_epsilon is '1', and has to be a distance, a real number$", HDBSCAN(cluster_selection_epsilon="1")),
+            (TypeError, "^cluster_selection_epsilon is '1', but has to be a distance, a real number$", HDBSCAN(cluster_selection_epsilon="1")),
             (TypeError, "^cluster_selection_epsilon is True, ", HDBSCAN(cluster_selection_epsilon=True)),
-            (TypeError, "^allow_single_cluster is 'no', and has to be True or False$", HDBSCAN(allow_single_cluster="no")),
-            (ValueError, "^max_cluster_size is 4, and has to be at least min_cluster_size, which is 5: None sets no limit$", HDBSCAN(max_cluster_size=4)),
+            (TypeError, "^allow_single_cluster is 'no', but has to be True or False$", HDBSCAN(allow_single_cluster="no")),
+            (ValueError, "^max_cluster_size is 4, but has to be at least min_cluster_size, which is 5: None sets no limit$", HDBSCAN(max_cluster_size=4)),
             (ValueError, "^max_cluster_size is 0, ", HDBSCAN(max_cluster_size=0)),
-            (ValueError, "^min_cluster_size is 10, and X has 9 points: ", HDBSCAN(10)),
+            (ValueError, "^min_cluster_size is 10, but X has only 9 points: ", HDBSCAN(10)),
             (ValueError, "^min_size is -2, ", SingleLinkage(min_size=-2)),
         ]:
             with self.assertRaisesRegex(error, words):

@@ -80,7 +80,7 @@ class OneProcess(unittest.TestCase):
             (TypeError, "^n is 4.0, ", (frame, 4.0)),
             (TypeError, "^n is None, ", (frame, None)),
             (ValueError, "^n is -1, ", (frame, -1)),
-            (TypeError, "^frame is a DataFrame, and has to be one of dask", (self.roads, 4)),
+            (TypeError, "^frame is a DataFrame, but has to be a dask frame", (self.roads, 4)),
             (TypeError, "^frame is a dict, ", (ROADS, 4)),
             (TypeError, "^frame is a int, ", (4, 4)),
             (TypeError, "^frame is a Series, ", (frame["u"], 4)),
@@ -92,23 +92,30 @@ class OneProcess(unittest.TestCase):
         with self.assertRaisesRegex(ValueError, "^the frame has 2 columns 'w'$"):
             minimum_spanning_forest(in_partitions(self.roads[["u", "v", "w", "w"]], [0, 3]), 4)
         for wrong in (1, 0, -1):
-            with self.assertRaisesRegex(ValueError, f"^split_every is {wrong}, and has to be at least 2$"):
+            with self.assertRaisesRegex(ValueError, f"^split_every is {wrong}, but has to be at least 2$"):
                 minimum_spanning_forest(frame, 4, split_every=wrong)
-        with self.assertRaisesRegex(TypeError, "^split_every is '4', and has to be a whole number$"):
+        with self.assertRaisesRegex(TypeError, "^split_every is '4', but has to be a whole number$"):
             minimum_spanning_forest(frame, 4, split_every="4")
-        with self.assertRaisesRegex(TypeError, "^maximum is 'no', and has to be True or False$"):
+        with self.assertRaisesRegex(TypeError, "^maximum is 'no', but has to be True or False$"):
             minimum_spanning_forest(frame, 4, maximum="no")
 
     def test_wrong_rows_are_told_with_their_partition(self):
         for error, words, column, wrong in [
-            (ValueError, r"u\[1\] is 4, and a vertex is at least 0 and below n = 4", "u", 4),
+            (ValueError, r"u\[1\] is 4, but a vertex is at least 0 and below n = 4", "u", 4),
             (ValueError, r"v\[1\] is -1, ", "v", -1),
-            (ValueError, r"w\[1\] is NaN, which has no place", "w", math.nan),
+            (ValueError, r"w\[1\] is NaN, which can't be ordered", "w", math.nan),
         ]:
             self.roads.loc[3, column] = wrong
             with self.assertRaisesRegex(error, f"^partition 1: {words}"):
                 minimum_spanning_forest(in_partitions(self.roads, [0, 2, 4]), 4).compute()
             self.setUp()
+        for kind in ("string", "category"):
+            named = in_partitions(self.roads.astype({"v": str}).astype({"v": kind}), [0, 2, 4])
+            with self.assertRaisesRegex(TypeError, rf"^the column 'v' has the dtype {kind}, but vertices are whole numbers here: boruvka\.from_edges\(frame\) takes names$"):
+                minimum_spanning_forest(named, 4)
+        named = in_partitions(self.roads.astype({"v": str}), [0, 2, 4])
+        with self.assertRaisesRegex(TypeError, r"^partition 0: v has the dtype .*, because v\[0\] is '\d', but vertices are whole numbers: boruvka\.from_edges takes names$"):
+            minimum_spanning_forest(named, 4).compute(scheduler="synchronous")
         with self.assertRaisesRegex(TypeError, "^partition 0: u has the dtype float64, .*: .astype"):
             minimum_spanning_forest(in_partitions(self.roads.astype({"u": float}), [0, 2, 4]), 4).compute()
         whole = self.roads.astype({"w": "Int64"}, errors="ignore").assign(w=pandas.array([1, 2, 3, None, 4, 5], "Int64"))
@@ -124,7 +131,7 @@ class OneProcess(unittest.TestCase):
                 self.assertEqual(boruvka.minimum_spanning_forest(4, [0, 1, 2], [1, 2, 3], given).w.tolist(), weights)
                 self.assertEqual(boruvka.linkage.single_linkage(points)[:, 2].tolist(), [2**0.5] * 2)
                 continue
-            with self.assertRaisesRegex(ValueError, rf"^w has masked entries, as w\[{weights.index(masked)}\] is: leave these edges out first$"):
+            with self.assertRaisesRegex(ValueError, rf"^w has masked entries, such as w\[{weights.index(masked)}\]: leave these edges out first$"):
                 boruvka.minimum_spanning_forest(4, [0, 1, 2], [1, 2, 3], given)
             with self.assertRaisesRegex(ValueError, "^y has masked entries"):
                 boruvka.linkage.single_linkage(points)
@@ -134,7 +141,7 @@ class OneProcess(unittest.TestCase):
         for column, kind in [("w", "int64"), ("u", "int32"), ("v", "uint64")]:
             other = self.roads.astype({column: kind})
             frame = dask.dataframe.from_map(lambda it: it, [self.roads, other], meta=self.roads.iloc[:0])
-            with self.assertRaisesRegex(TypeError, f"^partition 1: .* have the dtypes .*{kind}.*, and the frame says "):
+            with self.assertRaisesRegex(TypeError, f"^partition 1: .* have the dtypes .*{kind}.*, but those of the frame are "):
                 minimum_spanning_forest(frame, 4).compute()
 
 

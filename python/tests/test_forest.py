@@ -166,7 +166,7 @@ class Knowing(unittest.TestCase):
                             forest.bottleneck(a, b)
         for call in (self.forest.path, self.forest.bottleneck):
             for wrong in (-1, 7):
-                with self.assertRaisesRegex(ValueError, f"^{wrong} is no vertex"):
+                with self.assertRaisesRegex(ValueError, f"^{wrong} isn't a vertex"):
                     call(0, wrong)
 
     def test_clusters(self):
@@ -207,11 +207,11 @@ class Knowing(unittest.TestCase):
         self.assertEqual(list(graph), list("abcdefg"))
         self.assertEqual(sorted(graph.edges(data="weight")), [("a", "c", 10), ("b", "e", 0), ("c", "d", 0), ("c", "e", 0), ("d", "f", 3)])
         self.assertEqual(nx.number_connected_components(self.forest.to_networkx()), 2)
-        with self.assertRaisesRegex(ValueError, "^there are 2 names, and 7 vertices"):
+        with self.assertRaisesRegex(ValueError, "^there are 2 names for 7 vertices"):
             self.forest.to_networkx("ab")
-        with self.assertRaisesRegex(ValueError, r"^names\[3\] is 'b', as names\[1\] is: networkx would make one vertex of both$"):
+        with self.assertRaisesRegex(ValueError, r"^names\[3\] and names\[1\] are both 'b': networkx would make one vertex of both$"):
             self.forest.to_networkx("abcbefg")
-        with self.assertRaisesRegex(TypeError, r"^names\[2\] is a list, which can't be a key of a dict, as vertices of networkx are$"):
+        with self.assertRaisesRegex(TypeError, r"^names\[2\] is a list, which isn't hashable, as vertices of networkx are$"):
             self.forest.to_networkx([0, 1, [2], 3, 4, 5, 6])
 
     def test_ends_that_are_no_vertices_of_it(self):
@@ -219,7 +219,7 @@ class Knowing(unittest.TestCase):
             forest = Forest(u, v, [1], [0], n=2, names=["a", "b"])
             for call, module in [(forest.to_frame, "pandas"), (forest.to_networkx, "networkx"), (lambda: forest.plot([[0, 0], [1, 1]]), "matplotlib"), (lambda: forest.path("a", "b"), "numpy")]:
                 if importlib.util.find_spec(module):
-                    with self.assertRaisesRegex(ValueError, "^an edge of the forest has an end that is none of its 2 vertices$"):
+                    with self.assertRaisesRegex(ValueError, "^an edge of the forest has an endpoint that isn't one of its 2 vertices$"):
                         call()
 
     def test_as_a_picture(self):
@@ -236,9 +236,9 @@ class Knowing(unittest.TestCase):
         self.assertEqual(len(np.unique(grey, axis=0)), 5)
         with self.assertRaisesRegex(ValueError, "shape"):
             self.forest.plot(points[:3])
-        with self.assertRaisesRegex(ValueError, r"^points has masked entries, as points\[\d, \d\] is: leave them out first$"):
+        with self.assertRaisesRegex(ValueError, r"^points has masked entries, such as points\[\d, \d\]: leave them out first$"):
             self.forest.plot(np.ma.masked_less(points, 0.5))
-        with self.assertRaisesRegex(ValueError, r"^labels has the shape \(2,\), and 7 points have one each$"):
+        with self.assertRaisesRegex(ValueError, r"^labels has the shape \(2,\), but has to be \(7,\), a label for each point$"):
             self.forest.plot(points, labels=[0, 1])
 
 
@@ -276,7 +276,7 @@ class Called(unittest.TestCase):
             (([0, 1],), "n may be left out"),
             ((3, [0, 1], [1, 2]), r"^edges have the shape \(2,\)"),
             (([[0, 1, 2]], [1]), r"^edges have the shape \(1, 3\)"),
-            ((3.0, [0], [1], [1]), "^n is 3.0, and has to be a whole number"),
+            ((3.0, [0], [1], [1]), "^n is 3.0, but has to be a whole number"),
             (("3", [0], [1], [1]), "^n is '3', "),
         ]:
             with self.assertRaisesRegex(TypeError, words):
@@ -408,7 +408,7 @@ class Refused(unittest.TestCase):
             for place, name in enumerate("uvw"):
                 given = [[0, 1], [1, 2], [1, 1]]
                 given[place] = wrong
-                self.expect(ValueError, f"^{name} (has 2 dimensions|is 0, and )", 3, *given)
+                self.expect(ValueError, f"^{name} (has 2 dimensions|is 0, but )", 3, *given)
         for given in ([[0], [1, 2], [1, 2]], [[0, 1], [1], [1, 2]], [[0, 1], [1, 2], [1]], [[], [], [1]]):
             self.expect(ValueError, "^u, v and w differ in length: ", 3, *given)
 
@@ -572,10 +572,10 @@ class Threads(unittest.TestCase):
 
         def places(n, u, v, w, threads):
             read[:] = u, v
-            return _threads.places_by_threads(n, u, v, w, threads)
+            return _threads.indices_by_threads(n, u, v, w, threads)
 
         u, v, w = (np.arange(it, it + 4, dtype=np.int32) for it in (0, 1, 0))
-        with mock.patch("boruvka._edges.places_by_threads", places):
+        with mock.patch("boruvka._edges.indices_by_threads", places):
             for ends in (u, u.view(np.uint32), u[::-1], u.astype(">i4"), np.repeat(u, 2)[::2]):
                 minimum_spanning_forest(5, ends, v, w)
                 self.assertFalse(np.shares_memory(read[0], ends) or np.shares_memory(read[1], v))

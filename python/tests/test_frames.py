@@ -172,10 +172,10 @@ class Frames(unittest.TestCase):
     def test_what_pandas_has_in_place_of_columns(self):
         rows = pandas.DataFrame({"u": ["a", "b"], "v": ["b", "c"], "w": [2, 1]})
         for indexed in (rows.set_index(["u", "v"]), rows.set_index(["u", "v"])["w"]):
-            with self.assertRaisesRegex(KeyError, r"no column 'u', but .*; frame\.reset_index\(\) makes columns of its index"):
+            with self.assertRaisesRegex(KeyError, r"no column 'u'; it has .*; frame\.reset_index\(\) makes columns of its index"):
                 boruvka.from_edges(indexed)
             self.assertEqual(boruvka.from_edges(indexed.reset_index()).names, ["a", "b", "c"])
-        with self.assertRaisesRegex(KeyError, "no column 'u', but 0, 1"):
+        with self.assertRaisesRegex(KeyError, "no column 'u'; it has 0, 1"):
             boruvka.from_edges(rows.T)
         with self.assertRaisesRegex(TypeError, "^the column 'u' has a tuple in row 0"):
             boruvka.from_edges(rows.groupby("v"))
@@ -183,7 +183,7 @@ class Frames(unittest.TestCase):
         self.assertEqual((named.names, named.w.tolist()), (["a", "b", "c"], [1, 2]))
         with self.assertRaisesRegex(ValueError, "^row 1 has no name in the column 'u'"):
             boruvka.from_edges(rows.assign(u=pandas.Categorical(["a", None])))
-        with self.assertRaisesRegex(TypeError, r"^w has the dtype <U2, as w\[0\] is '10': weights are"):
+        with self.assertRaisesRegex(TypeError, r"^w has the dtype <U2, because w\[0\] is '10', but weights are"):
             boruvka.from_edges(rows.assign(w=pandas.Categorical(["10", "9"])))
         self.assertEqual(boruvka.from_edges(rows.assign(w=pandas.Categorical([10, 9]))).w.tolist(), [9, 10])
         for empty in (rows.iloc[:0], pandas.DataFrame(columns=["u", "v", "w"])):
@@ -191,7 +191,7 @@ class Frames(unittest.TestCase):
         days = pandas.Series(np.array(["2020-01-01", "2020-01-02"], "M8[ns]"))
         turned = days[::-1].reset_index(drop=True)
         self.assertEqual(boruvka.from_edges({"u": days, "v": turned, "w": [1, 2]}).n, 2)
-        with self.assertRaisesRegex(TypeError, r"^the ends are times of numpy \(datetime64\[ns\]\), and of the type Timestamp: "):
+        with self.assertRaisesRegex(TypeError, r"^some endpoints are times of numpy \(datetime64\[ns\]\), and some have the type Timestamp: "):
             boruvka.from_edges({"u": days.to_numpy(), "v": days[::-1], "w": [1, 2]})
         self.assertEqual(boruvka.from_edges({"u": days.to_numpy(), "v": np.asarray(days[::-1], "datetime64[ns]"), "w": [1, 2]}).n, 2)
 
@@ -210,7 +210,7 @@ class Frames(unittest.TestCase):
         numbers.loc[1, "v"] = pandas.NA
         with self.assertRaisesRegex(ValueError, "^row 1 has no name in the column 'v': leave such edges out first$"):
             boruvka.from_edges(numbers)
-        with self.assertRaisesRegex(ValueError, "^the column 'u' has 2 dimensions: do two have this name"):
+        with self.assertRaisesRegex(ValueError, "^the column 'u' has 2 dimensions: do two columns have this name"):
             boruvka.from_edges(pandas.DataFrame([[1, 2, 3, 4]], columns=["u", "u", "v", "w"]))
 
     @unittest.skipUnless(pandas and hasattr(pandas.DataFrame, "__dataframe__"), "there is no pandas that speaks the protocol")
@@ -256,7 +256,7 @@ class Protocol(unittest.TestCase):
 
     def test_texts(self):
         for width in ("i4", "i8"):
-            with self.assertWarnsRegex(UserWarning, "^the text '' names a vertex, and is the text of a missing entry"):
+            with self.assertWarnsRegex(UserWarning, "^the text '' names a vertex, but it is the text of a missing entry"):
                 self.assertEqual(self.names(texts(["Ely", "", "Zürich", "東京"], width)), ["", "Ely", "Zürich", "東京"])
         cut = texts(["a", "bc", "def"])
         cut.offset, cut.size = 1, 2
@@ -299,7 +299,7 @@ class Protocol(unittest.TestCase):
     def test_weights(self):
         ends = {"u": whole([0, 1, 2]), "v": whole([1, 2, 0])}
         self.assertEqual(boruvka.from_edges(Table({**ends, "w": whole([2**62 + 1, 2**62, 2**62 + 2])})).w.tolist(), [2**62, 2**62 + 1])
-        with self.assertRaisesRegex(TypeError, r"^w has the dtype object, as w\[2\] is None: weights are"):
+        with self.assertRaisesRegex(TypeError, r"^w has the dtype object, because w\[2\] is None, but weights are"):
             boruvka.from_edges(Table({**ends, "w": whole([1, 2, 3], null=(2, 3))}))
 
     def test_buffers_that_are_too_short(self):
@@ -321,28 +321,28 @@ class Refused(unittest.TestCase):
             boruvka.from_edges(*given, **more)
 
     def test_columns_that_are_not_there(self):
-        self.expect(KeyError, "the frame has no column 'u', but 'from', 'to', 'km'", ROADS)
-        self.expect(KeyError, "no column 'w', but 'u', 'v'", Table({"u": whole([1]), "v": whole([1])}))
-        self.expect(KeyError, "no column 'w', but 'u', 'v'", np.zeros(3, [("u", "i4"), ("v", "i4")]))
-        self.expect(KeyError, r"no column 'u', but 0, 1, 2, 3, 4, 5, 6, 7, 8, 9, \.\.\"$", np.zeros((4, 30), int))
+        self.expect(KeyError, "the frame has no column 'u'; it has 'from', 'to', 'km'", ROADS)
+        self.expect(KeyError, "no column 'w'; it has 'u', 'v'", Table({"u": whole([1]), "v": whole([1])}))
+        self.expect(KeyError, "no column 'w'; it has 'u', 'v'", np.zeros(3, [("u", "i4"), ("v", "i4")]))
+        self.expect(KeyError, r"no column 'u'; it has 0, 1, 2, 3, 4, 5, 6, 7, 8, 9, \.\.\"$", np.zeros((4, 30), int))
         for name in (3, -1, "u", 1.5):
-            self.expect(KeyError, f"no column {name!r}, but 0, 1, 2", np.zeros((4, 3), int), name, 1, weight=2)
+            self.expect(KeyError, f"no column {name!r}; it has 0, 1, 2", np.zeros((4, 3), int), name, 1, weight=2)
 
     def test_entries_that_are_missing(self):
         for wrong in (None, math.nan, np.datetime64("NaT"), np.ma.masked):
             self.expect(ValueError, "^row 1 has no name in the column 'v'", {"u": [1, 2], "v": [3, wrong], "w": [1, 1]})
         self.expect(ValueError, "^row 0 has no name in the column 'u'", {"u": np.ma.masked_equal([1, 2], 1), "v": [3, 1], "w": [1, 1]})
         self.expect(ValueError, r"^w\[1\] is NaN", {"u": [1, 2], "v": [3, 1], "w": [1, math.nan]})
-        self.expect(TypeError, r"as w\[1\] is None", {"u": [1, 2], "v": [3, 1], "w": [1, None]})
+        self.expect(TypeError, r"because w\[1\] is None", {"u": [1, 2], "v": [3, 1], "w": [1, None]})
         # (weights are called by the name of their column)
         for wrong, error, words in [
             ([1, math.nan], ValueError, r"^km\[1\] is NaN"),
-            ([1, None], TypeError, r"^km has the dtype object, as km\[1\] is None"),
-            ([1, "2"], TypeError, r"^km has the dtype <U21, as km\[0\] is '1'"),
+            ([1, None], TypeError, r"^km has the dtype object, because km\[1\] is None"),
+            ([1, "2"], TypeError, r"^km has the dtype <U21, because km\[0\] is '1'"),
             ([1, 2, 3], ValueError, "^u, v and km differ in length: 2, 2 and 3$"),
-            (np.ma.masked_equal([1, 2], 2), ValueError, r"^km has masked entries, as km\[1\] is"),
+            (np.ma.masked_equal([1, 2], 2), ValueError, r"^km has masked entries, such as km\[1\]"),
             ([2**53 + 1, 0.5], ValueError, r"^km\[0\] is 9007199254740993, which numpy would round"),
-            (np.array([1, 2**63], np.uint64), ValueError, r"^km\[1\] is 9223372036854775808, past 2\^63 - 1$"),
+            (np.array([1, 2**63], np.uint64), ValueError, r"^km\[1\] is 9223372036854775808, but a weight is at most 2\^63 - 1$"),
         ]:
             self.expect(error, words, {"u": [1, 2], "v": [3, 1], "km": wrong}, weight="km")
 
@@ -350,21 +350,21 @@ class Refused(unittest.TestCase):
         self.expect(ValueError, "^the columns 'u' and 'v' differ in length: 1 and 2$", {"u": [1], "v": [3, 1], "w": [1, 1]})
         self.expect(ValueError, "differ in length: 1, 1 and 2$", {"u": [1], "v": [3], "w": [1, 1]})
         for wrong, kind in [([1], "list"), ({}, "dict"), (np.array([1, 2]), "ndarray"), (np.array(1), "ndarray"), (([1], 2), "tuple")]:
-            words = f"^the column 'v' has a {kind} in row 1, which can't be a key of a dict: a tuple of texts or numbers can$"
+            words = f"^the column 'v' has a {kind} in row 1, which isn't hashable: a tuple of texts or numbers is$"
             self.expect(TypeError, words, {"u": [1, 2], "v": [3, wrong], "w": [1, 1]})
         for wrong in (5, None, True, "abc", b"ab", datetime.date(2020, 1, 1)):
-            words = f"^the column 'u' is {re.escape(repr(wrong))}, and has to be an array or a list$"
+            words = f"^the column 'u' is {re.escape(repr(wrong))}, but has to be an array or a list$"
             self.expect(TypeError, words, {"u": wrong, "v": [1, 2, 3], "w": [1, 1, 1]})
-        self.expect(TypeError, "^the column 'w' is 7, and has to be an array or a list$", {"u": [1], "v": [2], "w": 7})
-        self.expect(ValueError, "^the column 'u' has 0 dimensions, and needs one$", {"u": np.array(5), "v": [1], "w": [1]})
+        self.expect(TypeError, "^the column 'w' is 7, but has to be an array or a list$", {"u": [1], "v": [2], "w": 7})
+        self.expect(ValueError, "^the column 'u' has 0 dimensions, but needs one$", {"u": np.array(5), "v": [1], "w": [1]})
         self.expect(TypeError, "^the column 'u' is a set, which has no order$", {"u": {1, 2}, "v": [1, 2], "w": [1, 1]})
         self.expect(TypeError, "^the column 'v' is a dict, ", {"u": [1], "v": {1: 2}, "w": [1]})
-        self.expect(ValueError, "^the column 'u' has 2 dimensions, and needs one$", {"u": np.zeros((2, 2)), "v": [1, 2], "w": [1, 1]})
-        self.expect(ValueError, "^the column 'u' has 2 dimensions, and needs one$", {"u": np.matrix([1, 2]), "v": [1, 2], "w": [1, 1]})
+        self.expect(ValueError, "^the column 'u' has 2 dimensions, but needs one$", {"u": np.zeros((2, 2)), "v": [1, 2], "w": [1, 1]})
+        self.expect(ValueError, "^the column 'u' has 2 dimensions, but needs one$", {"u": np.matrix([1, 2]), "v": [1, 2], "w": [1, 1]})
         days = np.array(["2020-01-01"], "M8[D]")
-        self.expect(TypeError, r"the dtypes datetime64\[D\] and datetime64\[s\]: \.astype makes one", {"u": days, "v": days.astype("M8[s]"), "w": [1]})
+        self.expect(TypeError, r"the endpoints have the dtypes datetime64\[D\] and datetime64\[s\]: \.astype converts one", {"u": days, "v": days.astype("M8[s]"), "w": [1]})
         self.expect(TypeError, r"the dtypes timedelta64\[D\] and timedelta64\[s\]", {"u": [np.timedelta64(1, "D")], "v": [np.timedelta64(86400, "s")], "w": [1]})
-        words = r"^the ends are times of numpy \(datetime64\[D\]\), and of the type datetime: numpy\.asarray\(column, 'datetime64\[D\]'\) of each makes one of them$"
+        words = r"^some endpoints are times of numpy \(datetime64\[D\]\), and of the type datetime: numpy\.asarray\(column, 'datetime64\[D\]'\) of each makes one of them$"
         self.expect(TypeError, words, {"u": days, "v": [datetime.datetime(2020, 1, 1)], "w": [1]})
         zoned = datetime.datetime(2020, 1, 1, tzinfo=datetime.timezone.utc)
         self.expect(TypeError, "^the ends are times with a zone, and times without", {"u": [zoned], "v": [zoned.replace(tzinfo=None)], "w": [1]})
@@ -374,12 +374,12 @@ class Refused(unittest.TestCase):
 
     def test_what_is_no_frame(self):
         for file in ("abc.csv", b"abc.csv", pathlib.Path("abc.csv")):
-            self.expect(TypeError, r"^a (str|bytes|PosixPath) is no frame: pandas\.read_csv makes one of a file, and boruvka\.read_gr reads a \.gr file$", file)
+            self.expect(TypeError, r"^a (str|bytes|PosixPath) isn't a frame: pandas\.read_csv reads one from a file, and boruvka\.read_gr reads a \.gr file$", file)
         for rows in ([("a", "b", 1)], (("a", "b", 1),)):
-            self.expect(TypeError, r"^a (list|tuple) is no frame: pandas\.DataFrame\(rows", rows)
-            self.expect(TypeError, "is no frame", rows, 0, 1, weight=2)
-        self.expect(TypeError, "^a int is no frame: it has no columns", 5)
-        self.expect(TypeError, r"^an array of the shape \(4,\) is no frame", np.zeros(4))
+            self.expect(TypeError, r"^a (list|tuple) isn't a frame: pass pandas\.DataFrame\(rows", rows)
+            self.expect(TypeError, "isn't a frame", rows, 0, 1, weight=2)
+        self.expect(TypeError, "^a int isn't a frame: it has no columns", 5)
+        self.expect(TypeError, r"^an array of the shape \(4,\) isn't a frame", np.zeros(4))
 
 
 if __name__ == "__main__":

@@ -166,7 +166,7 @@ class Read(InFolder):
         wrong_sum = whole[:-8] + struct.pack("<I", 5) + whole[-4:]
         cut = [whole[:end] for end in range(2, len(whole))]
         for data in [*cut, wrong_sum, whole[:30] + b"\xff\xff\xff" + whole[33:], whole + b"rest", b"\x1f\x8b" + bytes(100)]:
-            with self.assertRaisesRegex(ValueError, "net.gr: its compressed data is cut off or damaged: "):
+            with self.assertRaisesRegex(ValueError, "net.gr: its compressed data is truncated or damaged: "):
                 self.read(data)
 
     def test_files_that_cannot_be_read(self):
@@ -260,8 +260,8 @@ class Write(InFolder):
             (ValueError, r"^u\[0\] is 3, ", (3, [3], [1], [1])),
             (ValueError, "^n is ", (2**26 + 1, [0], [1], [1])),
             (ValueError, "differ in length", (3, [0], [1], [1, 2])),
-            (TypeError, r"^a Forest is no array: forest\.to_frame\(\) makes a frame", (forest, [0], [1])),
-            (TypeError, "^5 arguments are given, and a forest needs n, u, v and w$", (3, [0], [1], [2], 5)),
+            (TypeError, r"^a Forest isn't an array: forest\.to_frame\(\) makes a frame", (forest, [0], [1])),
+            (TypeError, "^5 arguments are passed, but a forest needs n, u, v and w$", (3, [0], [1], [2], 5)),
         ]:
             with self.assertRaisesRegex(error, words):
                 boruvka.write_gr(path, *given)

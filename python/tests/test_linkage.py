@@ -116,8 +116,8 @@ class Worked(unittest.TestCase):
 class Refused(unittest.TestCase):
     def test_points_and_distances(self):
         for wrong, words in [
-            (np.empty((0, 2)), "^there is no point$"),
-            ([], "^there is no point and no distance"),
+            (np.empty((0, 2)), "^y has no points$"),
+            ([], "^y is empty: "),
             (np.ma.masked_equal([[0.0], [1.0]], 1), "masked"),
             (3.0, "shape"),
             (np.zeros((2, 2, 2)), "shape"),
@@ -157,7 +157,7 @@ class Refused(unittest.TestCase):
         rounded = square * (1 + 1e-15 * draw.integers(-4, 5, square.shape))
         self.assertFalse((rounded == rounded.T).all())
         for given in (rounded, rounded + np.diag(np.full(40, 1e-12))):
-            with self.assertWarnsRegex(UserWarning, 'its rows are taken as points, not as distances, which metric="precomputed" takes$'):
+            with self.assertWarnsRegex(UserWarning, 'its rows are taken as points: pass metric="precomputed" if they are distances$'):
                 spanning_tree(given)
             if hierarchy:
                 with self.assertWarns(hierarchy.ClusterWarning):
@@ -172,10 +172,10 @@ class Refused(unittest.TestCase):
     def test_distances_that_are_none(self):
         square = np.array([[0.0, 1, 2], [1, 0, 3], [2, 3, 0]])
         for change, words in [
-            ((0, 1, 1.1), r"^y\[0, 1\] is 1\.1, and y\[1, 0\] is 1\.0: a distance is the same both ways, as numpy\.minimum\(y, y\.T\) makes it$"),
-            ((2, 1, 2.9), r"^y\[1, 2\] is 3\.0, and y\[2, 1\] is 2\.9: "),
+            ((0, 1, 1.1), r"^y\[0, 1\] is 1\.1, but y\[1, 0\] is 1\.0: a distance is the same in both directions, and numpy\.minimum\(y, y\.T\) makes it so$"),
+            ((2, 1, 2.9), r"^y\[1, 2\] is 3\.0, but y\[2, 1\] is 2\.9: "),
             ((1, 1, 0.5), r"^y\[1, 1\] is 0\.5, and the distance of a point to itself is 0: "),
-            ((0, 2, -2), r"^y\[0, 2\] is -2\.0: a distance isn't finite, or is negative$"),
+            ((0, 2, -2), r"^y\[0, 2\] is -2\.0, but a distance is finite and not negative$"),
             ((0, 2, np.inf), r"^y\[0, 2\] is inf: "),
             ((0, 2, np.nan), r"^y\[0, 2\] is nan: "),
         ]:
@@ -197,7 +197,7 @@ class Refused(unittest.TestCase):
 
     def test_clusters_of_a_negative_size(self):
         for call in (lambda it: labels(10, ROADS, clusters=4, min_size=it), lambda it: ROADS.labels(height=3, min_size=it)):
-            with self.assertRaisesRegex(ValueError, "^min_size is -1, and a cluster has at least 0 vertices: "):
+            with self.assertRaisesRegex(ValueError, "^min_size is -1, but has to be at least 0: "):
                 call(-1)
             self.assertEqual(call(0).tolist(), call(1).tolist())
 
@@ -211,7 +211,7 @@ class Refused(unittest.TestCase):
         with self.assertRaisesRegex(ValueError, "NaN"):
             labels(10, ROADS, height=np.nan)
         for height in (1j, "1", [1, 2], np.array([4])):
-            with self.assertRaisesRegex(TypeError, "^the height is a "):
+            with self.assertRaisesRegex(TypeError, "^height is a "):
                 labels(10, ROADS, height=height)
         for n in (-1, 2**26 + 1, 2**32 + 10):
             with self.assertRaisesRegex(ValueError, f"^n is {n}, "):
@@ -236,10 +236,10 @@ class Refused(unittest.TestCase):
                 labels(3, cycle, **given)
             with self.assertRaisesRegex(ValueError, r"^forest.v\[2\] is 9, "):
                 labels(5, cycle._replace(v=np.array([1, 2, 9])), **given)
-            with self.assertRaisesRegex(ValueError, r"shapes \(1,\), \(3,\), \(3,\), \(3,\)$"):
+            with self.assertRaisesRegex(ValueError, r"shapes \(1,\), \(3,\), \(3,\), \(3,\), but need one length$"):
                 labels(5, cycle._replace(u=np.array([0])), **given)
         for call in (lambda it: labels(3, it, clusters=2), lambda it: merges(3, it), lambda it: labels(it, 3, clusters=2)):
-            with self.assertRaisesRegex(TypeError, "^a (ndarray|int) is no Forest"):
+            with self.assertRaisesRegex(TypeError, "^forest is a (ndarray|int), but has to be a Forest"):
                 call(single_linkage([[0], [1], [3]]))
         with self.assertRaisesRegex(ValueError, "one tree"):
             merges(10, ROADS)
@@ -637,30 +637,43 @@ class Metrics(unittest.TestCase):
             spanning_tree(pandas.DataFrame({"x": latitude, "y": longitude}))
             spanning_tree(pandas.DataFrame({"a": latitude, "b": longitude}), metric="haversine")
 
+    def test_swapped_columns_without_names(self):
+        """A warning where it can be known: a latitude is near a pole, and every longitude could be a latitude."""
+        chicago, saint_louis, oslo, tromso, suva = np.radians([[41.9, -87.6], [38.6, -90.2], [59.9, 10.8], [69.6, 19.0], [-18.1, 178.4]])
+        with self.assertWarnsRegex(UserWarning, r"^the latitude of the point 1 is -1\.528\d*, near a pole, and every longitude could be a latitude: the columns may be swapped\. The latitude comes first$") as caught:
+            spanning_tree([saint_louis[::-1] + [0.1, 0], chicago[::-1]], metric="haversine")
+        self.assertEqual(caught.filename, __file__)
+        with self.assertRaisesRegex(ValueError, r"^the latitude of the point 0 is -1\.574\d*, beyond a right angle: y\[:, ::-1\] puts latitudes before longitudes$"):
+            spanning_tree([saint_louis[::-1], chicago[::-1]], metric="haversine")
+        with warnings.catch_warnings():
+            warnings.simplefilter("error")
+            for points in ([chicago, saint_louis], [oslo, tromso, suva], [oslo[::-1], tromso[::-1]], np.radians([[89.0, 10.0], [80.0, -170.0]]), np.radians([[75.0, 0.0], [-75.0, 1.0]])):
+                spanning_tree(points, metric="haversine")
+
     def test_refused(self):
         points = np.zeros((4, 3))
         for words, given in [
             ("^there is no metric 'euclid': it is one of euclidean, ", {"metric": "euclid"}),
             ("^p is 0.5, ", {"metric": "minkowski", "p": 0.5}),
             ("^p is nan, ", {"metric": "minkowski", "p": math.nan}),
-            ("^min_samples is 0, and has to be from 1 to 4", {"min_samples": 0}),
+            ("^min_samples is 0, but has to be from 1 to 4", {"min_samples": 0}),
             ("^min_samples is 5, ", {"min_samples": 5}),
-            ("^y has 3 columns: haversine takes two", {"metric": "haversine"}),
-            ("^the point 0 is 0, and has no direction", {"metric": "cosine"}),
+            ("^y has 3 columns, but haversine takes two", {"metric": "haversine"}),
+            ("^the point 0 is 0, which has no direction", {"metric": "cosine"}),
         ]:
             for call in (spanning_tree, single_linkage):
                 with self.assertRaisesRegex(ValueError, words):
                     call(points, **given)
         with self.assertRaisesRegex(ValueError, "^the latitude of the point 1 is 51.5, .*radians"):
             spanning_tree([[0, 0], [51.5, 0.1]], metric="haversine")
-        with self.assertRaisesRegex(ValueError, "^the latitude of the point 0 is 1.6, past a right angle"):
+        with self.assertRaisesRegex(ValueError, "^the latitude of the point 0 is 1.6, beyond a right angle"):
             spanning_tree([[1.6, 0], [0, 0]], metric="haversine")
-        with self.assertRaisesRegex(ValueError, r"^the latitude of the point 1 is -2.5, past a right angle: y\[:, ::-1\] puts latitudes before longitudes$"):
+        with self.assertRaisesRegex(ValueError, r"^the latitude of the point 1 is -2.5, beyond a right angle: y\[:, ::-1\] puts latitudes before longitudes$"):
             spanning_tree([[0.5, 0.7], [-2.5, 0.6]], metric="haversine")
         poles = spanning_tree([[np.pi / 2, 0], [-np.pi / 2, 0]], metric="haversine")
         self.assertEqual(poles.w.tolist(), [np.pi])
         for given in ({"metric": "cosine"}, {"min_samples": 2}, {"p": 3}, {"p": "2"}):
-            with self.assertRaisesRegex(TypeError, "^y is distances, "):
+            with self.assertRaisesRegex(TypeError, "^y is an array of one dimension, so it has distances: "):
                 spanning_tree([1.0, 2.0, 3.0], **given)
         with self.assertRaises(TypeError):
             spanning_tree(points, min_samples=2.5)
@@ -745,7 +758,7 @@ class Scipys(unittest.TestCase):
         for wrong, words in [(coo_matrix((2, 3)), "square"), (coo_matrix(([-1.0], ([0], [1])), shape=(2, 2)), "negative"), (coo_matrix(([np.nan], ([0], [1])), shape=(2, 2)), "finite")]:
             with self.assertRaisesRegex(ValueError, words):
                 spanning_tree(wrong)
-        with self.assertRaisesRegex(TypeError, "^y is distances, as a sparse matrix says"):
+        with self.assertRaisesRegex(TypeError, "^y is a sparse matrix, so it has distances"):
             spanning_tree(coo_matrix((3, 3)), min_samples=2)
 
     @unittest.skipUnless(there("sklearn"), "there is no scikit-learn")

@@ -162,7 +162,7 @@ class Ranked(unittest.TestCase):
             pass
 
         one, other = Place(), Place()
-        with self.assertWarnsRegex(UserWarning, "^names of the type Place have no order, so that the order of rows decides") as told:
+        with self.assertWarnsRegex(UserWarning, "^names of the type Place can't be ordered, so the order of the rows decides") as told:
             self.assertEqual(boruvka.from_edges({"u": [one], "v": [other], "w": [1]}).n, 2)
         self.assertEqual(told.filename, __file__)
         groups = [frozenset("ab"), frozenset("cda"), frozenset("b")]
@@ -178,7 +178,7 @@ class Rejected(unittest.TestCase):
 
     def test_floats_that_may_stand_for_several_whole_numbers(self):
         ids = 1234567890123456789 + np.arange(3)
-        words = r"^row 0 of the column 'u' is .*1\.2345678901234568e\+18.*, and from 2\^53 on a float may stand for several whole numbers: read .* nullable integers \(dtype 'Int64'\) or as text$"
+        words = r"^row 0 of the column 'u' is .*1\.2345678901234568e\+18.*, but from 2\^53 on a float may stand for several whole numbers: read .* nullable integers \(dtype 'Int64'\) or as text$"
         for floats in (ids.astype(float), ids.astype(float).tolist(), [*ids.astype(float)], [ids.astype(float)[0], "a", "b"]):
             self.expect(ValueError, words, {"u": floats, "v": np.roll(ids, 1), "w": [1, 2, 3]})
         self.expect(ValueError, "^row 1 of the column 'v' is .*9007199254740992", {"u": [1.0, 2.0], "v": [3.0, 2.0**53], "w": [1, 2]})
@@ -196,8 +196,8 @@ class Rejected(unittest.TestCase):
 
     def test_names_that_are_missing(self):
         self.expect(ValueError, "^row 0 has no name in the column 'u'", {"u": [(1, math.nan)], "v": [(1, 2)], "w": [1]})
-        self.expect(ValueError, r"^row 0 of the column 'u' is \(1, 1e\+16\), and from 2\^53 on", {"u": [(1, 1e16)], "v": [(1, 2)], "w": [1]})
-        self.expect(TypeError, "^the column 'u' has a Decimal in row 0, which can't be a key", {"u": [decimal.Decimal("sNaN")], "v": ["a"], "w": [1]})
+        self.expect(ValueError, r"^row 0 of the column 'u' is \(1, 1e\+16\), but from 2\^53 on", {"u": [(1, 1e16)], "v": [(1, 2)], "w": [1]})
+        self.expect(TypeError, "^the column 'u' has a Decimal in row 0, which isn't hashable", {"u": [decimal.Decimal("sNaN")], "v": ["a"], "w": [1]})
         self.assertEqual(boruvka.from_edges({"u": [(1, None)], "v": [(1, "a")], "w": [1]}).n, 2)
         for missing in (math.nan, np.float32("nan")):
             self.expect(ValueError, "^row 1 has no name in the column 'v'", {"u": [1.0, 2.0], "v": [3.0, missing], "w": [1, 1]})
@@ -208,7 +208,7 @@ class Rejected(unittest.TestCase):
         """To numpy a span is equal to its number."""
         span = np.timedelta64(7, "s")
         for number in (5, 5.5, np.int8(1), True):
-            words = r"^the ends are times of numpy \(timedelta64\[s\]\), and of the type \w+: numpy\.asarray\(column, 'timedelta64\[s\]'\) of each makes"
+            words = r"^some endpoints are times of numpy \(timedelta64\[s\]\), and some have the type \w+: numpy\.asarray\(column, 'timedelta64\[s\]'\) converts"
             self.expect(TypeError, words, {"u": [number, span], "v": ["a", "b"], "w": [1, 2]})
 
     @unittest.skipUnless(pandas, "there is no pandas")
@@ -240,7 +240,7 @@ class Suspicious(unittest.TestCase):
 
     def test_texts_of_missing_entries(self):
         for text in ("", "nan", "NaN", "None", "NaT", "<NA>"):
-            self.expect(f"^the text {text!r} names a vertex, and is the text of a missing entry: leave", "a", text)
+            self.expect(f"^the text {text!r} names a vertex, but it is the text of a missing entry: leave", "a", text)
         self.expect("^the text 'nan' names a vertex", 1, "nan")
         if pandas:
             column = pandas.Series(["a", None, "b"]).astype(str)
@@ -250,7 +250,7 @@ class Suspicious(unittest.TestCase):
     def test_texts_that_differ_in_outer_spaces_alone(self):
         for one, other in [("Ely", "Ely "), (" Ely", "Ely"), ("Ely\t", " Ely"), ("Ely\xa0", "Ely")]:
             first, second = sorted([one, other])
-            self.expect(f"^the texts {first!r} and {second!r} name two vertices: .str.strip.. of both".replace("\\", r"\\"), one, other)
+            self.expect(f"^the texts {first!r} and {second!r} name two vertices: .str.strip.. on both".replace("\\", r"\\"), one, other)
 
     def test_what_is_not_suspicious(self):
         with warnings.catch_warnings():

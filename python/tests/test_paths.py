@@ -51,7 +51,7 @@ class ByNames(unittest.TestCase):
         self.assertEqual(forest.path(30, 20), [30, 10, 20])
         self.assertEqual(forest.path((1, 2), "a"), [(1, 2), "a"])
         self.assertEqual(forest.path(np.int64(30), 20.0), [30, 10, 20])
-        with self.assertRaisesRegex(ValueError, r"^0 is no vertex: they have names, as 10, 20, 30$"):
+        with self.assertRaisesRegex(ValueError, r"^0 isn't a vertex: their names are such as 10, 20, 30$"):
             forest.path(0, 10)
 
     def test_labels(self):
@@ -76,32 +76,32 @@ class ByNames(unittest.TestCase):
     def test_what_is_no_vertex(self):
         for call in (self.forest.path, self.forest.bottleneck):
             for given, words in [
-                (("Bth", "York"), "^'Bth' is no vertex: 'Bath' is one$"),
-                (("Bath", "Oslo"), "^'Oslo' is no vertex: they have names, as 'Bath', 'Ely', 'Hove'$"),
-                ((0, 1), "^0 is no vertex: they have names, as 'Bath', "),
-                (("Bath", None), "^None is no vertex: "),
-                (("Bath", ("York",)), r"^\('York',\) is no vertex: "),
-                ((["Bath", "Yrk"], "Ely"), r"^a\[1\] is 'Yrk', which is no vertex: 'York' is one$"),
-                (("Bath", [["York"]]), r"^b\[0\] is \['York'\], which is no vertex: "),
+                (("Bth", "York"), "^'Bth' isn't a vertex: did you mean 'Bath'\?$"),
+                (("Bath", "Oslo"), "^'Oslo' isn't a vertex: their names are such as 'Bath', 'Ely', 'Hove'$"),
+                ((0, 1), "^0 isn't a vertex: their names are such as 'Bath', "),
+                (("Bath", None), "^None isn't a vertex: "),
+                (("Bath", ("York",)), r"^\('York',\) isn't a vertex: "),
+                ((["Bath", "Yrk"], "Ely"), r"^a\[1\] is 'Yrk', which isn't a vertex: did you mean 'York'\?$"),
+                (("Bath", [["York"]]), r"^b\[0\] is \['York'\], which isn't a vertex: "),
                 ((["Bath"], ["York", "Ely"]), "^a and b differ in length: 1 and 2$"),
                 (("Bath", "Rye"), "^'Bath' and 'Rye' are in different components$"),
                 ((["Bath", "Ely"], ["York", "Hove"]), "^'Ely' and 'Hove' are in different components$"),
             ]:
                 with self.subTest(given), self.assertRaisesRegex(ValueError, words):
                     call(*given)
-        with self.assertRaisesRegex(ValueError, "^from 'Ely' to itself there is no edge$"):
+        with self.assertRaisesRegex(ValueError, "^there is no edge from 'Ely' to itself$"):
             self.forest.bottleneck(["Bath", "Ely"], ["York", "Ely"])
-        with self.assertRaisesRegex(ValueError, "^'1' is no vertex: 1 is one$|^'1' is no vertex: they have names"):
+        with self.assertRaisesRegex(ValueError, "^'1' isn't a vertex: did you mean 1\?$|^'1' isn't a vertex: their names are such as 1, 2$"):
             from_edges({"u": [1], "v": [2], "w": [3]}).path("1", 2)
         twice = self.forest._replace(names=["a", "b", "c", "b", "d"])
-        with self.assertRaisesRegex(ValueError, r"^names\[3\] is 'b', as names\[1\] is: "):
+        with self.assertRaisesRegex(ValueError, r"^names\[3\] and names\[1\] are both 'b': "):
             twice.path("a", "b")
         plain = self.forest._replace(names=None)
         for given, error, words in [
-            (("Bath", 1), TypeError, "^a is 'Bath', and has to be a whole number: the forest has no names$"),
-            (((0, 1), 1), TypeError, r"^a is \(0, 1\), and has to be a whole number"),
-            (([0, 9], 1), ValueError, r"^a\[1\] is 9, and a vertex is at least 0 and below n = 5"),
-            (([0.5], 1), TypeError, r"^a has the dtype float64, as a\[0\] is 0\.5, and vertices are whole numbers$"),
+            (("Bath", 1), TypeError, "^a is 'Bath', but has to be a whole number: the forest has no names$"),
+            (((0, 1), 1), TypeError, r"^a is \(0, 1\), but has to be a whole number"),
+            (([0, 9], 1), ValueError, r"^a\[1\] is 9, but a vertex is at least 0 and below n = 5"),
+            (([0.5], 1), TypeError, r"^a has the dtype float64, because a\[0\] is 0\.5, but vertices are whole numbers$"),
         ]:
             with self.subTest(given), self.assertRaisesRegex(error, words):
                 plain.path(*given)
@@ -208,20 +208,20 @@ class Replaced(unittest.TestCase):
         forest = minimum_spanning_forest(6, u, v, w)
         self.assertEqual(forest.replacements(u, v, w).tolist(), [0, 0, 3])
         for given, words in [
-            ((u[:2], v[:2], w[:2]), "^the forest has the edge 4, and 2 edges are given: give all edges of the graph$"),
-            ((v[::-1], u[::-1], w[::-1]), "^the edge [124] isn't the one of the forest with this index: give the edges in the order"),
-            ((u, v, [1.5, 0.25, 2.5, 3.5, 1.0]), "^the edge 1 isn't the one of the forest"),
-            (([*u, 0], [*v, 5], [*w, 9]), "^the edge 5 joins two components of the forest, so that it isn't the forest of these edges$"),
-            (([*u, 0], [*v, 6], [*w, 9]), r"^v\[5\] is 6, and a vertex is at least 0 and below n = 6"),
+            ((u[:2], v[:2], w[:2]), "^the forest has the edge 4, but only 2 edges are passed: pass all edges of the graph$"),
+            ((v[::-1], u[::-1], w[::-1]), "^the edge [124] differs from the forest's edge with this index: pass the edges in the order"),
+            ((u, v, [1.5, 0.25, 2.5, 3.5, 1.0]), "^the edge 1 differs from the forest's edge"),
+            (([*u, 0], [*v, 5], [*w, 9]), "^the edge 5 joins two components of the forest, so this isn't the forest of these edges$"),
+            (([*u, 0], [*v, 6], [*w, 9]), r"^v\[5\] is 6, but a vertex is at least 0 and below n = 6"),
             ((u, v, w[:4]), "^u, v and w differ in length"),
-            (([*u, 2], [*v, 0], [*w, 0.75]), "^an edge that isn't in the forest is better than one that it would replace, so that it isn't the forest"),
+            (([*u, 2], [*v, 0], [*w, 0.75]), "^an edge outside the forest is better than one that it could replace, so this isn't the forest"),
         ]:
             with self.subTest(words), self.assertRaisesRegex(ValueError, words):
                 forest.replacements(*given)
         with self.assertRaisesRegex(ValueError, "^index has chunks and rows"):
             boruvka.forest_of_chunks(6, [(u, v, w)]).replacements(u, v, w)
         named = from_edges(ROADS, "from", "to", weight="km")
-        with self.assertRaisesRegex(ValueError, r"^u\[1\] is 'Oslo', which is no vertex"):
+        with self.assertRaisesRegex(ValueError, r"^u\[1\] is 'Oslo', which isn't a vertex"):
             named.replacements(["Ely", "Oslo", "Ely", "Rye"], ROADS["to"], ROADS["km"])
 
     def test_no_edges(self):

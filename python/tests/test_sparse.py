@@ -71,7 +71,7 @@ class Sparse(unittest.TestCase):
                 self.assertEqual(sorted(spanning_tree(given).w.tolist()), [0.0, 0.0, 3.0])
                 self.assertEqual(minimum_spanning_tree(given, maximum=True).data.tolist(), [4.0, 3.0])
         chain = sparse.csr_matrix(np.diag([1.0, 2.0, 3.0], 1))
-        for wrong, told in [(sparse.bsr_matrix(chain, blocksize=(2, 2)), r"\[1, 0\] is a 0 that may fill the format bsr, or be an edge"), (square.todia(), r"\[0, 1\] is a 0 that may fill the format dia")]:
+        for wrong, told in [(sparse.bsr_matrix(chain, blocksize=(2, 2)), r"\[1, 0\] is a 0 that may be an edge or may only fill the format bsr"), (square.todia(), r"\[0, 1\] is a 0 that may be an edge or may only fill the format dia")]:
             with self.assertRaisesRegex(ValueError, f"^csgraph{told}"):
                 minimum_spanning_tree(wrong)
             with self.assertRaisesRegex(ValueError, f"^y{told}"):
@@ -92,7 +92,7 @@ class Sparse(unittest.TestCase):
         """Numpy would uncover the edge of weight 1."""
         rows = [np.ma.masked_equal([0, 1, 5], 1), np.ma.array([0, 0, 7]), np.ma.array([0, 0, 0])]
         for given in (rows, tuple(rows)):
-            with self.assertRaisesRegex(ValueError, r"^rows of csgraph have masked entries, .*: in numpy\.ma\.array\(csgraph\) they are no edges"):
+            with self.assertRaisesRegex(ValueError, r"^rows of csgraph have masked entries, .*: in numpy\.ma\.array\(csgraph\) masked entries are no edges"):
                 minimum_spanning_tree(given)
         # what the refusal tells to do, without the zeros
         self.expect_scipys(np.ma.masked_equal(np.ma.array(rows), 0), True)
@@ -108,7 +108,7 @@ class Sparse(unittest.TestCase):
             found = minimum_spanning_tree(pandas.DataFrame(weights, list(rows), list(columns)))
             self.assertEqual(found.toarray().tolist(), weights.tolist())
         for rows, columns in [("ab", "ba"), ("ab", "bc")]:
-            with self.assertRaisesRegex(ValueError, "^csgraph is a frame whose columns have labels of its rows at other places: "):
+            with self.assertRaisesRegex(ValueError, "^csgraph is a frame whose columns have the labels of its rows in another order: "):
                 minimum_spanning_tree(pandas.DataFrame(weights, list(rows), list(columns)))
 
     def test_the_lighter_of_two_directions_counts_where_it_stands(self):
