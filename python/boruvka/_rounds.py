@@ -154,8 +154,11 @@ class Rounds:
             self.core = core
         # (if there are no more points than neighbours, all are known)
         self.know(np.arange(n), np.full(n, np.inf) if n <= count else reach, _FIRST)
-        for some in pieces(np.arange(n), 8 * count):
-            self.note(some, near[some])
+        for some in pieces(np.arange(n), count * count):
+            others = near[some]
+            # (an edge that both endpoints found is noted by the first; the index n is no neighbour)
+            is_twice = (others < some[:, None]) & (near[others % n] == some[:, None, None]).any(axis=2)
+            self.note(some, np.where(is_twice, n, others))
 
     def merge(self) -> Numbers:
         """Merge components along edges that are surely their lightest, until there is none; return the lightest known heights."""

@@ -26,8 +26,8 @@ if HAS[0] and HAS[2]:
 
     from boruvka.dask import minimum_spanning_forest
 
-with open(f"{os.path.dirname(os.path.dirname(os.path.abspath(__file__)))}/PARTS.md", encoding="utf-8") as page:
-    PAGE = page.read()
+with open(f"{os.path.dirname(os.path.dirname(os.path.abspath(__file__)))}/README.md", encoding="utf-8") as page:
+    PAGE = page.read().split("\n## Edges in parts\n")[1].split("\n## ")[0]
 
 # the five edges of the package's first example, and a sixth that is equal to the second
 ROADS = {"u": [0, 1, 2, 3, 0, 2], "v": [1, 2, 3, 0, 2, 1], "w": [1.5, 0.5, 2.5, 3.5, 1.0, 0.5], "name": list("abcdef")}
@@ -147,13 +147,13 @@ class OneProcess(unittest.TestCase):
 
 @unittest.skipUnless(HAS[0] and HAS[2], "there is no dask, or no pandas for it")
 class Page(unittest.TestCase):
-    """The docstring's examples, and what PARTS.md shows."""
+    """The docstring's examples, and those of README.md about edges in parts."""
 
     def expect_examples(self, text, least):
         """Each line after `>>>`, in a folder that has the page's trips.csv."""
         (trips,) = re.findall(r"^```text\n(.*?)^```$", PAGE, re.M | re.S)
         told, here = io.StringIO(), os.getcwd()
-        test = doctest.DocTestParser().get_doctest(text, {}, "PARTS.md", "PARTS.md", 0)
+        test = doctest.DocTestParser().get_doctest(text, {"boruvka": boruvka}, "README.md", "README.md", 0)
         with tempfile.TemporaryDirectory() as folder:
             with open(f"{folder}/trips.csv", "w", encoding="utf-8") as it:
                 it.write(trips)
@@ -166,7 +166,7 @@ class Page(unittest.TestCase):
         self.assertGreaterEqual(len(test.examples), least)
 
     def test_what_it_shows(self):
-        self.expect_examples("\n".join(re.findall(r"^```pycon\n(.*?)^```$", PAGE, re.M | re.S)), 9)
+        self.expect_examples("\n".join(re.findall(r"^```pycon\n(.*?)^```$", PAGE, re.M | re.S)), 8)
 
     def test_the_docstring(self):
         self.expect_examples(minimum_spanning_forest.__doc__, 5)

@@ -5,6 +5,7 @@ import csv
 import doctest
 import io
 import os
+import re
 import subprocess
 import sys
 import tempfile
@@ -18,6 +19,8 @@ from boruvka import _chunks, _forest, _frames, _gr, _result, linkage
 TOP = os.path.dirname(os.path.dirname(os.path.abspath(__file__)))
 EXAMPLES = f"{TOP}/examples"
 PNG = b"\x89PNG\r\n\x1a\n"
+# the packages that examples of README.md need, by what they mention
+NEEDED = {"boruvka.sparse": "scipy", "boruvka.cluster": "sklearn", "pandas": "pandas", "forest_of_chunks": "pandas", "dask": "dask"}
 
 
 def there(*names):
@@ -85,18 +88,19 @@ class Docstrings(unittest.TestCase):
 
 class Readme(unittest.TestCase):
     def test_what_it_shows(self):
-        """Each line after `>>>`, in a folder that has its points.csv; what needs scipy is left out where it isn't there."""
+        """Each line after `>>>`, in a folder that has its files; examples that need a missing package are left out."""
         with open(f"{TOP}/README.md", encoding="utf-8") as it:
-            blocks = it.read().split("```")[1::2]
-        shown = [it.removeprefix("pycon\n") for it in blocks if it.startswith("pycon\n")]
-        kept = "\n".join(it for it in shown if ("boruvka.sparse" not in it or there("scipy")) and ("boruvka.cluster" not in it or there("sklearn")))
-        (points,) = [it.removeprefix("text\n") for it in blocks if it.startswith("text\n")]
-        self.assertGreaterEqual(len(shown), 3)
+            text = it.read()
+        shown = re.findall(r"^```pycon\n(.*?)^```$", text, re.M | re.S)
+        kept = "\n".join(it for it in shown if all(module not in it or there(package) for module, package in NEEDED.items()))
+        files = re.findall(r"^(?:[^\n]* )?`(\w+\.csv)` [^\n]*:\n\n```text\n(.*?)^```$", text, re.M | re.S)
+        self.assertEqual(([name for name, _ in files], len(shown) >= 8), (["points.csv", "trips.csv"], True))
         test = doctest.DocTestParser().get_doctest(kept, {}, "README.md", "README.md", 0)
         told = io.StringIO()
         with in_new_folder():
-            with open("points.csv", "w", encoding="utf-8") as it:
-                it.write(points)
+            for name, content in files:
+                with open(name, "w", encoding="utf-8") as it:
+                    it.write(content)
             doctest.DocTestRunner(verbose=False).run(test, out=told.write)
         self.assertEqual(told.getvalue(), "")
         self.assertGreaterEqual(len(test.examples), 5)
