@@ -1,19 +1,19 @@
 #!/usr/bin/env python3
-"""Tries the package for Python on drawn cases until some minutes are over, each against a reference in python/tests.
+"""Tries the package for Python on drawn cases for some minutes, each against a reference in python/tests.
 
 usage: tests/soak_python.py [--minutes M] [--seed N] [--sort NAME --case I] [--drawn FOLDER] [LIBRARY]
 
-The sorts of cases are those that the files drawn_*.py of python/tests have in `SORTS`: functions that draw a case by a
-generator of numpy, and raise an error if the package isn't right.
+The sorts of cases are the functions in `SORTS` of the files drawn_*.py in python/tests. Each function draws a case with a generator of
+numpy, and raises an error if the package is wrong.
 
-  --minutes M   how long (if not set: 5); a fraction will do
-  --seed N      what cases are drawn by (if not set: drawn, and printed first)
-  --sort NAME   only this sort, and with --case I only that case: it depends on the seed, the sort and its number alone
-  --drawn FOLDER  where else such files are
+  --minutes M   how long to run (default: 5); may be a fraction
+  --seed N      the seed of the cases (default: drawn, and printed first)
+  --sort NAME   try only this sort; with --case I, only that case, which depends only on the seed, the sort and its number
+  --drawn FOLDER  another folder with such files
 
-LIBRARY is crates/boruvka_c/out/libboruvka.so if none is named. Of each mismatch the words that repeat it and the error
-are printed. The last line is `N cases, M mismatches`, and the status is 0 only where M is 0. Without a Python that has
-numpy nothing is tried, and a line says so.
+LIBRARY is crates/boruvka_c/out/libboruvka.so by default. For each mismatch the arguments that repeat it and the error are
+printed. The last line is `N cases, M mismatches`, and the status is 0 only if M is 0. Without a Python that has numpy
+nothing is tried, and a line says so.
 """
 import argparse
 import glob
@@ -41,7 +41,7 @@ def sorts(folders):
 
 
 def why_wrong(function, seed, name, number):
-    """What is wrong with a case, or an empty text."""
+    """What is wrong with a case; an empty text if nothing is."""
     import numpy
 
     try:
@@ -52,7 +52,7 @@ def why_wrong(function, seed, name, number):
 
 
 def tried(given, seed):
-    """Tries cases of each sort in turn, prints the mismatches, and returns how many cases and mismatches there were."""
+    """Try cases of each sort alternately, print the mismatches, and return how many cases and mismatches there were."""
     found = {name: it for name, it in sorts([f"{ROOT}/python/tests", *given.drawn]).items() if given.sort in (None, name)}
     if not found:
         raise SystemExit(f"there is no sort {given.sort!r}")

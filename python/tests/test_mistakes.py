@@ -1,4 +1,4 @@
-"""Mistakes that people make, each with what it gets: a refusal that names place, value, rule or remedy, or a right answer."""
+"""Mistakes that people make, and their results: an error that names place, value, rule or remedy, or a right result."""
 
 import decimal
 import fractions
@@ -32,7 +32,7 @@ U, V, W = [0, 1], [1, 2], [1, 2]
 
 
 class Igraph:
-    """What a graph of igraph has of its own."""
+    """The method by which a graph of igraph is recognised."""
 
     def get_edgelist(self):
         return [(0, 1)]
@@ -41,7 +41,7 @@ class Igraph:
 POINTS = np.random.default_rng(0).random((10, 2))
 PATH = forest_of(4, [0, 1, 2], [1, 2, 3], [1.0, 2.0, 3.0])
 
-# what is called, and the words of its refusal
+# what is called, and the error that it raises
 EDGES = {
     "vertices by names": (lambda: forest_of(3, ["a", "b"], ["b", "c"], W), TypeError, r"^u has the dtype <U1, because u\[0\] is 'a', .*boruvka\.from_edges takes names$"),
     "vertices as floats": (lambda: forest_of(3, [0.0, 1.0], [1.0, 2.0], W), TypeError, r"^u has the dtype float64, but vertices are whole numbers: \.astype\(int\) converts them$"),
@@ -241,10 +241,10 @@ OF_POINTS = {
 
 class Mistakes(unittest.TestCase):
     def expect(self, table):
-        for name, (call, error, words) in table.items():
+        for name, (call, error, pattern) in table.items():
             with self.subTest(name), warnings.catch_warnings():
                 warnings.simplefilter("error")
-                with self.assertRaisesRegex(error, words):
+                with self.assertRaisesRegex(error, pattern):
                     call()
 
     def test_edges(self):
@@ -315,7 +315,7 @@ class Mistakes(unittest.TestCase):
 
     def test_what_isnt_one(self):
         class Interface:
-            """An array by an interface that has no method."""
+            """An array by an interface without a method."""
 
             def __init__(self, array):
                 self.array, self.__array_interface__ = array, array.__array_interface__
@@ -329,16 +329,16 @@ class Mistakes(unittest.TestCase):
         self.assertEqual(single_linkage([[1.0, 2.0]]).shape, (0, 4))
         for one, other in [("cityblock", "manhattan"), ("l1", "manhattan"), ("l2", "euclidean")]:
             self.assertEqual(spanning_tree(POINTS, metric=one), spanning_tree(POINTS, metric=other))
-        # (which no longer need all pairs)
+        # (equal points don't need all pairs)
         self.assertEqual(spanning_tree(np.zeros((60_000, 4))).total, 0)
         with self.assertWarnsRegex(UserWarning, "its rows are taken as points: pass metric"):
             single_linkage(np.abs(POINTS[:, :1] - POINTS[:, 0]))
-        # (near the equator degrees are latitudes in radians too)
+        # (near the equator, latitudes in degrees are valid in radians)
         with self.assertWarnsRegex(UserWarning, r"^the longitude of the point 0 is 103\.8, beyond a full turn: it is taken as radians"):
             spanning_tree([[1.3, 103.8], [-1.3, 36.8]], metric="haversine")
         self.assertEqual(forest_of(3, [0, 1, 2], [1, 2, 0], [1, 2, 3], maximum=np.True_).total, 5)
         self.assertEqual(forest_of(3, U, V, W, threads=10**6), forest_of(3, U, V, W))
-        # of p without an end the greatest step is left
+        # for an infinite p the greatest difference counts
         square = [[0.0, 0.0], [3.0, 4.0]]
         self.assertEqual([spanning_tree(square, metric="minkowski", p=it).w.tolist() for it in (1e300, math.inf)], [[4.0], [4.0]])
         self.assertEqual(spanning_tree([[0.0], [-0.0], [2.0]]).w.tolist(), [0.0, 2.0])

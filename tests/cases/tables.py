@@ -1,6 +1,8 @@
-"""The recipes of docs/RECIPES.md that read tables and databases: each script as it stands there, over the Python package
-and the built library. The ids that they print are compared with a forest that is computed here. A recipe is skipped if a
-package of Python or a server that it needs isn't there; Spark, which Debian lacks, has a stand-in."""
+"""The recipes of docs/RECIPES.md that read tables and databases: each script as it is shown, with the package and the built library.
+
+The ids that they print are compared with a forest that is computed here. A recipe is skipped if a package of Python or a server that it
+needs isn't installed. Spark, which Debian doesn't have, is replaced.
+"""
 import contextlib
 import glob
 import os
@@ -38,7 +40,7 @@ def script(room, name):
 
 
 def ran_by(path, *words, **more):
-    """Status, standard output and standard error of Python with these words."""
+    """Status, standard output and standard error of Python with these arguments."""
     env = {**os.environ, "PYTHONPATH": f"{ROOT}/python", "BORUVKA_LIBRARY": libraries()[1], "PYTHONDONTWRITEBYTECODE": "1"}
     return run([path, "-W", "error", *words], env=env, **more)
 
@@ -51,8 +53,10 @@ def expect_error(found, told):
 
 
 def ids_of(rows):
-    """The ids of the forest of rows (id, end, end, cost), lightest first, where ends are ranked by their order; of equal links
-    the least id counts."""
+    """The ids of the forest of rows (id, endpoint, endpoint, cost), lightest first, where endpoints are ranked by their order.
+
+    Among equal edges the least id counts.
+    """
     rank = {it: at for at, it in enumerate(sorted({it for _, u, v, _ in rows for it in (u, v)}), 1)}
     least = {}
     for id_, u, v, cost in rows:
@@ -66,7 +70,7 @@ def lines(ids):
 
 
 def drawn(seed, ends, costs, count=400):
-    """Rows in a drawn order, many of equal cost, loops and repeats among them."""
+    """Rows in a drawn order, many of equal cost, with loops and parallel edges."""
     draw = random.Random(seed)
     rows = [(at, draw.choice(ends), draw.choice(ends), draw.choice(costs)) for at in range(-9, count)]
     draw.shuffle(rows)
@@ -103,7 +107,7 @@ def the_recipe_of_sqlite(room):
 
 @contextlib.contextmanager
 def postgres():
-    """A server of its own, by the words that psycopg2 connects by."""
+    """A server of its own, as the arguments with which psycopg2 connects."""
     tools = max(glob.glob("/usr/lib/postgresql/*/bin"), default="", key=lambda it: int(it.split("/")[-2]))
     if not os.path.exists(f"{tools}/initdb"):
         raise Skipped("there is no PostgreSQL server")
