@@ -3,17 +3,17 @@
 
 usage: tests/soak_python.py [--minutes M] [--seed N] [--sort NAME --case I] [--drawn FOLDER] [LIBRARY]
 
-The sorts of cases are the functions in `SORTS` of the files drawn_*.py in python/tests. Each function draws a case with a generator of
-numpy, and raises an error if the package is wrong.
+The sorts of cases are the functions in `SORTS` of the files drawn_*.py in python/tests. Each function draws a case with
+a generator of numpy, and raises an error if the package is wrong.
 
   --minutes M   how long to run (default: 5); may be a fraction
   --seed N      the seed of the cases (default: drawn, and printed first)
-  --sort NAME   try only this sort; with --case I, only that case, which depends only on the seed, the sort and its number
-  --drawn FOLDER  another folder with such files
+  --sort NAME   try only this sort; with --case I, only that case, which depends only on the seed, the sort and its
+  number --drawn FOLDER  another folder with such files
 
-LIBRARY is crates/boruvka_c/out/libboruvka.so by default. For each mismatch the arguments that repeat it and the error are
-printed. The last line is `N cases, M mismatches`, and the status is 0 only if M is 0. Without a Python that has numpy
-nothing is tried, and a line says so.
+LIBRARY is crates/boruvka_c/out/libboruvka.so by default. For each mismatch the arguments that repeat it and the error
+are printed. The last line is `N cases, M mismatches`, and the status is 0 only if M is 0. Without a Python that has
+numpy nothing is tried, and a line says so.
 """
 import argparse
 import glob

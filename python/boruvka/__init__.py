@@ -6,7 +6,8 @@ and `write_gr` are for the program's files. `show` draws points in a page.
 
 These modules are loaded when they are first used:
 
-- `boruvka.linkage` finds the tree of points, cuts trees into clusters, and computes single linkage. It needs only numpy.
+- `boruvka.linkage` finds the tree of points, cuts trees into clusters, and computes single linkage. It needs only
+  numpy.
 - `boruvka.cluster` has single linkage and HDBSCAN as estimators of scikit-learn, which it needs.
 - `boruvka.dask` finds the forest of a dask frame, partition by partition.
 - `boruvka.sparse` replaces scipy's function for sparse matrices, and needs scipy.

@@ -1,7 +1,7 @@
 """Which points of two groups can be near each other, by bounds along the line between the centres of the groups.
 
-An edge between two points is at least as long as its projection on a direction: this holds for the Minkowski distance of
-p if the direction has length 1 under that of q, where 1/p + 1/q = 1 (Hölder's inequality). So two groups that are
+An edge between two points is at least as long as its projection on a direction: this holds for the Minkowski distance
+of p if the direction has length 1 under that of q, where 1/p + 1/q = 1 (Hölder's inequality). So two groups that are
 separated along the line between their centres are at least as far apart as their ends on that line.
 """
 
@@ -74,10 +74,11 @@ class Across:
         return found
 
     def lightest(self, label: NDArray[np.int32], wide: NDArray[np.bool_], heights: Numbers) -> tuple[Numbers, NDArray[np.bool_]]:
-        """The heights of the lightest edges out of each component, after a search for all edges lighter than the known ones.
+        """The heights of the lightest edges out of each component, after a search for all edges lighter than the known
+        ones.
 
-        This holds for the components that are `wide`, except for the points that the second result marks: too many points are
-        near them.
+        This holds for the components that are `wide`, except for the points that the second result marks: too many
+        points are near them.
         """
         heights, is_open = heights.copy(), np.zeros(len(self.order), bool)
         component = label[self.order[self.starts[:-1]]]

@@ -35,45 +35,48 @@ Chunk = Union[Forest, Sequence[ArrayLike]]
 def forest_of_chunks(n: SupportsIndex, chunks: Iterable[Chunk], *, maximum: bool = False) -> Forest:
     """Find the minimum spanning forest of edges that come in chunks, in memory for few of them.
 
-    The result is the forest of all chunks put together. Chunks may come from files, a database or a generator. A forest may
-    replace the edges of which it is the forest, so forests of parts can be merged.
+    The result is the forest of all chunks put together. Chunks may come from files, a database or a generator. A forest
+    may replace the edges of which it is the forest, so forests of parts can be merged.
 
     Parameters
     ----------
     n : int
         The number of vertices, at most 2^26. They are 0 to n - 1.
     chunks : iterable of (u, v, w) or Forest
-        Each chunk is a tuple or list of three columns of one length: endpoints and weights, as `minimum_spanning_forest`
-        takes them. Or it is a forest, whose vertices have no names. A chunk may have no edges, and there may be no chunks.
+        Each chunk is a tuple or list of three columns of one length: endpoints and weights, as
+        `minimum_spanning_forest` takes them. Or it is a forest, whose vertices have no names. A chunk may have no
+        edges, and there may be no chunks.
     maximum : bool, optional
         Whether to find the forest of greatest total weight instead.
 
     Returns
     -------
     Forest
-        Its `index` has the shape (k, 2): `chunk, row = forest.index.T` are the chunk and the row of each edge, both counted
-        from 0. If the chunk is a forest, the row is the position in it. The dtype of `w` holds the weights of all chunks.
+        Its `index` has the shape (k, 2): `chunk, row = forest.index.T` are the chunk and the row of each edge, both
+        counted from 0. If the chunk is a forest, the row is the position in it. The dtype of `w` holds the weights of
+        all chunks.
 
     Raises
     ------
     ValueError, TypeError, MemoryError
-        As `minimum_spanning_forest` does; an error in a chunk begins with the chunk, as in `chunk 3: `. Also a TypeError if a
-        chunk is neither a Forest nor a tuple or list of three columns. Also a ValueError if one chunk has floats, and another has
-        a whole number that isn't a double; or if a Forest has names or another `maximum`. Errors of `chunks` itself are passed on.
+        As `minimum_spanning_forest` does; an error in a chunk begins with the chunk, as in `chunk 3: `. Also a
+        TypeError if a chunk is neither a Forest nor a tuple or list of three columns. Also a ValueError if one chunk
+        has floats, and another has a whole number that isn't a double; or if a Forest has names or another `maximum`.
+        Errors of `chunks` itself are passed on.
 
     Notes
     -----
-    Ties: as in `minimum_spanning_forest`. Among edges that are equal in all three columns, the first row of the first chunk
-    counts.
+    Ties: as in `minimum_spanning_forest`. Among edges that are equal in all three columns, the first row of the first
+    chunk counts.
 
-    Dtypes: `w` has numpy's common dtype of the chunks that have edges, but int64 where that would turn whole numbers into
-    floats. No weight changes its value.
+    Dtypes: `w` has numpy's common dtype of the chunks that have edges, but int64 where that would turn whole numbers
+    into floats. No weight changes its value.
 
-    Cost: at most 8 n edges are stored, or 65,536 if that is more. Each takes 8 bytes and those of its weight, and about 20 more
-    while they are reduced to their forest, or 28 if weights aren't int64. In addition there is one chunk. It is copied, so its
-    arrays may be reused for the next one. The time is at most 1.5 times that of one call. A chunk should have thousands of
-    edges, because each adds up to 0.1 ms. It is worth reducing parts only if they have at least ten edges per vertex:
-    otherwise most of their edges are in their forest.
+    Cost: at most 8 n edges are stored, or 65,536 if that is more. Each takes 8 bytes and those of its weight, and about
+    20 more while they are reduced to their forest, or 28 if weights aren't int64. In addition there is one chunk. It is
+    copied, so its arrays may be reused for the next one. The time is at most 1.5 times that of one call. A chunk should
+    have thousands of edges, because each adds up to 0.1 ms. It is worth reducing parts only if they have at least ten
+    edges per vertex: otherwise most of their edges are in their forest.
 
     Examples
     --------
@@ -192,7 +195,8 @@ class _Stored:
             self.w = _grown(self.w, size)
 
     def _widen_for(self, number: int, weights: NDArray[Any]) -> None:
-        """Convert the stored weights to a dtype that holds these weights too. A ValueError if it would round a weight of any chunk.
+        """Convert the stored weights to a dtype that holds these weights too. A ValueError if it would round a weight
+        of any chunk.
 
         Chunks whose edges are no longer stored count as well.
         """

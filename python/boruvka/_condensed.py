@@ -16,8 +16,8 @@ if TYPE_CHECKING:
 class CondensedTree:
     """How clusters lose points and split as the density grows.
 
-    Points are numbered 0 to n - 1, and clusters from n on; cluster n has all points. The density is 1 / height. `to_frame`
-    lists which points and clusters leave which cluster at which density, and `plot` draws it.
+    Points are numbered 0 to n - 1, and clusters from n on; cluster n has all points. The density is 1 / height.
+    `to_frame` lists which points and clusters leave which cluster at which density, and `plot` draws it.
     """
 
     def __init__(self, condensed: Condensed, chosen: dict[int, int]) -> None:
@@ -39,9 +39,11 @@ class CondensedTree:
         return dict(zip(("parent", "child", "lambda_val", "child_size"), (it[order] for it in (parent, child, density, size))))
 
     def to_frame(self) -> pandas.DataFrame:
-        """Make a frame of pandas with the columns parent, child, lambda_val and child_size, which `to_pandas` of hdbscan has.
+        """Make a frame of pandas with the columns parent, child, lambda_val and child_size, which `to_pandas` of
+        hdbscan has.
 
-        A row says that `child`, a point or a cluster of `child_size` points, leaves `parent` at the density `lambda_val`.
+        A row says that `child`, a point or a cluster of `child_size` points, leaves `parent` at the density
+        `lambda_val`.
         """
         import pandas
 
@@ -62,8 +64,8 @@ class CondensedTree:
     def plot(self, ax: Any = None, *, select_clusters: bool = True) -> Any:
         """Draw the clusters with matplotlib, and return the axes.
 
-        The density grows downwards, and a cluster is as wide as it has points. Clusters that were selected have the colours of
-        their labels in `Forest.plot`, unless `select_clusters` is false.
+        The density grows downwards, and a cluster is as wide as it has points. Clusters that were selected have the
+        colours of their labels in `Forest.plot`, unless `select_clusters` is false.
         """
         from matplotlib import pyplot
 

@@ -52,7 +52,7 @@ def to_networkx(forest: Forest) -> networkx.Graph:
     import networkx
 
     forest.expect_vertices()
-    numbers_of_names(forest.names or (), "networkx would make one vertex of both", ", as networkx needs it")
+    numbers_of_names(forest.names or (), "networkx would make one vertex of both", ", as vertices of networkx have to be")
     graph = networkx.Graph()
     graph.add_nodes_from(named(forest, np.arange(forest.n)))
     graph.add_weighted_edges_from(zip(named(forest, forest.u), named(forest, forest.v), forest.w.tolist()))

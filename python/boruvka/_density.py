@@ -15,8 +15,8 @@ from numpy.typing import NDArray
 class Selection(NamedTuple):
     """Which clusters are selected: the most stable ones ("eom") or those without children ("leaf").
 
-    A cluster born below the height `epsilon` is replaced by its parent. The root is selected only if `may_be_whole` is true.
-    Clusters selected by "eom" have at most `most` points.
+    A cluster born below the height `epsilon` is replaced by its parent. The root is selected only if `may_be_whole` is
+    true. Clusters selected by "eom" have at most `most` points.
     """
 
     method: str = "eom"
@@ -28,11 +28,11 @@ class Selection(NamedTuple):
 class Condensed:
     """The clusters of at least `least` points, as the density grows.
 
-    Density is `unit` / height. Cluster 0 is the root, with all points. A cluster ends where it splits into several clusters that
-    are large enough; otherwise it continues, and points leave it. `owner` is the last cluster of each point, and `left` the
-    density at which the point leaves it. For each cluster, `parent` is the cluster it came from, `birth` the density of that
-    split, `size` its number of points, and `stability` the sum over its points of how long they stay. `left_at` and `born_at` are
-    heights.
+    Density is `unit` / height. Cluster 0 is the root, with all points. A cluster ends where it splits into several
+    clusters that are large enough; otherwise it continues, and points leave it. `owner` is the last cluster of each
+    point, and `left` the density at which the point leaves it. For each cluster, `parent` is the cluster it came from,
+    `birth` the density of that split, `size` its number of points, and `stability` the sum over its points of how long
+    they stay. `left_at` and `born_at` are heights.
     """
 
     def __init__(self, merges: NDArray[np.float64], least: int) -> None:
@@ -136,7 +136,8 @@ class Condensed:
     def outlier_scores(self) -> NDArray[np.float64]:
         """The outlier score of each point, from 0 to 1.
 
-        It is 0 if no point stays longer in the point's last cluster or any cluster within it, and near 1 if the point leaves far sooner.
+        It is 0 if no point stays longer in the point's last cluster or any cluster within it, and near 1 if the point
+        leaves far sooner.
         """
         end_densities = self.end_densities()
         for it in range(len(end_densities) - 1, 0, -1):

@@ -1,4 +1,6 @@
-"""Minimum spanning trees of given distances: of all pairs, as a row or as a square matrix, or of the entries of a sparse matrix."""
+"""Minimum spanning trees of given distances: of all pairs, as a row or as a square matrix, or of the entries of a
+sparse matrix.
+"""
 
 from __future__ import annotations
 
@@ -76,7 +78,10 @@ def tree_of_precomputed(y: Any, p: float, min_samples: int | None) -> Forest:
 
 
 def expect_distances(given: NDArray[np.float64]) -> NDArray[np.float64]:
-    """The distances of a square matrix: the lesser of (i, j) and (j, i). Raise a ValueError if it isn't symmetric up to rounding."""
+    """The distances of a square matrix: the lesser of (i, j) and (j, i).
+
+    Raise a ValueError if it isn't symmetric up to rounding.
+    """
     if given.ndim != 2 or given.shape[0] != given.shape[1] or not len(given):
         raise ValueError(f'y has the shape {given.shape}, but metric="precomputed" takes a square matrix of distances, or those of all pairs in one dimension')
     least, greatest = np.empty_like(given), given.max()
@@ -93,7 +98,9 @@ def expect_distances(given: NDArray[np.float64]) -> NDArray[np.float64]:
 
 
 def _expect_same_both_ways(given: NDArray[np.float64], rows: slice, columns: slice, least: NDArray[np.float64], greatest: float) -> None:
-    """Raise a ValueError if an entry of a block isn't a distance, or differs from the lesser of both directions by more than rounding."""
+    """Raise a ValueError if an entry of a block isn't a distance, or differs from the lesser of both directions by more
+    than rounding.
+    """
     block = given[rows, columns]
     if not 0 <= block.min() <= block.max() < np.inf:
         row, column = np.unravel_index((~np.isfinite(block) | (block < 0)).argmax(), block.shape)

@@ -151,8 +151,9 @@ def pairs_of_vertices(n: int, tails: NDArray[Any], heads: NDArray[Any]) -> tuple
 def vertices(n: int, endpoints: NDArray[Any], name: str, others: NDArray[Any]) -> NDArray[np.uint32]:
     """Endpoints as C takes them, in memory that no other thread writes. An endpoint that is no vertex is a ValueError.
 
-    The library reads each endpoint twice. If another thread wrote it in between, the library could read or write outside of
-    its arrays. So the endpoints are copied, and the copy is checked. `others` are the other endpoints of the edges.
+    The library reads each endpoint twice. If another thread wrote it in between, the library could read or write
+    outside of its arrays. So the endpoints are copied, and the copy is checked. `others` are the other endpoints of the
+    edges.
     """
     if not len(endpoints):
         # (an empty list has the dtype of floats)

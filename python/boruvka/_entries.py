@@ -6,9 +6,11 @@ from typing import Any
 
 
 def expect_no_filling(matrix: Any, name: str) -> None:
-    """Raise a ValueError if the matrix stores a 0 off its main diagonal that may be an edge or may only fill the format.
+    """Raise a ValueError if the matrix stores a 0 off its main diagonal that may be an edge or may only fill the
+    format.
 
-    The format bsr stores whole blocks, and dia stores whole diagonals. Any other format stores a 0 only if it is an entry.
+    The format bsr stores whole blocks, and dia stores whole diagonals. Any other format stores a 0 only if it is an
+    entry.
     """
     form = getattr(matrix, "format", None)
     if form == "dia" or form == "bsr" and matrix.blocksize != (1, 1):

@@ -35,11 +35,11 @@ def minimum_spanning_forest(*, n: SupportsIndex | None = None, u: Column, v: Col
 def minimum_spanning_forest(*edges: Any, n: Any = None, u: Any = None, v: Any = None, w: Any = None, maximum: bool = False, threads: SupportsIndex = 1) -> Forest:
     """Find the minimum spanning forest of an undirected graph.
 
-    It is the set of edges of least total weight that connects all vertices that the graph connects. Edge i of the m edges
-    joins the vertices u[i] and v[i], and has the weight w[i]. Loops and parallel edges are allowed.
+    It is the set of edges of least total weight that connects all vertices that the graph connects. Edge i of the m
+    edges joins the vertices u[i] and v[i], and has the weight w[i]. Loops and parallel edges are allowed.
 
-    Call it as (n, u, v, w), (u, v, w), (n, edges, w) or (edges, w), where `edges` has u and v as its two columns. Each of
-    n, u, v and w may also be passed by name.
+    Call it as (n, u, v, w), (u, v, w), (n, edges, w) or (edges, w), where `edges` has u and v as its two columns. Each
+    of n, u, v and w may also be passed by name.
 
     Parameters
     ----------
@@ -58,41 +58,41 @@ def minimum_spanning_forest(*edges: Any, n: Any = None, u: Any = None, v: Any = 
     Returns
     -------
     Forest
-        The edges in ascending order of (w, u, v), with u < v, as arrays u, v, w and index. `index` has the index of each edge
-        among the edges given: `w[index]` has the weights of the forest.
+        The edges in ascending order of (w, u, v), with u < v, as arrays u, v, w and index. `index` has the index of
+        each edge among the edges given: `w[index]` has the weights of the forest.
 
     Raises
     ------
     ValueError
-        If an endpoint isn't from 0 to n - 1, a weight is NaN or above 2^63 - 1, n is negative or above 2^26, m is above 2^30,
-        an array has masked entries or doesn't have one dimension, the arrays differ in length, or `threads` is below 1. If
-        numpy would round a weight of a list, because other weights are floats.
+        If an endpoint isn't from 0 to n - 1, a weight is NaN or above 2^63 - 1, n is negative or above 2^26, m is above
+        2^30, an array has masked entries or doesn't have one dimension, the arrays differ in length, or `threads` is
+        below 1. If numpy would round a weight of a list, because other weights are floats.
     TypeError
-        If n, `threads` or an endpoint isn't a whole number, `maximum` is neither True nor False, or a weight is neither a whole
-        number nor a float of up to 64 bits.
+        If n, `threads` or an endpoint isn't a whole number, `maximum` is neither True nor False, or a weight is neither
+        a whole number nor a float of up to 64 bits.
     MemoryError
         If there isn't enough memory for the forest.
 
     Notes
     -----
-    Ties: among edges of equal weight, the one with the lower (u, v) counts first; among edges that are equal in all three,
-    the one given first. In that order there is exactly one minimum spanning forest.
+    Ties: among edges of equal weight, the one with the lower (u, v) counts first; among edges that are equal in all
+    three, the one given first. In that order there is exactly one minimum spanning forest.
 
     Components: `forest.labels(clusters=forest.components)` numbers them.
 
-    Cost: about the time of sorting the weights once, whatever the edges are. Memory is about 20 bytes per edge in addition to
-    the arrays given and the result, and up to 36 if most edges are in the forest. The endpoints are copied, 8 bytes per edge,
-    unless an array of int32 or uint32 is read-only and owns its memory. Weights other than int64 are copied too, 8 bytes per
-    edge. The arrays given are never written.
+    Cost: about the time of sorting the weights once, whatever the edges are. Memory is about 20 bytes per edge in
+    addition to the arrays given and the result, and up to 36 if most edges are in the forest. The endpoints are copied,
+    8 bytes per edge, unless an array of int32 or uint32 is read-only and owns its memory. Weights other than int64 are
+    copied too, 8 bytes per edge. The arrays given are never written.
 
-    Threads: if there are fewer than 16 edges per vertex, one thread is used. Otherwise each thread has a part of the edges,
-    of at least 6 edges per vertex, and one of them merges the forests of the parts. With 16 edges per vertex the gain is
-    small; with 24 or more, four threads take about half the time if four processors are idle. Memory is that of one thread
-    plus at most 4 bytes per edge.
+    Threads: if there are fewer than 16 edges per vertex, one thread is used. Otherwise each thread has a part of the
+    edges, of at least 6 edges per vertex, and one of them merges the forests of the parts. With 16 edges per vertex the
+    gain is small; with 24 or more, four threads take about half the time if four processors are idle. Memory is that of
+    one thread plus at most 4 bytes per edge.
 
-    Other threads: any number of threads may call at once. If another thread writes the endpoints during a call, the result is
-    the forest of some state of each endpoint, or a ValueError. If another thread writes the weights during a call, the result
-    may be wrong. A child that was forked from a process with threads must not call.
+    Other threads: any number of threads may call at once. If another thread writes the endpoints during a call, the
+    result is the forest of some state of each endpoint, or a ValueError. If another thread writes the weights during a
+    call, the result may be wrong. A child that was forked from a process with threads must not call.
 
     Examples
     --------

@@ -27,44 +27,47 @@ def from_edges(frame: Any, u: Hashable = "u", v: Hashable = "v", *, weight: Hash
     Parameters
     ----------
     frame : DataFrame, dict or other table
-        Each row is an edge. `frame[name]` has to return a column, as in pandas, polars, pyarrow and dask. A numpy array is also
-        accepted: its columns are its fields, or are numbered from 0. So is an object that has `__dataframe__` or `__array__`.
+        Each row is an edge. `frame[name]` has to return a column, as in pandas, polars, pyarrow and dask. A numpy array
+        is also accepted: its columns are its fields, or are numbered from 0. So is an object that has `__dataframe__`
+        or `__array__`.
     u, v, weight : optional
-        The names of the columns that have the endpoints and the weights. `weight` is called as in networkx; the functions that
-        take arrays call it `w`.
+        The names of the columns that have the endpoints and the weights. `weight` is called as in networkx; the
+        functions that take arrays call it `w`.
     maximum : bool, optional
         Whether to find the forest of greatest total weight instead.
 
     Returns
     -------
     Forest
-        Its `names` are the names of the vertices in ascending order: numbers by their values, then texts by their code points,
-        then all others. Names that Python calls equal, such as 1 and 1.0, are one vertex. `index` has the row of each edge.
+        Its `names` are the names of the vertices in ascending order: numbers by their values, then texts by their code
+        points, then all others. Names that Python calls equal, such as 1 and 1.0, are one vertex. `index` has the row
+        of each edge.
 
     Raises
     ------
     KeyError
         If the frame has no column of that name.
     ValueError
-        If a name is missing, a weight is NaN, the columns differ in length, or two columns have the same name. If a name is
-        a float of 2^53 or more, which may stand for several whole numbers. If columns are Series of pandas with different
-        indexes.
+        If a name is missing, a weight is NaN, the columns differ in length, or two columns have the same name. If a
+        name is a float of 2^53 or more, which may stand for several whole numbers. If columns are Series of pandas with
+        different indexes.
     TypeError
-        If a name isn't hashable, weights aren't numbers, a column is a single value, or the frame has no columns. If times
-        have two units, some have a time zone and some don't, some are dates without a time of day, or some are numpy's and some
-        aren't.
+        If a name isn't hashable, weights aren't numbers, a column is a single value, or the frame has no columns. If
+        times have two units, some have a time zone and some don't, some are dates without a time of day, or some are
+        numpy's and some aren't.
 
     Warns
     -----
     UserWarning
-        If two vertices are probably meant to be one: texts that differ only in outer spaces, or a text that is the text of a
-        number, of bytes or of a time, as "1" and 1. If a vertex has the text of a missing entry, as "" and "nan". If names can't
-        be ordered.
+        If two vertices are probably meant to be one: texts that differ only in outer spaces, or a text that is the text
+        of a number, of bytes or of a time, as "1" and 1. If a vertex has the text of a missing entry, as "" and "nan".
+        If names can't be ordered.
 
     Notes
     -----
-    Ties: edges of equal weight count in the order of the names of their endpoints, so the order of the rows changes nothing.
-    The exception are rows with equal weights and the same endpoints: the first of them counts. Sort the rows to choose it.
+    Ties: edges of equal weight count in the order of the names of their endpoints, so the order of the rows changes
+    nothing. The exception are rows with equal weights and the same endpoints: the first of them counts. Sort the rows
+    to choose it.
 
     Examples
     --------

@@ -50,8 +50,8 @@ def _expect_on_globe(given: NDArray[np.float64]) -> None:
 def _warn_if_swapped(given: NDArray[np.float64]) -> None:
     """Warn if a latitude is near a pole and every longitude could be a latitude.
 
-    That is the most that can be known about columns without names: where all numbers are from -75 to 75, both orders are
-    possible.
+    That is the most that can be known about columns without names: where all numbers are from -75 to 75, both orders
+    are possible.
     """
     latitudes, longitudes = np.abs(given).T
     if len(given) and latitudes.max() > POLAR >= longitudes.max():

@@ -42,7 +42,8 @@ class Edges(NamedTuple):
 
 
 def read_gr(path: str | os.PathLike[str]) -> Edges:
-    """Read a graph from a `.gr` file, the shortest-path format of the 9th DIMACS Challenge. It may be compressed by gzip.
+    """Read a graph from a `.gr` file, the shortest-path format of the 9th DIMACS Challenge. It may be compressed by
+    gzip.
 
     Parameters
     ----------
@@ -58,18 +59,19 @@ def read_gr(path: str | os.PathLike[str]) -> Edges:
     Raises
     ------
     ValueError
-        If the text is malformed: `roads.gr: line 3: MissingArcs` has the path, and the line and the name of the first error, as
-        the program reports them. If compressed data is truncated or damaged.
+        If the text is malformed: `roads.gr: line 3: MissingArcs` has the path, and the line and the name of the first
+        error, as the program reports them. If compressed data is truncated or damaged.
     OSError
         If the file can't be read.
 
     Notes
     -----
-    A library whose calls are proved checks the whole text, and counts its vertices. Python then reads the numbers; that is
-    tested.
+    A library whose calls are proved checks the whole text, and counts its vertices. Python then reads the numbers; that
+    is tested.
 
-    Cost: about three times the time of finding the forest. Memory is that of the text, and 45 bytes per edge. An untrusted
-    compressed file may be a thousand times as large in memory. Ctrl-C has no effect during the library's call, a third of the time.
+    Cost: about three times the time of finding the forest. Memory is that of the text, and 45 bytes per edge. An
+    untrusted compressed file may be a thousand times as large in memory. Ctrl-C has no effect during the library's
+    call, a third of the time.
 
     Examples
     --------
@@ -127,8 +129,8 @@ def write_gr(path: str | os.PathLike[str], *edges: Any, n: Any = None, u: Any = 
 
     Notes
     -----
-    Vertices are numbered from 1 in the file. For a minimum forest the text is the one that the program writes. Names, the
-    `index` of edges, and whether a forest is a maximum forest aren't written.
+    Vertices are numbered from 1 in the file. For a minimum forest the text is the one that the program writes. Names,
+    the `index` of edges, and whether a forest is a maximum forest aren't written.
 
     Examples
     --------

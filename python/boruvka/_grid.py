@@ -1,7 +1,8 @@
 """Near pairs of points in few dimensions, found by the cells of a grid.
 
-Points are sorted by their cells, row by row. So the points in the cells around a cell are in a few runs, and the earlier
-point of each pair finds the later one. A point outside the cells around another is at least a cell's side away from it.
+Points are sorted by their cells, row by row. So the points in the cells around a cell are in a few runs, and the
+earlier point of each pair finds the later one. A point outside the cells around another is at least a cell's side away
+from it.
 """
 
 from __future__ import annotations

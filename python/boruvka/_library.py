@@ -1,7 +1,7 @@
 """The calls of libboruvka on numpy arrays, by ctypes.
 
-The library is the one that BORUVKA_LIBRARY names, or the one next to this file, where the wheel puts it, or the one that
-the system's loader finds.
+The library is the one that BORUVKA_LIBRARY names, or the one next to this file, where the wheel puts it, or the one
+that the system's loader finds.
 """
 
 from __future__ import annotations
@@ -63,7 +63,8 @@ _library = _loaded()
 def indices(n: int, u: NDArray[np.uint32], v: NDArray[np.uint32], w: NDArray[np.int64]) -> NDArray[np.uint32]:
     """The indices of the forest's edges, in the order of their keys, among edges between the vertices 0 to n - 1.
 
-    n is at most MAX_VERTICES. u, v and w have one length, at most MAX_LINKS. An endpoint that is no vertex is a ValueError.
+    n is at most MAX_VERTICES. u, v and w have one length, at most MAX_LINKS. An endpoint that is no vertex is a
+    ValueError.
     """
     found = np.empty(min(len(w), max(n - 1, 0)), np.uint32)
     count = _library.boruvka_places_in(n, 0, *_passed(u), *_passed(v), *_passed(w), *_passed(found))
@@ -81,10 +82,11 @@ def labels(n: int, links: NDArray[np.void]) -> NDArray[np.uint32]:
 
 
 def merges(n: int, links: NDArray[np.void]) -> NDArray[np.void]:
-    """The merges of the clusters of the vertices 1 to n, by links that join them in this order. They have the dtype MERGE.
+    """The merges of the clusters of the vertices 1 to n, by links that join them in this order. They have the dtype
+    MERGE.
 
-    The links have the dtype LINK. Links that close a cycle or aren't in ascending order of their weights, and an endpoint that is no
-    vertex, are a ValueError.
+    The links have the dtype LINK. Links that close a cycle or aren't in ascending order of their weights, and an
+    endpoint that is no vertex, are a ValueError.
     """
     found = np.empty(len(links), MERGE)
     _checked(_library.boruvka_merges_in(n, *_passed(links), *_passed(found)))
@@ -92,7 +94,10 @@ def merges(n: int, links: NDArray[np.void]) -> NDArray[np.void]:
 
 
 def vertices_of_text(text: bytes) -> int:
-    """The number of vertices of a `.gr` text. For a malformed text, a ValueError has the line and the name of its first error."""
+    """The number of vertices of a `.gr` text.
+
+    For a malformed text, a ValueError has the line and the name of its first error.
+    """
     # (there is only room for the first line of the forest's text)
     head, error = ctypes.create_string_buffer(len("p sp 67108864 67108863\n")), _TextError()
     start = ctypes.cast(ctypes.c_char_p(text), ctypes.c_void_p)

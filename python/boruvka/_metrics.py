@@ -16,7 +16,10 @@ Numbers = NDArray[np.float64]
 
 
 class Metric(NamedTuple):
-    """`transformed` maps points. `distances` turns their Minkowski distances of exponent p into those of the metric, in the same order."""
+    """`transformed` maps points.
+
+    `distances` turns their Minkowski distances of exponent p into those of the metric, in the same order.
+    """
 
     p: float
     transformed: Callable[[Numbers], Numbers] = lambda points: points
@@ -56,8 +59,8 @@ def has_longitude_first(y: Any) -> bool:
 def why_perhaps_swapped(y: Any, given: Numbers) -> str | None:
     """The text of a warning if latitudes and longitudes, in radians, are probably swapped; None if they aren't.
 
-    Columns may have names, such as x and y, whose first usually points east. Columns without names are suspicious if a latitude is near a
-    pole, and every longitude could be a latitude. More can't be known about numbers alone.
+    Columns may have names, such as x and y, whose first usually points east. Columns without names are suspicious if a
+    latitude is near a pole, and every longitude could be a latitude. More can't be known about numbers alone.
     """
     names = [str(it) for it in getattr(y, "columns", ())]
     if not {it.strip().lower() for it in names}.isdisjoint([*LATITUDES, *LONGITUDES]) or given.ndim != 2 or given.shape[1] != 2:

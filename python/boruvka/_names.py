@@ -44,8 +44,8 @@ _TABLE = 8
 def numbered(columns: Columns) -> tuple[list[Any], list[NDArray[np.int32]]]:
     """The names in these columns in ascending order, and for each column the numbers of its names.
 
-    A name that is missing, or is a float that may stand for several whole numbers, is a ValueError. A name that isn't hashable is a
-    TypeError.
+    A name that is missing, or is a float that may stand for several whole numbers, is a ValueError. A name that isn't
+    hashable is a TypeError.
     """
     return _of_numbers(columns) or _of_objects(columns)
 
@@ -266,8 +266,8 @@ def _exact(real: Any) -> Any:
 def _expect_one_kind_of_times(names: Iterable[Any]) -> None:
     """Raise a TypeError if names are times that can't be compared.
 
-    Such are times in different units, with and without a time zone, with and without a time of day, or some numpy's and some Python's.
-    Equal ones among them have different hashes, or they are never equal.
+    Such are times in different units, with and without a time zone, with and without a time of day, or some numpy's and
+    some Python's. Equal ones among them have different hashes, or they are never equal.
     """
     types = {*map(type, names)}
     if any(issubclass(it, datetime.datetime) for it in types):

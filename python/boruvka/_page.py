@@ -1,7 +1,7 @@
 """Points in the page that draws them: one HTML file, which a browser opens from any folder, without a network.
 
-The page is in the wheel. Otherwise it is `share/boruvka/boruvka.html` of a package, or `dist/boruvka.html` in the repository, which
-`make page` makes.
+The page is in the wheel. Otherwise it is `share/boruvka/boruvka.html` of a package, or `dist/boruvka.html` in the
+repository, which `make page` makes.
 """
 
 from __future__ import annotations
@@ -42,8 +42,9 @@ def show(
     names : sequence of str, optional
         A name for each point.
     globe : bool
-        Whether the points are places on the globe in degrees: the latitude first, then the longitude, as in scikit-learn. Columns
-        named lat or latitude, and lon, lng, long or longitude, may be in either order. Lengths are kilometres on great circles.
+        Whether the points are places on the globe in degrees: the latitude first, then the longitude, as in
+        scikit-learn. Columns named lat or latitude, and lon, lng, long or longitude, may be in either order. Lengths
+        are kilometres on great circles.
     into : path, optional
         The file to write. It isn't opened then. By default it is a temporary file, which stays.
     page : path, optional
@@ -57,8 +58,9 @@ def show(
     Raises
     ------
     ValueError
-        If there are no points, or too many; a coordinate isn't finite, a latitude is beyond 90 degrees, or a longitude beyond 360;
-        there isn't a name for each point; a double would round a whole number; or the file isn't such a page.
+        If there are no points, or too many; a coordinate isn't finite, a latitude is beyond 90 degrees, or a longitude
+        beyond 360; there isn't a name for each point; a double would round a whole number; or the file isn't such a
+        page.
     TypeError
         If a coordinate isn't a real number, `globe` is neither True nor False, or `names` is a set, a dict or a string.
     FileNotFoundError
@@ -67,8 +69,8 @@ def show(
     Warns
     -----
     UserWarning
-        If latitudes and longitudes are probably swapped: a latitude is near a pole, and every longitude could be a latitude. Columns
-        without names whose numbers are all from -75 to 75 can't be checked.
+        If latitudes and longitudes are probably swapped: a latitude is near a pole, and every longitude could be a
+        latitude. Columns without names whose numbers are all from -75 to 75 can't be checked.
 
     Examples
     --------

@@ -24,8 +24,8 @@ _LARGE = 1 << 14
 class Rooted:
     """A forest whose trees hang from an additional vertex 0. The others are renumbered so that parents come first.
 
-    `above[k]` has the ancestor that is 2^k steps above each vertex, or 0 if the vertex is less deep. `edge` has the edge
-    between each vertex and its parent, or -1 for a root.
+    `above[k]` has the ancestor that is 2^k steps above each vertex, or 0 if the vertex is less deep. `edge` has the
+    edge between each vertex and its parent, or -1 for a root.
     """
 
     def __init__(self, forest: Forest) -> None:
@@ -70,7 +70,9 @@ class Rooted:
         return found
 
     def common_ancestor(self, a: int, b: int, deeper: int) -> int:
-        """The deepest vertex above a and b, which may be one of them; 0 if there is none. a is `deeper` steps deeper than b."""
+        """The deepest vertex above a and b, which may be one of them; 0 if there is none. a is `deeper` steps deeper
+        than b.
+        """
         if deeper < 0:
             a, b, deeper = b, a, -deeper
         for bit, above in enumerate(self.views):
@@ -134,8 +136,8 @@ def _searched_by_scipy(n: int, u: NDArray[np.intp], v: NDArray[np.intp]) -> tupl
 class Merged:
     """A forest as the merges of its clusters, in the order of `_best_first`.
 
-    Each merge puts the first vertex of the smaller cluster below that of the larger one. So at most log2(n) vertices are
-    above any other.
+    Each merge puts the first vertex of the smaller cluster below that of the larger one. So at most log2(n) vertices
+    are above any other.
     """
 
     def __init__(self, forest: Forest) -> None:

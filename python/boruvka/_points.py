@@ -36,7 +36,8 @@ _SAMPLE, _NEIGHBOURS = 24, 8
 
 
 class Space:
-    """Points under the Minkowski distance of exponent p, one per column. No edge of a point is below its height in `core`.
+    """Points under the Minkowski distance of exponent p, one per column. No edge of a point is below its height in
+    `core`.
 
     `is_tame` says that the powers of all distances are normal doubles. For that, coordinates are multiplied by 2^scale.
     """
@@ -96,7 +97,10 @@ class Space:
         return np.sqrt(powers, out=powers) if self.p == 2 and self.is_tame else powers
 
     def powers(self, rows: Iterable[Numbers], shape: tuple[int, ...]) -> Numbers:
-        """The sums of powers of vectors, coordinate by coordinate, in the order of lengths. `roots` turns them into lengths. `rows` is overwritten."""
+        """The sums of powers of vectors, coordinate by coordinate, in the order of lengths.
+
+        `roots` turns them into lengths. `rows` is overwritten.
+        """
         if self.p == 2 and self.is_tame:
             return added((np.multiply(it, it, out=it) for it in rows), shape)
         if self.p == 1:
@@ -132,8 +136,8 @@ def pieces(points: NDArray[Any], width: int) -> Iterator[NDArray[Any]]:
 def tree_of_points(points: Numbers, p: float, nearest: int | None) -> tuple[Indices, Indices, Numbers]:
     """The edges of a minimum spanning tree of points and their heights, in no particular order.
 
-    If `nearest` is given, the height of an edge is the greatest of its length and of the core distances of its endpoints. A
-    point's core distance is the distance to its `nearest`-th nearest point, counting itself.
+    If `nearest` is given, the height of an edge is the greatest of its length and of the core distances of its
+    endpoints. A point's core distance is the distance to its `nearest`-th nearest point, counting itself.
     """
     from boruvka._rounds import by_rounds
     from boruvka._rows import by_rows

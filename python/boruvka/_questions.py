@@ -21,8 +21,8 @@ if TYPE_CHECKING:
 class Edge(NamedTuple):
     """An edge of a forest, or columns of several edges.
 
-    u and v are its endpoints, and w is its weight. `index` is its index among the edges given, and `position` its index in
-    the forest.
+    u and v are its endpoints, and w is its weight. `index` is its index among the edges given, and `position` its index
+    in the forest.
     """
 
     u: Any

@@ -30,13 +30,14 @@ _PAST_DOUBLES = (1 << 1024) - (1 << 970)
 
 @dataclass(frozen=True, eq=False, repr=False)
 class Forest:
-    """The k edges of a forest of n vertices, as four arrays of length k: lightest first, or heaviest first if `maximum`.
+    """The k edges of a forest of n vertices, as four arrays of length k: lightest first, or heaviest first if
+    `maximum`.
 
-    A graph of n vertices and c components has a forest of k = n - c edges. `len` returns k, `==` compares all attributes,
-    and iteration yields u, v, w and index.
+    A graph of n vertices and c components has a forest of k = n - c edges. `len` returns k, `==` compares all
+    attributes, and iteration yields u, v, w and index.
 
-    If the vertices have names, `path`, `bottleneck`, `labels_by_name` and `replacements` take and return names instead of
-    numbers. After the first such question the arrays are read-only, because later results depend on them.
+    If the vertices have names, `path`, `bottleneck`, `labels_by_name` and `replacements` take and return names instead
+    of numbers. After the first such question the arrays are read-only, because later results depend on them.
 
     Attributes
     ----------
@@ -45,8 +46,8 @@ class Forest:
     w : ndarray
         The weight of each edge, in the dtype of the weights given.
     index : ndarray of intp
-        The index of each edge among the edges given. In a forest of `forest_of_chunks` it has the shape (k, 2): a chunk and
-        a row.
+        The index of each edge among the edges given. In a forest of `forest_of_chunks` it has the shape (k, 2): a chunk
+        and a row.
     n : int
         The number of vertices. They are 0 to n - 1. By default n is the greatest endpoint plus 1.
     maximum : bool
@@ -156,7 +157,8 @@ class Forest:
         clusters, height, min_size
             As `boruvka.linkage.labels` takes them.
         of : array_like, optional
-            Vertices, by their names if they have any. The result then has the label of each of these instead of all vertices.
+            Vertices, by their names if they have any. The result then has the label of each of these instead of all
+            vertices.
 
         Returns
         -------
@@ -178,7 +180,8 @@ class Forest:
     @overload
     def labels_by_name(self, *, clusters: None = None, height: Real, min_size: SupportsIndex = 1) -> dict[Any, int]: ...
     def labels_by_name(self, *, clusters: Any = None, height: Any = None, min_size: SupportsIndex = 1) -> dict[Any, int]:
-        """Label each vertex with its cluster, as a dict by the names of the vertices, or by their numbers if they have no names.
+        """Label each vertex with its cluster, as a dict by the names of the vertices, or by their numbers if they have
+        no names.
 
         The parameters and the errors are those of `labels`.
         """
@@ -202,8 +205,8 @@ class Forest:
         Returns
         -------
         list
-            The vertices on the path from a to b, including both. If a or b is a list or an array, the result is a list of such
-            paths, one for each pair; a single vertex is paired with each of the others.
+            The vertices on the path from a to b, including both. If a or b is a list or an array, the result is a list
+            of such paths, one for each pair; a single vertex is paired with each of the others.
 
         Raises
         ------
@@ -212,7 +215,8 @@ class Forest:
 
         Notes
         -----
-        Cost: the first call for a forest prepares all later ones; `bench.py` measures it. Without scipy this takes several times as long.
+        Cost: the first call for a forest prepares all later ones; `bench.py` measures it. Without scipy this takes
+        several times as long.
         """
         return self._questions.path(a, b)
 
@@ -229,8 +233,8 @@ class Forest:
         Returns
         -------
         Edge
-            A named tuple of the endpoints u and v, the weight w, the `index` among the edges given, and the `position` in the
-            forest. If a or b is a list or an array, each field has an entry for each pair.
+            A named tuple of the endpoints u and v, the weight w, the `index` among the edges given, and the `position`
+            in the forest. If a or b is a list or an array, each field has an entry for each pair.
 
         Raises
         ------
@@ -239,7 +243,8 @@ class Forest:
 
         Notes
         -----
-        Cost: the first call for a forest takes about as long as the forest itself. Each edge then takes at most 2 log2(n) steps.
+        Cost: the first call for a forest takes about as long as the forest itself. Each edge then takes at most 2
+        log2(n) steps.
         """
         return self._questions.bottleneck(a, b)
 
@@ -249,15 +254,15 @@ class Forest:
         Parameters
         ----------
         u, v, w : array_like, shape (m,)
-            All edges of the graph, in the order in which they were given when the forest was found. u and v are names if the forest
-            has names.
+            All edges of the graph, in the order in which they were given when the forest was found. u and v are names
+            if the forest has names.
 
         Returns
         -------
         ndarray of intp, shape (k,)
-            The index of the replacement among the edges given, or -1 if no other edge connects the same two parts. If edge i of the
-            forest fails, the forest of the remaining graph has edge `found[i]` instead, and its total changes by
-            `w[found[i]] - forest.w[i]`.
+            The index of the replacement among the edges given, or -1 if no other edge connects the same two parts. If
+            edge i of the forest fails, the forest of the remaining graph has edge `found[i]` instead, and its total
+            changes by `w[found[i]] - forest.w[i]`.
 
         Raises
         ------
@@ -296,7 +301,8 @@ class Forest:
     def to_frame(self) -> pandas.DataFrame:
         """Make a frame of pandas with the columns u, v, w and index.
 
-        u and v are names if the vertices have names. A forest of `forest_of_chunks` has the columns chunk and row instead of index.
+        u and v are names if the vertices have names. A forest of `forest_of_chunks` has the columns chunk and row
+        instead of index.
         """
         return _conversions.to_frame(self)
 
@@ -312,7 +318,8 @@ class Forest:
         Parameters
         ----------
         names : sequence, optional
-            The names of its vertices. By default they are the names of the forest, or the numbers of the vertices if it has none.
+            The names of its vertices. By default they are the names of the forest, or the numbers of the vertices if it
+            has none.
 
         Returns
         -------

@@ -1,10 +1,10 @@
 """Minimum spanning trees of points by Borůvka's rounds on a k-d tree: each component needs its nearest point outside.
 
-In two and three dimensions, many points first consider those in the cells of a grid around them. The reach of a point is
-the radius within which all others are known. So the lightest known edge out of a component is its lightest edge, if all
-its points reach that far. Points that don't reach that far query the tree for twice as many neighbours. If a component
-has too many of them, it is compared with each other component by bounds (`_across`), or its points query trees without
-the component.
+In two and three dimensions, many points first consider those in the cells of a grid around them. The reach of a point
+is the radius within which all others are known. So the lightest known edge out of a component is its lightest edge, if
+all its points reach that far. Points that don't reach that far query the tree for twice as many neighbours. If a
+component has too many of them, it is compared with each other component by bounds (`_across`), or its points query
+trees without the component.
 """
 
 from __future__ import annotations
@@ -83,7 +83,10 @@ def core_by_trees(space: Space, trees: Trees, nearest: int) -> Numbers:
 
 
 def _once(space: Space) -> tuple[Indices, Indices, Indices]:
-    """The first of each set of equal points; the other points, and for each of them the first equal one. Only if many points are equal."""
+    """The first of each set of equal points; the other points, and for each of them the first equal one.
+
+    Only if many points are equal.
+    """
     none = np.empty(0, np.intp)
     sorted_numbers = np.sort(space.columns[0])
     if not (sorted_numbers[_SHARED:] == sorted_numbers[:-_SHARED]).any():
@@ -98,9 +101,10 @@ def _once(space: Space) -> tuple[Indices, Indices, Indices]:
 class Rounds:
     """Rounds on points: `label` has the component of each, and `count` is the number of components.
 
-    `reach` is the radius around each point within which all edges out of its component are known, and `low` the least reach in
-    each component. `one`, `other` and `lengths` are a minimum spanning forest of the known edges between components,
-    lightest first. `found` are known edges that aren't in it yet, and `proved` the edges of the tree so far.
+    `reach` is the radius around each point within which all edges out of its component are known, and `low` the least
+    reach in each component. `one`, `other` and `lengths` are a minimum spanning forest of the known edges between
+    components, lightest first. `found` are known edges that aren't in it yet, and `proved` the edges of the tree so
+    far.
     """
 
     def __init__(self, space: Space, chosen: Indices, trees: Trees) -> None:
@@ -161,7 +165,9 @@ class Rounds:
             self.note(some, np.where(is_twice, n, others))
 
     def merge(self) -> Numbers:
-        """Merge components along edges that are surely their lightest, until there is none; return the lightest known heights."""
+        """Merge components along edges that are surely their lightest, until there is none; return the lightest known
+        heights.
+        """
         while True:
             first = self.first_edges()
             heights = np.append(self.lengths, np.inf)[first]
@@ -198,7 +204,8 @@ class Rounds:
         self.one, self.other, self.lengths = self.one[is_open], self.other[is_open], self.lengths[is_open]
 
     def look_further(self, heights: Numbers) -> None:
-        """Extend the reach of short points: those that don't reach as far as the lightest known edge out of their component.
+        """Extend the reach of short points: those that don't reach as far as the lightest known edge out of their
+        component.
 
         The component with the most short points is left out.
         """
@@ -218,7 +225,9 @@ class Rounds:
         np.minimum.at(self.low, self.label[short], self.reach[short])
 
     def are_too_many(self, points: Indices, counts: Indices) -> NDArray[np.bool_]:
-        """Whether each of these points, which queried equally many neighbours, is in a component with too many short points to query more."""
+        """Whether each of these points, which queried equally many neighbours, is in a component with too many short
+        points to query more.
+        """
         if not len(points):
             return np.zeros(0, bool)
         asked = self.asked[points[0]]
@@ -230,7 +239,9 @@ class Rounds:
         return found
 
     def look_across(self, short: Indices, counts: Indices, heights: Numbers) -> Numbers:
-        """Compare components that have too many short points with all others, if there are few; return the lightest known heights."""
+        """Compare components that have too many short points with all others, if there are few; return the lightest
+        known heights.
+        """
         if self.count > _COMPONENTS:
             return heights
         wide = np.zeros(self.count, bool)

@@ -1,4 +1,6 @@
-"""Minimum spanning trees of points by Prim's algorithm: each point that joins the tree is compared with all points outside it."""
+"""Minimum spanning trees of points by Prim's algorithm: each point that joins the tree is compared with all points
+outside it.
+"""
 
 from __future__ import annotations
 
@@ -71,9 +73,9 @@ def has_products(space: Space) -> bool:
 class Products:
     """Squares of distances by matrix products.
 
-    `whole` are the points with their mean at 0, and `halves` are half the squares of their lengths. Half the square of a
-    distance is the sum of two halves minus a product. `slack` is an upper bound for the difference between this and the square
-    of a distance that `Space.norms` computes.
+    `whole` are the points with their mean at 0, and `halves` are half the squares of their lengths. Half the square of
+    a distance is the sum of two halves minus a product. `slack` is an upper bound for the difference between this and
+    the square of a distance that `Space.norms` computes.
     """
 
     def __init__(self, space: Space) -> None:
@@ -102,8 +104,8 @@ def _together(row: Indices, other: Indices, width: int) -> list[tuple[Indices, I
 class Rest:
     """The points outside the tree, the distance of each to the tree, and the point of the tree that is nearest to it.
 
-    With products, `columns` have their mean at 0, `half` is half the square of each length, and a point is nearer than before
-    only if a product exceeds its `bar`.
+    With products, `columns` have their mean at 0, `half` is half the square of each length, and a point is nearer than
+    before only if a product exceeds its `bar`.
     """
 
     def __init__(self, space: Space) -> None:

@@ -19,8 +19,8 @@ _A_PART = 6
 def indices_by_threads(n: int, u: NDArray[np.uint32], v: NDArray[np.uint32], w: NDArray[np.int64], threads: int) -> NDArray[np.uint32]:
     """The result of `_library.indices`, on at most `threads` threads, and at most one per processor.
 
-    The forest of the parts' forests is the forest of the whole: this is proved. Among equal edges the first counts, because
-    the edges of a part come before those of later parts.
+    The forest of the parts' forests is the forest of the whole: this is proved. Among equal edges the first counts,
+    because the edges of a part come before those of later parts.
     """
     parts = min(threads, _processors(), len(w) // max(_A_PART * n, 1))
     if parts < 2 or len(w) < _WORTH * n:

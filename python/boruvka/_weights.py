@@ -15,8 +15,8 @@ _MOST = (1 << 63) - 1
 def ordered(weights: NDArray[Any], maximum: bool = False, name: str = "w") -> NDArray[np.int64]:
     """Integers in the order of these weights, equal where the weights are. If `maximum` is true, the order is reversed.
 
-    For int64 the result is the array itself, if C can take it. A NaN, or a number above 2^63 - 1, is a ValueError. Any dtype
-    other than bool, integers of up to 64 bits and floats of up to 64 bits is a TypeError.
+    For int64 the result is the array itself, if C can take it. A NaN, or a number above 2^63 - 1, is a ValueError. Any
+    dtype other than bool, integers of up to 64 bits and floats of up to 64 bits is a TypeError.
     """
     kind, size = weights.dtype.kind, weights.dtype.itemsize
     if kind not in "biuf" or size > 8:

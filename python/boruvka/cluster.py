@@ -97,8 +97,8 @@ class SingleLinkage(_OverTree):
     tree_ : Forest
         The minimum spanning tree of the points.
     children_ : ndarray of intp, shape (n_samples - 1, 2)
-        The two clusters that each merge joins, as in AgglomerativeClustering of scikit-learn: the points are the clusters
-        0 to n_samples - 1, and merge i makes the cluster n_samples + i.
+        The two clusters that each merge joins, as in AgglomerativeClustering of scikit-learn: the points are the
+        clusters 0 to n_samples - 1, and merge i makes the cluster n_samples + i.
     distances_ : ndarray of doubles, shape (n_samples - 1,)
         The distance between these two clusters.
     n_clusters_ : int
@@ -173,8 +173,8 @@ class HDBSCAN(_OverTree):
     metric, p
         As `boruvka.linkage.spanning_tree` takes them.
     cluster_selection_method : {"eom", "leaf"}, optional
-        Whether to select the clusters of greatest total stability ("eom", excess of mass), or those that split no further
-        ("leaf").
+        Whether to select the clusters of greatest total stability ("eom", excess of mass), or those that split no
+        further ("leaf").
     cluster_selection_epsilon : float, optional
         A cluster that split from its parent below this distance is replaced by its parent, and so on (Malzer and Baum,
         2020). The root isn't selected unless allow_single_cluster is true.
@@ -189,11 +189,11 @@ class HDBSCAN(_OverTree):
     labels_ : ndarray of intp, shape (n_samples,)
         The cluster of each point, from 0, or -1 for noise. Clusters are numbered by their first points.
     probabilities_ : ndarray of doubles, shape (n_samples,)
-        How strongly each point belongs to its cluster: the density at which it leaves, divided by that at which the last point
-        does.
+        How strongly each point belongs to its cluster: the density at which it leaves, divided by that at which the
+        last point does.
     outlier_scores_ : ndarray of doubles, shape (n_samples,)
-        How much of an outlier each point is, from 0 to 1: 1 minus the density at which it leaves its last cluster, divided by
-        that at which the last point leaves this cluster or one within it (GLOSH, Campello and others, 2015).
+        How much of an outlier each point is, from 0 to 1: 1 minus the density at which it leaves its last cluster,
+        divided by that at which the last point leaves this cluster or one within it (GLOSH, Campello and others, 2015).
     condensed_tree_ : CondensedTree
         The tree from which the clusters are selected: `to_frame()` lists it, `plot()` draws it.
     tree_ : Forest

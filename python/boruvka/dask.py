@@ -18,8 +18,8 @@ def minimum_spanning_forest(
 ) -> Any:
     """Find the rows of a dask frame that are in the minimum spanning forest of its edges.
 
-    Each partition is reduced to its own forest by the worker that has it. Then `split_every` forests at a time are merged and
-    reduced, until one is left. So no process holds all edges. Any scheduler of dask may be used.
+    Each partition is reduced to its own forest by the worker that has it. Then `split_every` forests at a time are
+    merged and reduced, until one is left. So no process holds all edges. Any scheduler of dask may be used.
 
     Parameters
     ----------
@@ -38,27 +38,29 @@ def minimum_spanning_forest(
     -------
     dask.dataframe.DataFrame
         The rows of the forest, with all their columns and labels, as one partition, in the order of
-        `boruvka.minimum_spanning_forest`. Among edges that are equal in all three columns, the first row of the first partition
-        counts.
+        `boruvka.minimum_spanning_forest`. Among edges that are equal in all three columns, the first row of the first
+        partition counts.
 
     Raises
     ------
     KeyError
         If the frame has no column of that name.
     ValueError, TypeError, MemoryError
-        As `boruvka.minimum_spanning_forest` does. Also a TypeError if the frame isn't one of dask, or if a partition has
-        dtypes other than those of the frame. Errors in rows are raised when the result is computed, and begin with the
-        partition, as in `partition 3: `.
+        As `boruvka.minimum_spanning_forest` does. Also a TypeError if the frame isn't one of dask, or if a partition
+        has dtypes other than those of the frame. Errors in rows are raised when the result is computed, and begin with
+        the partition, as in `partition 3: `.
 
     Notes
     -----
-    Vertices are numbers here. `boruvka.from_edges(frame)` takes a dask frame with names, but loads its three columns into memory.
+    Vertices are numbers here. `boruvka.from_edges(frame)` takes a dask frame with names, but loads its three columns
+    into memory.
 
-    Cost: a partition should have at least ten edges per vertex. With fewer, most of its edges are in its forest, and are sent
-    to another worker. A worker holds at most `split_every` forests at a time, of fewer than n rows each. On one machine this
-    saves memory, not time: if the edges fit into memory, `boruvka.minimum_spanning_forest` is faster.
+    Cost: a partition should have at least ten edges per vertex. With fewer, most of its edges are in its forest, and
+    are sent to another worker. A worker holds at most `split_every` forests at a time, of fewer than n rows each. On
+    one machine this saves memory, not time: if the edges fit into memory, `boruvka.minimum_spanning_forest` is faster.
 
-    Workers import this package. Worker processes must not be forked from a process with threads; dask's own are spawned.
+    Workers import this package. Worker processes must not be forked from a process with threads; dask's own are
+    spawned.
 
     Examples
     --------

@@ -40,21 +40,23 @@ def single_linkage(y: ArrayLike | SparseMatrix, *, metric: str = "euclidean", p:
     Parameters
     ----------
     y : array_like, shape (n, d) or (n (n - 1) / 2,)
-        Points, one per row, or the distances between all pairs: those from vertex 0 to 1, 2, .., then from 1 to 2, and so on.
+        Points, one per row, or the distances between all pairs: those from vertex 0 to 1, 2, .., then from 1 to 2, and
+        so on.
     metric, p, min_samples
         As `spanning_tree` takes them.
 
     Returns
     -------
     ndarray of doubles, shape (n - 1, 4)
-        A linkage matrix for the functions of `scipy.cluster.hierarchy`. Row i merges the clusters Z[i, 0] < Z[i, 1] into the
-        cluster n + i. Z[i, 2] is the distance between them, and Z[i, 3] the number of points in the new cluster.
+        A linkage matrix for the functions of `scipy.cluster.hierarchy`. Row i merges the clusters Z[i, 0] < Z[i, 1]
+        into the cluster n + i. Z[i, 2] is the distance between them, and Z[i, 3] the number of points in the new
+        cluster.
 
     Raises
     ------
     ValueError
-        If a coordinate or a distance isn't finite or is masked, a distance is negative, there are no points, no number of
-        points has so many pairs, or there are more than 2^30 pairs to compare.
+        If a coordinate or a distance isn't finite or is masked, a distance is negative, there are no points, no number
+        of points has so many pairs, or there are more than 2^30 pairs to compare.
     TypeError
         If coordinates or distances aren't numbers.
 
@@ -82,67 +84,68 @@ def spanning_tree(y: ArrayLike | SparseMatrix, *, metric: str = "euclidean", p: 
     Parameters
     ----------
     y : array_like, shape (n, d) or (n (n - 1) / 2,), or sparse matrix, shape (n, n)
-        Points or distances, as `single_linkage` takes them. The entries of a sparse matrix are distances, and a stored 0 is
-        one too. Pairs without an entry have no edge, so there may be several components. The lesser of (i, j) and (j, i)
-        counts.
+        Points or distances, as `single_linkage` takes them. The entries of a sparse matrix are distances, and a stored
+        0 is one too. Pairs without an entry have no edge, so there may be several components. The lesser of (i, j) and
+        (j, i) counts.
     metric : str, optional
         The distance between points: "euclidean" ("l2"), "manhattan" ("cityblock", "l1"), "chebyshev", "minkowski",
         "haversine", "cosine", or "precomputed".
 
         For "haversine" each row is a latitude and then a longitude, both in radians, as in scikit-learn. Heights are in
-        radians: multiplied by 6371 they are kilometres on the earth. If y is a frame whose columns are named "lat" and "lon",
-        or similarly, their names decide, whatever their order.
+        radians: multiplied by 6371 they are kilometres on the earth. If y is a frame whose columns are named "lat" and
+        "lon", or similarly, their names decide, whatever their order.
 
-        For "precomputed" y has distances: a square matrix of those of all pairs, or one of the forms that need no metric. The
-        matrix has to be symmetric and 0 on its diagonal up to rounding: 1e-5 of an entry and 1e-7 of the greatest. The lesser
-        of (i, j) and (j, i) counts.
+        For "precomputed" y has distances: a square matrix of those of all pairs, or one of the forms that need no
+        metric. The matrix has to be symmetric and 0 on its diagonal up to rounding: 1e-5 of an entry and 1e-7 of the
+        greatest. The lesser of (i, j) and (j, i) counts.
     p : float, optional
         The exponent of "minkowski", at least 1.
     min_samples : int, optional
-        If given, use HDBSCAN's mutual reachability distance: the greatest of the distance between two points and their core
-        distances. A point's core distance is the distance to its `min_samples`-th nearest point, counting itself (Campello
-        and others, 2013).
+        If given, use HDBSCAN's mutual reachability distance: the greatest of the distance between two points and their
+        core distances. A point's core distance is the distance to its `min_samples`-th nearest point, counting itself
+        (Campello and others, 2013).
 
     Returns
     -------
     Forest
-        n - 1 edges between the vertices 0 to n - 1, in ascending order of their heights. `index` has the index of each edge
-        among the distances between all pairs, or for a sparse matrix among its entries.
+        n - 1 edges between the vertices 0 to n - 1, in ascending order of their heights. `index` has the index of each
+        edge among the distances between all pairs, or for a sparse matrix among its entries.
 
     Raises
     ------
     ValueError
-        As `single_linkage` does. If the metric isn't one of these; if p is below 1, above all doubles, or given with another
-        metric; if min_samples isn't from 1 to n; if a row isn't valid for the metric, such as a latitude beyond a right angle.
-        If a matrix of "precomputed" isn't square, symmetric and 0 on its diagonal. If a sparse matrix has two entries at one
-        position, or a bsr_matrix or dia_matrix stores a 0 that may only fill the format.
+        As `single_linkage` does. If the metric isn't one of these; if p is below 1, above all doubles, or given with
+        another metric; if min_samples isn't from 1 to n; if a row isn't valid for the metric, such as a latitude beyond
+        a right angle. If a matrix of "precomputed" isn't square, symmetric and 0 on its diagonal. If a sparse matrix
+        has two entries at one position, or a bsr_matrix or dia_matrix stores a 0 that may only fill the format.
     TypeError
-        As `single_linkage` does. If p isn't a number, min_samples isn't a whole number, or min_samples, p or a metric other
-        than "precomputed" is given with distances.
+        As `single_linkage` does. If p isn't a number, min_samples isn't a whole number, or min_samples, p or a metric
+        other than "precomputed" is given with distances.
 
     Warns
     -----
     ClusterWarning of scipy, or UserWarning
         If points look like a square matrix of distances, as scipy warns.
     UserWarning
-        If points for "haversine" look like degrees, or their latitudes and longitudes are probably swapped. In a frame with
-        columns such as x and y the first usually points east. In an array without names, swapped columns are noticed only if
-        a latitude is beyond a right angle (an error), or is beyond 75 degrees while no longitude is (a warning).
+        If points for "haversine" look like degrees, or their latitudes and longitudes are probably swapped. In a frame
+        with columns such as x and y the first usually points east. In an array without names, swapped columns are
+        noticed only if a latitude is beyond a right angle (an error), or is beyond 75 degrees while no longitude is (a
+        warning).
 
     Notes
     -----
-    Heights are those of all pairs up to rounding, whatever the points are. Those of haversine are rounded by up to 1e-15, and
-    near the antipode by 1e-7. One function computes every length that is compared with another, and also core distances, so
-    equal vectors have equal lengths.
+    Heights are those of all pairs up to rounding, whatever the points are. Those of haversine are rounded by up to
+    1e-15, and near the antipode by 1e-7. One function computes every length that is compared with another, and also
+    core distances, so equal vectors have equal lengths.
 
-    Cost: with scipy, points in few dimensions, and clustered points in up to 32, take about n log n time and 500 bytes per
-    point. A sample of the points decides that. Other points take n^2 d steps, of which a processor does about 10^9 per second,
-    and 5 times the memory of the points. So do points in more than one dimension if p (53 + b) is at least 950, where 2^b is
-    the ratio of the greatest to the least coordinate other than 0, and an infinite p counts as 1. For p = 2 that is a ratio
-    of 1e127, for p = 10 of 4e12, and from p = 18 on any: set tiny coordinates to 0 first.
+    Cost: with scipy, points in few dimensions, and clustered points in up to 32, take about n log n time and 500 bytes
+    per point. A sample of the points decides that. Other points take n^2 d steps, of which a processor does about 10^9
+    per second, and 5 times the memory of the points. So do points in more than one dimension if p (53 + b) is at least
+    950, where 2^b is the ratio of the greatest to the least coordinate other than 0, and an infinite p counts as 1. For
+    p = 2 that is a ratio of 1e127, for p = 10 of 4e12, and from p = 18 on any: set tiny coordinates to 0 first.
 
-    Distances take about 40 bytes and 100 nanoseconds per pair; scipy's own linkage is several times as fast for them. A square
-    matrix of distances takes the same time, and twice its own memory.
+    Distances take about 40 bytes and 100 nanoseconds per pair; scipy's own linkage is several times as fast for them. A
+    square matrix of distances takes the same time, and twice its own memory.
 
     Examples
     --------
@@ -176,7 +179,10 @@ def spanning_tree(y: ArrayLike | SparseMatrix, *, metric: str = "euclidean", p: 
 
 
 def _latitudes_first(y: Any, given: NDArray[np.float64]) -> NDArray[np.float64]:
-    """Points with the latitude in the first column, which the names of a frame's columns may say. Warn if they may be degrees or swapped."""
+    """Points with the latitude in the first column, which the names of a frame's columns may say.
+
+    Warn if they may be degrees or swapped.
+    """
     given = given[:, ::-1] if has_longitude_first(y) else given
     why = why_perhaps_swapped(y, given)
     if why:
@@ -255,7 +261,8 @@ def labels(
     n : int
         The number of vertices.
     forest : Forest
-        Their forest, from `spanning_tree` or `minimum_spanning_forest`. If its edges are in another order, they are sorted.
+        Their forest, from `spanning_tree` or `minimum_spanning_forest`. If its edges are in another order, they are
+        sorted.
     clusters : int, optional
         The number of clusters, from the number of the forest's components to n.
     height : float, optional
@@ -271,18 +278,18 @@ def labels(
     Raises
     ------
     ValueError
-        If there can't be so many clusters, min_size is negative, the height is NaN, the forest has n or more edges or a vertex
-        that isn't below n, or the edges that are kept close a cycle.
+        If there can't be so many clusters, min_size is negative, the height is NaN, the forest has n or more edges or a
+        vertex that isn't below n, or the edges that are kept close a cycle.
     TypeError
-        If both or neither of `clusters` and `height` are given, n, `clusters` or min_size isn't a whole number, `height`
-        isn't a real number, or `forest` isn't a Forest.
+        If both or neither of `clusters` and `height` are given, n, `clusters` or min_size isn't a whole number,
+        `height` isn't a real number, or `forest` isn't a Forest.
 
     Notes
     -----
     The components of the graph are its clusters at `height=np.inf`, or at -np.inf in a maximum forest.
 
-    The number of clusters often shows in the last weights, `forest.w[-10:]`: where they jump, clusters are far apart. Among edges
-    of equal weight `clusters` removes those that come last in the forest; `height` treats them alike.
+    The number of clusters often shows in the last weights, `forest.w[-10:]`: where they jump, clusters are far apart.
+    Among edges of equal weight `clusters` removes those that come last in the forest; `height` treats them alike.
 
     Cost: about the time of going over the vertices ten times; 24 bytes per edge and 12 per vertex.
 
@@ -380,7 +387,9 @@ def _of_points(points: NDArray[np.float64], metric: Metric, min_samples: int | N
 
 @lru_cache(maxsize=8)
 def _few_pairs(n: int) -> tuple[NDArray[np.uint32], NDArray[np.uint32], NDArray[np.intp]]:
-    """The endpoints of all pairs of a few points, and their positions in a square matrix: at most 200 KB, cached because computing them takes longer than the rest."""
+    """The endpoints of all pairs of a few points, and their positions in a square matrix: at most 200 KB, cached
+    because computing them takes longer than the rest.
+    """
     low, high = pairs_of(n)
     return low.view(np.uint32), high.view(np.uint32), low * np.intp(n) + high
 

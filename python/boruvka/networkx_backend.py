@@ -5,8 +5,8 @@ returns with Kruskal's algorithm: the same edges in the same order. Calls with a
 networkx. So are calls whose weights can't be ordered as 64-bit numbers: integers of more than 64 bits, doubles together
 with integers above 2^53, and other types such as `Fraction`.
 
-The first call puts the endpoints of the edges into arrays. Networkx (from version 3.3 on) stores these with the graph, and
-drops them when a method changes the graph. With a view it stores nothing. Weights are read at each call.
+The first call puts the endpoints of the edges into arrays. Networkx (from version 3.3 on) stores these with the graph,
+and drops them when a method changes the graph. With a view it stores nothing. Weights are read at each call.
 """
 
 from __future__ import annotations
@@ -36,9 +36,11 @@ class Unsuited(Exception):
 
 
 class ArrayGraph:
-    """A graph of networkx, with its edges in networkx's order: arrays of their endpoints, and lists of their keys and data.
+    """A graph of networkx, with its edges in networkx's order: arrays of their endpoints, and lists of their keys and
+    data.
 
-    Tuples are made only for the edges of the forest, because making one for each edge takes longer than finding the forest.
+    Tuples are made only for the edges of the forest, because making one for each edge takes longer than finding the
+    forest.
     """
 
     __networkx_backend__ = "boruvka"

@@ -22,10 +22,10 @@ def minimum_spanning_tree(csgraph: spmatrix | ArrayLike, overwrite: bool = False
     Parameters
     ----------
     csgraph : array_like or sparse matrix, shape (n, n)
-        Entry (i, j) is the weight of an edge between the vertices i and j, and so is entry (j, i): the better of them counts.
-        In a sparse matrix every entry that it stores is an edge; a stored 0 is an edge of weight 0. In a dense array zeros,
-        infinities and NaNs are no edges. In a masked array exactly the masked entries are no edges. Weights are converted to
-        doubles.
+        Entry (i, j) is the weight of an edge between the vertices i and j, and so is entry (j, i): the better of them
+        counts. In a sparse matrix every entry that it stores is an edge; a stored 0 is an edge of weight 0. In a dense
+        array zeros, infinities and NaNs are no edges. In a masked array exactly the masked entries are no edges.
+        Weights are converted to doubles.
     overwrite : bool, optional
         Without effect: csgraph is never written.
     maximum : bool, optional
@@ -34,16 +34,16 @@ def minimum_spanning_tree(csgraph: spmatrix | ArrayLike, overwrite: bool = False
     Returns
     -------
     csr_matrix of doubles, shape (n, n)
-        The entries of the forest's edges, at the same positions as in csgraph. As in scipy, an edge that a sparse matrix stores
-        as 0 counts, but isn't in the result. `minimum_spanning_forest` returns such edges.
+        The entries of the forest's edges, at the same positions as in csgraph. As in scipy, an edge that a sparse
+        matrix stores as 0 counts, but isn't in the result. `minimum_spanning_forest` returns such edges.
 
     Raises
     ------
     ValueError
-        If csgraph isn't square, or has a NaN that is stored in a sparse matrix or not masked in a masked array. If scipy
-        finds that a sparse matrix isn't well formed. If a bsr_matrix or dia_matrix stores a 0 off the main diagonal, which may
-        only fill the format. If the columns of a frame have the labels of its rows, but in another order. If csgraph is a list
-        of rows with masked entries.
+        If csgraph isn't square, or has a NaN that is stored in a sparse matrix or not masked in a masked array. If
+        scipy finds that a sparse matrix isn't well formed. If a bsr_matrix or dia_matrix stores a 0 off the main
+        diagonal, which may only fill the format. If the columns of a frame have the labels of its rows, but in another
+        order. If csgraph is a list of rows with masked entries.
     TypeError
         If weights aren't real numbers, or `maximum` is neither True nor False.
 

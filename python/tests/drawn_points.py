@@ -1,7 +1,7 @@
 """Drawn points, whose trees and clusters are compared with references. `SORTS` has a function for each sort of case.
 
-The lengths of the references are long doubles, and their trees come from Prim's algorithm on the matrix of all lengths. The
-reference clusters follow the definitions of HDBSCAN, as in test_cluster.py.
+The lengths of the references are long doubles, and their trees come from Prim's algorithm on the matrix of all lengths.
+The reference clusters follow the definitions of HDBSCAN, as in test_cluster.py.
 """
 
 import contextlib

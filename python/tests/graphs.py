@@ -65,7 +65,9 @@ def kruskal(n, u, v, order):
 
 
 def by_key(graph, maximum=False):
-    """The indices of the forest's edges, in the order of (weight, lower endpoint, higher endpoint, index); heaviest first for a maximum."""
+    """The indices of the forest's edges, in the order of (weight, lower endpoint, higher endpoint, index); heaviest
+    first for a maximum.
+    """
     ends = [(min(it), max(it)) for it in zip(graph.u, graph.v)]
     order = sorted(range(len(graph.w)), key=lambda i: (*ends[i], i))
     # (sorting is stable, also in reverse)

@@ -512,7 +512,9 @@ class Estimators(unittest.TestCase):
         self.assertEqual(SingleLinkage(distance_threshold=0.5, n_clusters=None).fit_predict(even).tolist(), [0, 0, 1])
 
     def test_what_would_be_made_doubles(self):
-        """scikit-learn would convert them: the differences of the long doubles would be 0, and the last text would change by one."""
+        """scikit-learn would convert them: the differences of the long doubles would be 0, and the last text would
+        change by one.
+        """
         longs = np.array([[1], [2], [3]], np.longdouble)
         for points, output in [
             (1 + longs * np.finfo(np.longdouble).eps, "dtype float128"),

@@ -211,7 +211,7 @@ class Knowing(unittest.TestCase):
             self.forest.to_networkx("ab")
         with self.assertRaisesRegex(ValueError, r"^names\[3\] and names\[1\] are both 'b': networkx would make one vertex of both$"):
             self.forest.to_networkx("abcbefg")
-        with self.assertRaisesRegex(TypeError, r"^names\[2\] is a list, which isn't hashable, as vertices of networkx are$"):
+        with self.assertRaisesRegex(TypeError, r"^names\[2\] is a list, which isn't hashable, as vertices of networkx have to be$"):
             self.forest.to_networkx([0, 1, [2], 3, 4, 5, 6])
 
     def test_ends_that_are_no_vertices_of_it(self):

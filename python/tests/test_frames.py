@@ -364,7 +364,7 @@ class Rejected(unittest.TestCase):
         days = np.array(["2020-01-01"], "M8[D]")
         self.expect(TypeError, r"the endpoints have the dtypes datetime64\[D\] and datetime64\[s\]: \.astype converts one", {"u": days, "v": days.astype("M8[s]"), "w": [1]})
         self.expect(TypeError, r"the dtypes timedelta64\[D\] and timedelta64\[s\]", {"u": [np.timedelta64(1, "D")], "v": [np.timedelta64(86400, "s")], "w": [1]})
-        pattern = r"^some endpoints are times of numpy \(datetime64\[D\]\), and of the type datetime: numpy\.asarray\(column, 'datetime64\[D\]'\) of each makes one of them$"
+        pattern = r"^some endpoints are times of numpy \(datetime64\[D\]\), and some have the type datetime: numpy\.asarray\(column, 'datetime64\[D\]'\) converts a column$"
         self.expect(TypeError, pattern, {"u": days, "v": [datetime.datetime(2020, 1, 1)], "w": [1]})
         zoned = datetime.datetime(2020, 1, 1, tzinfo=datetime.timezone.utc)
         self.expect(TypeError, "^the ends are times with a zone, and times without", {"u": [zoned], "v": [zoned.replace(tzinfo=None)], "w": [1]})

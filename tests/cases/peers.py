@@ -1,6 +1,7 @@
 """Peers' own tests, as they are installed, on the package for Python. All of them have to pass.
 
-python/tests/peers/stand_ins.py replaces functions of the peers by those of the package. A suite is skipped if its peer isn't installed.
+python/tests/peers/stand_ins.py replaces functions of the peers by those of the package. A suite is skipped if its peer
+isn't installed.
 """
 import os
 import re

@@ -1,6 +1,7 @@
 """The package for Python: what its wheel has, that pip installs it, and its own tests on the wheel.
 
-They run in a Python that has numpy, and are skipped if there is none. A test that needs another missing package is skipped too.
+They run in a Python that has numpy, and are skipped if there is none. A test that needs another missing package is
+skipped too.
 """
 import ast
 import base64
@@ -42,9 +43,9 @@ def python():
     code = "import importlib.util, sys; print(*(importlib.util.find_spec(it) is not None for it in sys.argv[1:]))"
     found = []
     for path in filter(os.path.exists, PYTHONS):
-        told = run([path, "-c", code, *USED], env=WITHOUT)[1].decode().split()
-        if told[:1] == ["True"]:
-            found.append((told.count("True"), path))
+        printed = run([path, "-c", code, *USED], env=WITHOUT)[1].decode().split()
+        if printed[:1] == ["True"]:
+            found.append((printed.count("True"), path))
     if not found:
         raise Skipped("no Python has numpy")
     return max(found, key=lambda it: it[0])[1]
@@ -72,11 +73,11 @@ def site(room):
 
 def borrowed_networkx(room, python):
     """A folder with a networkx that has backends, from any Python of the same version: it has no compiled parts."""
-    wanted = run([python, "-c", "import sys; print(*sys.version_info[:2])"], env=WITHOUT)[1].decode().strip()
-    told = [run([it, "-c", NETWORKX], env=WITHOUT)[1].decode().splitlines() for it in filter(os.path.exists, PYTHONS)]
-    folders = next((it[2:] for it in told if it and it[0] == wanted and tuple(map(int, it[1].split())) >= (3, 2)), None)
+    expected = run([python, "-c", "import sys; print(*sys.version_info[:2])"], env=WITHOUT)[1].decode().strip()
+    printed = [run([it, "-c", NETWORKX], env=WITHOUT)[1].decode().splitlines() for it in filter(os.path.exists, PYTHONS)]
+    folders = next((it[2:] for it in printed if it and it[0] == expected and tuple(map(int, it[1].split())) >= (3, 2)), None)
     if not folders:
-        raise Skipped(f"no Python {wanted} has networkx 3.2 or later")
+        raise Skipped(f"no Python {expected} has networkx 3.2 or later")
     os.mkdir(f"{room}/borrowed")
     for it in folders:
         os.symlink(it, f"{room}/borrowed/{os.path.basename(it)}")
@@ -92,14 +93,17 @@ def networkx_if_there(room):
 
 
 def expect_tests(room, *names, more=()):
-    """These of the package's tests pass on the wheel. The reasons of skipped tests are printed; if all are skipped, so is the case."""
+    """These of the package's tests pass on the wheel.
+
+    The reasons of skipped tests are printed; if all are skipped, so is the case.
+    """
     path = os.pathsep.join([site(room), *more, *filter(None, [os.environ.get("PYTHONPATH")])])
     env = {**WITHOUT, "PYTHONPATH": path, "PYTHONDONTWRITEBYTECODE": "1", "MPLCONFIGDIR": os.path.dirname(room)}
-    status, _, told = run([python(), "-m", "unittest", "-v", *names], env=env, cwd=f"{PACKAGE}/tests", seconds=300)
-    shape = re.search(r"^Ran (\d+) tests? in .*\n\nOK(?: \(skipped=(\d+)\))?\s*$", told.decode(), re.M)
+    status, _, printed = run([python(), "-m", "unittest", "-v", *names], env=env, cwd=f"{PACKAGE}/tests", seconds=300)
+    shape = re.search(r"^Ran (\d+) tests? in .*\n\nOK(?: \(skipped=(\d+)\))?\s*$", printed.decode(), re.M)
     if status or not shape or shape[1] == "0":
-        raise AssertionError(told.decode()[-3000:])
-    reasons = {*re.findall(r"\.\.\. skipped ['\"](.*)['\"]$", told.decode(), re.M)}
+        raise AssertionError(printed.decode()[-3000:])
+    reasons = {*re.findall(r"\.\.\. skipped ['\"](.*)['\"]$", printed.decode(), re.M)}
     if shape[1] == shape[2]:
         raise Skipped(min(reasons))
     for why in sorted(reasons):
@@ -123,9 +127,9 @@ def the_wheel_is_whole(room):
             is_so(files[name] == it.read(), True)
     rows = list(csv.reader(io.StringIO(files[f"{about}/RECORD"].decode())))
     is_so(sorted(it[0] for it in rows), sorted(files))
-    for name, told, size in rows:
+    for name, printed, size in rows:
         found = base64.urlsafe_b64encode(hashlib.sha256(files[name]).digest()).decode().rstrip("=")
-        is_so((told, size), ("", "") if name.endswith("RECORD") else (f"sha256={found}", str(len(files[name]))))
+        is_so((printed, size), ("", "") if name.endswith("RECORD") else (f"sha256={found}", str(len(files[name]))))
     head, _, readme = files[f"{about}/METADATA"].decode().partition("\n\n")
     fields = [tuple(it.split(": ", 1)) for it in head.splitlines()]
     is_so([it for it in fields if it[0] in ("Name", "Version")], [("Name", "boruvka"), ("Version", version())])
@@ -150,8 +154,8 @@ def the_wheel_is_whole(room):
 def the_page_is_in_the_wheel(room):
     """It is the page of the other packages, and `boruvka.show` finds it."""
     expect(run([sys.executable, f"{ROOT}/tools/page.py", module(), f"{room}/page.html"]), 0, b"", b"")
-    with open(f"{site(room)}/boruvka/boruvka.html", "rb") as found, open(f"{room}/page.html", "rb") as wanted:
-        is_so(found.read() == wanted.read(), True)
+    with open(f"{site(room)}/boruvka/boruvka.html", "rb") as found, open(f"{room}/page.html", "rb") as expected:
+        is_so(found.read() == expected.read(), True)
     code = "import boruvka; print(boruvka.show([[0, 0], [3, 4]], into='shown.html'))"
     os.mkdir(f"{room}/home")
     expect(run([python(), "-c", code], env={**WITHOUT, "PYTHONPATH": f"{room}/site", "HOME": f"{room}/home"}, cwd=room), 0, b"shown.html\n", b"")
@@ -197,8 +201,8 @@ def debians_python():
 def lintian_finds_no_error_in_the_debian_package_of_python(room):
     needs("dpkg-deb")
     packed(f"{room}/packed")
-    words = [needs("lintian"), "--allow-root", "--no-cfg", "--fail-on", "error", f"{room}/packed/python3-boruvka_{version()}_all.deb"]
-    status, output, errors = run(words, env={**PLAIN, "LC_ALL": "C.UTF-8"}, seconds=300)
+    command = [needs("lintian"), "--allow-root", "--no-cfg", "--fail-on", "error", f"{room}/packed/python3-boruvka_{version()}_all.deb"]
+    status, output, errors = run(command, env={**PLAIN, "LC_ALL": "C.UTF-8"}, seconds=300)
     is_so((status, re.findall(rb"^[EW]: .*", output + errors, re.M)), (0, []))
 
 
@@ -266,16 +270,16 @@ def gr_files(room):
 def errors_as_the_program_reports_them(room):
     """The line and the name of each error in test_gr, after the name of the file."""
     code = "import sys; sys.path.insert(0, sys.argv[1]); import test_gr; print([it[0] for it in test_gr.ERRORS])"
-    status, told, errors = run([python(), "-c", code, f"{PACKAGE}/tests"], env={**WITHOUT, "PYTHONPATH": site(room)})
-    texts = ast.literal_eval(told.decode()) if status == 0 else []
+    status, printed, errors = run([python(), "-c", code, f"{PACKAGE}/tests"], env={**WITHOUT, "PYTHONPATH": site(room)})
+    texts = ast.literal_eval(printed.decode()) if status == 0 else []
     is_so((status, errors, len(texts) > 20), (0, b"", True))
     code = "import boruvka, sys\nfor it in sys.argv[1:]:\n    try:\n        boruvka.read_gr(it)\n    except ValueError as error:\n        print(error)"
     paths = [f"{room}/{number}.gr" for number in range(len(texts))]
     for path, text in zip(paths, texts):
         written(path, text)
-    told = run([python(), "-c", code, *paths], env={**WITHOUT, "PYTHONPATH": f"{room}/site"})[1].decode().splitlines()
-    wanted = [run([Program.path, "--plain", it])[2].decode() for it in paths]
-    is_so([f"{it}\n" for it in told], [f"{path}{it.removeprefix('boruvka')}" for path, it in zip(paths, wanted)])
+    printed = run([python(), "-c", code, *paths], env={**WITHOUT, "PYTHONPATH": f"{room}/site"})[1].decode().splitlines()
+    expected = [run([Program.path, "--plain", it])[2].decode() for it in paths]
+    is_so([f"{it}\n" for it in printed], [f"{path}{it.removeprefix('boruvka')}" for path, it in zip(paths, expected)])
 
 
 @case
@@ -303,14 +307,14 @@ def types_by_mypy(room):
         raise Skipped("the Python that has numpy has no mypy")
     written(f"{room}/mypy.ini", f"[mypy]\nstrict = True\ncache_dir = {room}/cache\n[mypy-{'.*,'.join(USED)}.*,pandas.*]\nignore_missing_imports = True\n".encode())
     env = {**WITHOUT, "MYPYPATH": site(room)}
-    words = [python(), "-m", "mypy", "--config-file", f"{room}/mypy.ini", "--no-error-summary"]
-    expect(run([*words, f"{room}/site/boruvka"], env=env, cwd=room, seconds=300), 0, b"", b"")
-    expect(run([*words, f"{PACKAGE}/tests/typed_uses.py"], env=env, cwd=room, seconds=300), 0, b"", b"")
+    command = [python(), "-m", "mypy", "--config-file", f"{room}/mypy.ini", "--no-error-summary"]
+    expect(run([*command, f"{room}/site/boruvka"], env=env, cwd=room, seconds=300), 0, b"", b"")
+    expect(run([*command, f"{PACKAGE}/tests/typed_uses.py"], env=env, cwd=room, seconds=300), 0, b"", b"")
     mistakes = f"{PACKAGE}/tests/typed_mistakes.py"
-    told = run([*words, mistakes], env=env, cwd=room, seconds=300)[1].decode()
+    printed = run([*command, mistakes], env=env, cwd=room, seconds=300)[1].decode()
     with open(mistakes, encoding="utf-8") as lines:
-        wanted = {number for number, line in enumerate(lines, 1) if "# wrong" in line}
-    is_so(({int(it) for it in re.findall(r"^\S+\.py:(\d+): error: ", told, re.M)}, len(wanted) > 20), (wanted, True))
+        expected = {number for number, line in enumerate(lines, 1) if "# wrong" in line}
+    is_so(({int(it) for it in re.findall(r"^\S+\.py:(\d+): error: ", printed, re.M)}, len(expected) > 20), (expected, True))
 
 
 @case
@@ -355,17 +359,19 @@ def drawn_points_and_clusters(room):
 
 @case
 def drawn_cases_report_what_is_wrong(room):
-    """`make soak` on the wheel's library: right cases pass, and a planted one is reported with the arguments that repeat it."""
-    words = [sys.executable, f"{ROOT}/tests/soak_python.py", "--minutes", "0.05", "--seed", "7", f"{LIBRARIES}/libboruvka.so"]
-    status, told, errors = run(words, env=PLAIN)
-    last = re.fullmatch(r"(\d+) cases, 0 mismatches", told.decode().splitlines()[-1])
+    """`make soak` on the wheel's library: right cases pass, and a planted one is reported with the arguments that
+    repeat it.
+    """
+    command = [sys.executable, f"{ROOT}/tests/soak_python.py", "--minutes", "0.05", "--seed", "7", f"{LIBRARIES}/libboruvka.so"]
+    status, printed, errors = run(command, env=PLAIN)
+    last = re.fullmatch(r"(\d+) cases, 0 mismatches", printed.decode().splitlines()[-1])
     is_so((status, bool(last) and int(last[1]) > 1, errors), (0, True, b""))
     written(f"{room}/drawn_wrong.py", b"def wrong(draw):\n    raise AssertionError(int(draw.integers(100)))\n\n\nSORTS = {'planted': wrong}\n")
-    words += ["--drawn", room]
-    status, told, _ = run(words, env=PLAIN)
-    first = re.search(r"^soak: --seed 7 --sort 'planted' --case 0\n(?s:.*?)AssertionError: (\d+)$", told.decode(), re.M)
+    command += ["--drawn", room]
+    status, printed, _ = run(command, env=PLAIN)
+    first = re.search(r"^soak: --seed 7 --sort 'planted' --case 0\n(?s:.*?)AssertionError: (\d+)$", printed.decode(), re.M)
     is_so((status, bool(first)), (1, True))
-    again = run([*words, "--sort", "planted", "--case", "0"], env=PLAIN)[1].decode()
+    again = run([*command, "--sort", "planted", "--case", "0"], env=PLAIN)[1].decode()
     is_so((f"AssertionError: {first[1]}\n" in again, again.splitlines()[-1]), (True, "1 cases, 1 mismatches"))
 
 
@@ -400,7 +406,10 @@ infos = {it.name: it.load()() for it in found if it.name == "boruvka"}
 
 @case
 def networkx_starts_without_loading_the_package(room):
-    """The backend can also be imported first. A replacement for networkx does what networkx does, so any Python can run this."""
+    """The backend can also be imported first.
+
+    A replacement for networkx does what networkx does, so any Python can run this.
+    """
     os.makedirs(f"{room}/stand-in/networkx")
     written(f"{room}/stand-in/networkx/__init__.py", STARTED.encode())
     env = {**WITHOUT, "PYTHONPATH": os.pathsep.join([f"{room}/stand-in", site(room)]), "PYTHONDONTWRITEBYTECODE": "1"}
