@@ -28,9 +28,9 @@ def components(near):
         while waiting:
             here = waiting.pop()
             part.append(here)
-            beside = {it for it in left if near[here][it]}
-            left -= beside
-            waiting += beside
+            adjacent = {it for it in left if near[here][it]}
+            left -= adjacent
+            waiting += adjacent
         found.append(sorted(part))
     return found
 

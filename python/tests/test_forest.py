@@ -145,9 +145,9 @@ class Knowing(unittest.TestCase):
             graph = Graph(seed)
             for maximum in (False, True):
                 forest = minimum_spanning_forest(graph.n, *graph.held, maximum=maximum)
-                beside = {frozenset(it[:2]): i for i, it in enumerate(zip(forest.u.tolist(), forest.v.tolist()))}
+                position_of = {frozenset(it[:2]): i for i, it in enumerate(zip(forest.u.tolist(), forest.v.tolist()))}
                 components = Components(graph.n)
-                for it in beside:
+                for it in position_of:
                     components.join(*it)
                 for a, b in [(0, graph.n - 1), (graph.n // 2, 0), (0, 0)]:
                     if components.root(a) != components.root(b):
@@ -157,7 +157,7 @@ class Knowing(unittest.TestCase):
                         continue
                     way = forest.path(a, b)
                     self.assertEqual((way[0], way[-1], len(set(way))), (a, b, len(way)))
-                    places = [beside[frozenset(it)] for it in zip(way, way[1:])]
+                    places = [position_of[frozenset(it)] for it in zip(way, way[1:])]
                     if places:
                         best = min if maximum else max
                         self.assertEqual(forest.bottleneck(a, b).w, best(forest.w[places]))
@@ -548,15 +548,15 @@ def write():
 thread = threading.Thread(target=write, daemon=True)
 thread.start()
 end = time.monotonic() + 2.5
-told = set()
+seen = set()
 while time.monotonic() < end:
     try:
         minimum_spanning_forest(n, u, v, w)
     except ValueError as error:
-        told.add(str(error).split(" ")[-1])
+        seen.add(str(error).split(" ")[-1])
 is_over = True
 thread.join()
-print("whole", *sorted(told))
+print("whole", *sorted(seen))
 """
 
 

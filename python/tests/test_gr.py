@@ -128,12 +128,12 @@ class Read(InFolder):
         self.expect_edges(b"c" + b"a 1 2 3 p" * 1_000_000 + b"\np sp 2 1\na 2 1 5\n", 2, [(1, 0, 5)])
 
     def test_each_error_with_its_line(self):
-        for text, fault, line in ERRORS:
+        for text, name, line in ERRORS:
             for path in [self.written(text), self.written(gzip.compress(text), "packed")]:
                 with self.subTest(text=text[:40]):
-                    with self.assertRaises(ValueError) as refused:
+                    with self.assertRaises(ValueError) as raised:
                         boruvka.read_gr(path)
-                    self.assertEqual(str(refused.exception), f"{path}: line {line}: {fault}")
+                    self.assertEqual(str(raised.exception), f"{path}: line {line}: {name}")
 
     def test_compressed(self):
         text = self.data(f"{TOP}/examples/small.gr")

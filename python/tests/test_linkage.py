@@ -330,8 +330,8 @@ class Exact(unittest.TestCase):
                 self.expect_all_pairs(draw.random((200, dimensions)) * scale)
             sizes = 10.0 ** draw.integers(-320, 300, (80, 1))
             self.expect_all_pairs(draw.normal(size=(80, dimensions)) * sizes)
-        for beside in ([[1e-300, 0], [3e-300, 0], [1e300, 0], [1e300, 2e290]], [[5e-324, 0], [0, 5e-324], [1e308, 0]], [[1e200, 0], [0, 1], [0, 2]]):
-            self.expect_all_pairs(beside)
+        for points_given in ([[1e-300, 0], [3e-300, 0], [1e300, 0], [1e300, 2e290]], [[5e-324, 0], [0, 5e-324], [1e308, 0]], [[1e200, 0], [0, 1], [0, 2]]):
+            self.expect_all_pairs(points_given)
         # each coordinate of the vector is a double, but its length isn't
         self.assertEqual(spanning_tree([[-1.5e308], [0], [1.5e308]]).w.tolist(), [1.5e308] * 2)
         with warnings.catch_warnings():

@@ -195,7 +195,7 @@ CUTS = {
     "a maximum that is a text": (lambda: Forest([0], [1], [2], [0], maximum="no"), TypeError, "^maximum is 'no', but has to be True or False$"),
     "names in no order": (lambda: PATH._replace(names={"a", "b", "c", "d"}), TypeError, "^names is a set, but has to be a list$"),
     "names in a dict": (lambda: PATH._replace(names=dict(a=1, b=2, c=3, d=4)), TypeError, "^names is a dict, but has to be a list$"),
-    "a number in place of names": (lambda: PATH._replace(names=4), TypeError, "^names is a int, but has to be a list$"),
+    "a number instead of names": (lambda: PATH._replace(names=4), TypeError, "^names is a int, but has to be a list$"),
     "arrays of different lengths": (lambda: Forest([0, 1], [1], [2], [0]), ValueError, r"^u, v, w and index have the shapes \(2,\), \(1,\)"),
 }
 OF_POINTS = {
@@ -223,7 +223,7 @@ OF_POINTS = {
     "long doubles": (lambda: spanning_tree(np.zeros((2, 2), np.longdouble)), TypeError, "^y has the dtype float128, .* of up to 64 bits$"),
     "dates": (lambda: spanning_tree(np.zeros((2, 2), "M8[s]")), TypeError, r"^y has the dtype datetime64\[s\]"),
     "whole numbers that doubles round": (lambda: spanning_tree([[2**53 + 2], [2**53 + 1]]), ValueError, r"^y\[1, 0\] is 9007199254740993, which a double would round: subtract the least"),
-    "whole numbers beside halves": (lambda: spanning_tree([[2**53 + 1, 0.5], [2**53, 0.5]]), ValueError, r"^y\[0\]\[0\] is 9007199254740993, which numpy would round"),
+    "whole numbers with halves": (lambda: spanning_tree([[2**53 + 1, 0.5], [2**53, 0.5]]), ValueError, r"^y\[0\]\[0\] is 9007199254740993, which numpy would round"),
     "distances that doubles round": (lambda: single_linkage([2**53 + 1, 2**53, 2**53]), ValueError, r"^y\[0\] is 9007199254740993, which a double would round: minimum_spanning_forest takes"),
     "distances, and a metric": (lambda: spanning_tree([1.0, 2.0, 3.0], metric="cosine"), TypeError, r"y\[:, None\] in one dimension$"),
     "more samples than points": (lambda: spanning_tree(POINTS, min_samples=11), ValueError, "^min_samples is 11, but has to be from 1 to 10, the number of points$"),
@@ -274,8 +274,8 @@ class Mistakes(unittest.TestCase):
             "a weight that is NA, of a series": (lambda: forest_of(3, U, V, pandas.Series(gaps)), TypeError, r"because w\[1\] is <NA>, but weights are"),
             "a vertex that is NA": (lambda: forest_of(3, pandas.Series([0, None], dtype="Int64"), V, W), TypeError, r"^u has the dtype object, because u\[1\] is <NA>, but vertices are"),
             "a column of names": (lambda: spanning_tree(named), TypeError, r"^y has the dtype object, because y\[0, 0\] is 'a', but has to be real numbers"),
-            "a frame in place of edges": (lambda: forest_of(named), TypeError, "^a frame is for boruvka.from_edges$"),
-            "whole numbers beside halves": (lambda: spanning_tree(pandas.DataFrame({"x": [0.5, 0.5], "y": [2**53, 2**53 + 1]})), ValueError, r"^y\.iloc\[:, 1\]\[1\] is 9007199254740993, which numpy would round"),
+            "a frame instead of edges": (lambda: forest_of(named), TypeError, "^a frame is for boruvka.from_edges$"),
+            "whole numbers with halves": (lambda: spanning_tree(pandas.DataFrame({"x": [0.5, 0.5], "y": [2**53, 2**53 + 1]})), ValueError, r"^y\.iloc\[:, 1\]\[1\] is 9007199254740993, which numpy would round"),
             "times as coordinates": (lambda: spanning_tree(pandas.DataFrame({"x": pandas.to_timedelta([1, 2])})), TypeError, r"^y has the dtype timedelta64\[ns\]"),
             "a coordinate that is NA": (lambda: spanning_tree(pandas.DataFrame({"x": gaps, "y": gaps})), TypeError, r"^y has the dtype object, because y\[1, 0\] is <NA>"),
             "categories as weights": (lambda: forest_of(3, U, V, pandas.Categorical(["10", "9"])), TypeError, r"^w has the dtype <U2, because w\[0\] is '10'"),
@@ -299,7 +299,7 @@ class Mistakes(unittest.TestCase):
     def test_of_sparse_matrices(self):
         gap = sparse.csr_matrix(np.array([[0, math.nan], [0, 0]]))
         self.expect({
-            "a matrix in place of edges": (lambda: forest_of(sparse.csr_matrix(np.eye(3))), TypeError, "boruvka.sparse.minimum_spanning_tree$"),
+            "a matrix instead of edges": (lambda: forest_of(sparse.csr_matrix(np.eye(3))), TypeError, "boruvka.sparse.minimum_spanning_tree$"),
             "sparse points": (lambda: spanning_tree(sparse.csr_matrix(POINTS)), ValueError, r"^y has the shape \(10, 2\), .*: pass points as y\.toarray\(\)$"),
             "an oblong array": (lambda: minimum_spanning_tree(np.ones((2, 3))), ValueError, r"^csgraph has the shape \(2, 3\), but the matrix of a graph is square$"),
             "a list": (lambda: minimum_spanning_tree([1, 2, 3]), ValueError, r"^csgraph has the shape \(3,\)"),

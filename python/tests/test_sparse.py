@@ -16,7 +16,7 @@ else:
 
 # the graph of scipy's own example, and the result that its documentation shows
 EXAMPLE = [[0, 8, 0, 3], [0, 0, 2, 5], [0, 0, 0, 6], [0, 0, 0, 0]]
-ANSWER = [[0, 0, 0, 3], [0, 0, 2, 5], [0, 0, 0, 0], [0, 0, 0, 0]]
+RESULT = [[0, 0, 0, 3], [0, 0, 2, 5], [0, 0, 0, 0], [0, 0, 0, 0]]
 
 
 def matrix_of(graph, weights):
@@ -42,11 +42,11 @@ class Sparse(unittest.TestCase):
     def test_the_documented_example_in_each_form(self):
         dense = np.array(EXAMPLE)
         for given in [EXAMPLE, dense, dense.astype(np.float32), np.asfortranarray(dense), np.ma.masked_equal(np.where(dense, dense, 1), 1)]:
-            self.assertEqual(minimum_spanning_tree(given).toarray().tolist(), ANSWER)
+            self.assertEqual(minimum_spanning_tree(given).toarray().tolist(), RESULT)
         for form in ("csr", "csc", "coo", "lil", "dok", "bsr"):
             given = sparse.csr_matrix(dense).asformat(form)
-            self.assertEqual(minimum_spanning_tree(given).toarray().tolist(), ANSWER)
-            self.assertEqual(minimum_spanning_tree(given, overwrite=True).toarray().tolist(), ANSWER)
+            self.assertEqual(minimum_spanning_tree(given).toarray().tolist(), RESULT)
+            self.assertEqual(minimum_spanning_tree(given, overwrite=True).toarray().tolist(), RESULT)
 
     def test_what_is_no_edge(self):
         inf, nan = np.inf, np.nan
@@ -119,7 +119,7 @@ class Sparse(unittest.TestCase):
     def test_a_matrix_with_room_behind_its_entries(self):
         given = sparse.csr_matrix(np.array(EXAMPLE, float))
         given.data, given.indices = np.append(given.data, [99.0, 99.0]), np.append(given.indices, [0, 1]).astype(np.int32)
-        self.assertEqual(minimum_spanning_tree(given).toarray().tolist(), ANSWER)
+        self.assertEqual(minimum_spanning_tree(given).toarray().tolist(), RESULT)
 
     def test_drawn_graphs(self):
         for seed in range(300):
