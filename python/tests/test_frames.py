@@ -367,9 +367,9 @@ class Rejected(unittest.TestCase):
         pattern = r"^some endpoints are times of numpy \(datetime64\[D\]\), and some have the type datetime: numpy\.asarray\(column, 'datetime64\[D\]'\) converts a column$"
         self.expect(TypeError, pattern, {"u": days, "v": [datetime.datetime(2020, 1, 1)], "w": [1]})
         zoned = datetime.datetime(2020, 1, 1, tzinfo=datetime.timezone.utc)
-        self.expect(TypeError, "^the ends are times with a zone, and times without", {"u": [zoned], "v": [zoned.replace(tzinfo=None)], "w": [1]})
+        self.expect(TypeError, "^some endpoints are times with a time zone, and some without", {"u": [zoned], "v": [zoned.replace(tzinfo=None)], "w": [1]})
 
-        pattern = r"^the ends are dates, and dates with a time of day: \.dt\.date makes dates of these$"
+        pattern = r"^some endpoints are dates, and some have a time of day: \.dt\.date makes dates of these$"
         self.expect(TypeError, pattern, {"u": [datetime.date(2020, 1, 2)], "v": [datetime.datetime(2020, 1, 2)], "w": [1]})
 
     def test_what_is_no_frame(self):

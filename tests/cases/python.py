@@ -285,7 +285,7 @@ def errors_as_the_program_reports_them(room):
 @case
 def errors_as_the_library_names_them(room):
     env = {**WITHOUT, "PYTHONPATH": site(room), "PYTHONDONTWRITEBYTECODE": "1"}
-    code = "from boruvka import _library\nfor code in range(-22, 4):\n    print(code, _library._named(code))"
+    code = "from boruvka import _library\nfor code in range(-22, 4):\n    print(code, _library.error_text(code))"
     expect(run([python(), "-c", code], env=env), 0, TEXTS, b"")
 
 
