@@ -369,7 +369,7 @@ class Rejected(unittest.TestCase):
         zoned = datetime.datetime(2020, 1, 1, tzinfo=datetime.timezone.utc)
         self.expect(TypeError, "^some endpoints are times with a time zone, and some without", {"u": [zoned], "v": [zoned.replace(tzinfo=None)], "w": [1]})
 
-        pattern = r"^some endpoints are dates, and some have a time of day: \.dt\.date makes dates of these$"
+        pattern = r"^some endpoints are dates, and some have a time of day: \.dt\.date converts these to dates$"
         self.expect(TypeError, pattern, {"u": [datetime.date(2020, 1, 2)], "v": [datetime.datetime(2020, 1, 2)], "w": [1]})
 
     def test_what_is_no_frame(self):
