@@ -186,7 +186,7 @@ class Rejected(unittest.TestCase):
         for wrong in (square[:, :2], square[None], np.empty((0, 0))):
             with self.assertRaisesRegex(ValueError, "^y has the shape .* takes a square matrix of distances"):
                 spanning_tree(wrong, metric="precomputed")
-        with self.assertRaisesRegex(ValueError, "^p is 3, and only"):
+        with self.assertRaisesRegex(ValueError, "^p is 3, but only"):
             spanning_tree(square, metric="precomputed", p=3)
         with self.assertRaisesRegex(ValueError, "^min_samples is 4, "):
             spanning_tree(square, metric="precomputed", min_samples=4)
