@@ -190,7 +190,7 @@ class Rejected(unittest.TestCase):
             spanning_tree(square, metric="precomputed", p=3)
         with self.assertRaisesRegex(ValueError, "^min_samples is 4, "):
             spanning_tree(square, metric="precomputed", min_samples=4)
-        with self.assertRaisesRegex(ValueError, "^y has 2 entries, but aren't"):
+        with self.assertRaisesRegex(ValueError, "^y has 2 entries, but no number of points"):
             spanning_tree([1.0, 2.0], metric="precomputed", min_samples=2)
         with self.assertRaisesRegex(TypeError, "^y has the dtype"):
             spanning_tree([["a", "b"], ["c", "d"]], metric="precomputed")
