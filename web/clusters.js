@@ -1,5 +1,6 @@
 // What stays joined when the forest's heaviest links are cut.
 
+import { counted } from './measures.js';
 import { NONE } from './merges.js';
 
 /**
@@ -79,8 +80,6 @@ export function numbersOf({ n, merges: { first, size, order } }, { nodes }) {
   }
   return numbers;
 }
-
-const counted = number => number.toLocaleString('en');
 
 // The clusters in words: how many, and the sizes of the largest.
 export function clustersTold({ merges: { size } }, { count, nodes, colour }, few) {

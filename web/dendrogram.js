@@ -4,6 +4,7 @@
 import { greatest } from './clusters.js';
 import { inkOf, inks } from './inks.js';
 import { widthOf } from './labels.js';
+import { formatted } from './measures.js';
 import { nameAt } from './names.js';
 import { emptied, paint, svgOf } from './shapes.js';
 import { state } from './state.js';
@@ -71,31 +72,49 @@ function thereYet({ n, rounds }) {
   return round === null ? () => true : node => node < n || rounds.born[node - n] <= round;
 }
 
-// Merges from `begin` on: lines to what each joins; what isn't drawn itself is a bar.
-function mergeShapes(shown, begin, { xOf, yOf, end, inkAt }) {
-  const { n, merges: { roots, larger, smaller, size, first } } = shown, isThere = thereYet(shown), lines = new Map();
-  const bars = new Map();
-  const put = (map, ink, path) => (map.get(ink) || map.set(ink, []).get(ink)).push(path);
-  const r = pixel => pixel.toFixed(1);
-  const middle = node => yOf(first[node] + size[node] / 2);
+// What is drawn of the merges from `begin` on, whatever their colours are: segments to what each merge joins, and boxes
+// for clusters whose own merges aren't drawn. Each has the node that gives it its colour.
+function partsOf(shown, begin, { xOf, yOf, end }) {
+  const { n, merges: { roots, larger, smaller, size, first } } = shown, isThere = thereYet(shown);
+  const segments = [], boxes = [], middle = node => yOf(first[node] + size[node] / 2);
   let covered = -1;
-  const bar = node => {
+  const addBox = node => {
     if (node < n || node >= n + begin || !isThere(node)) return;
-    const top = yOf(first[node]), tall = Math.max(0.3, yOf(first[node] + size[node]) - top);
-    if (tall < 0.5 && Math.abs(top - covered) < 0.5) return; // there is one already
+    const top = yOf(first[node]), height = Math.max(0.3, yOf(first[node] + size[node]) - top);
+    if (height < 0.5 && Math.abs(top - covered) < 0.5) return; // there is one already
     covered = top;
-    put(bars, inkAt(node), `M${r(xOf(node))} ${r(top)}H${r(end)}v${r(tall)}H${r(xOf(node))}z`);
+    boxes.push({ node, numbers: [xOf(node), top, end - xOf(node), height] });
   };
-  roots.forEach(bar);
+  roots.forEach(addBox);
   for (let i = begin; i < larger.length; i++) {
-    const x = xOf(n + i);
-    for (const node of [larger[i], smaller[i]]) bar(node);
+    const x = xOf(n + i), joined = [larger[i], smaller[i]], [from, to] = joined.map(middle);
+    joined.forEach(addBox);
     if (!isThere(n + i)) continue;
-    for (const node of [larger[i], smaller[i]]) put(lines, inkAt(node), `M${r(x)} ${r(middle(node))}H${r(xOf(node))}`);
-    put(lines, inkAt(n + i), `M${r(x)} ${r(middle(larger[i]))}V${r(middle(smaller[i]))}`);
+    for (const node of joined) segments.push({ node, numbers: [x, middle(node), xOf(node), middle(node)] });
+    segments.push({ node: n + i, numbers: [x, from, x, to] });
   }
-  const filled = Array.from(bars, ([ink, paths]) => ({ fill: ink, path: paths.join('') }));
-  return [...filled, ...Array.from(lines, ([ink, paths]) => ({ stroke: ink, width: 1.2, path: paths.join('') }))];
+  return { segments, boxes };
+}
+
+const partsDrawn = new WeakMap(); // by what is shown
+
+// The same parts, computed again only if the size, the scale or the round has changed. A drag of the cut changes only
+// colours.
+function partsNow(shown, begin, through, { width, height }) {
+  const { scale, round } = state, key = [width, height, scale, round === null ? '' : Math.floor(round)].join(' ');
+  if (partsDrawn.get(shown)?.key !== key) partsDrawn.set(shown, { key, parts: partsOf(shown, begin, through) });
+  return partsDrawn.get(shown).parts;
+}
+
+// The numbers of these parts, by the colour that each part has.
+function numbersByInk(parts, inkAt) {
+  const found = new Map();
+  for (const { node, numbers } of parts) {
+    const ink = inkAt(node);
+    if (!found.has(ink)) found.set(ink, []);
+    found.get(ink).push(...numbers);
+  }
+  return Array.from(found, ([ink, numbers]) => ({ ink, numbers }));
 }
 
 // Where the cut is, between the last height that is kept and the first that isn't.
@@ -105,7 +124,7 @@ function cutAt({ heights }, { kept }, scale) {
   return ((Number.isFinite(right) ? right : scale.to(scale.low)) + left) / 2;
 }
 
-const short = height => Number(height.toPrecision(3)).toLocaleString('en', {
+const short = height => formatted(Number(height.toPrecision(3)), {
   maximumSignificantDigits: 3, notation: Math.abs(height) >= 1e6 ? 'scientific' : 'standard',
 });
 
@@ -146,9 +165,11 @@ function shapesOf(width, height) {
   const labels = round === null ? null : rounds.labels[Math.min(Math.floor(round), rounds.labels.length - 1)];
   const inkAt = labels ? node => inkOf(plain, labels[order[first[node]]]) : ofClusters;
   const x = cutAt(shown, clusters, through.scale).toFixed(1);
+  const { boxes, segments } = partsNow(shown, Math.max(0, heights.length - MOST_BRACKETS), through, { width, height });
   return [
     ...tickShapes(shown, through.scale, { width, height }, plain),
-    ...mergeShapes(shown, Math.max(0, heights.length - MOST_BRACKETS), { ...through, inkAt }),
+    ...numbersByInk(boxes, inkAt).map(({ ink, numbers }) => ({ fill: ink, boxes: numbers })),
+    ...numbersByInk(segments, inkAt).map(({ ink, numbers }) => ({ stroke: ink, width: 1.2, segments: numbers })),
     ...nameShapes(shown, width, through, plain.ink),
     ...(labels ? [] : [{ stroke: plain.mark, width: 2, dash: [5, 4], path: `M${x} 2V${height - FOOT}` }]),
   ];

@@ -18,7 +18,7 @@ import { Painter } from './painter.js';
 import { Picture } from './picture.js';
 import { play } from './playing.js';
 import { listenToKeys, listenToPointer, placeAt } from './reading.js';
-import { listenToSaving } from './saving.js';
+import { listenToSaving, tellFilms } from './saving.js';
 import { Solver, busy } from './solver.js';
 import { onChange } from './state.js';
 
@@ -54,7 +54,7 @@ function listen(opening, { solver, painter, showNow }) {
   listenToDendrogram();
   listenToWindow(opening, fault);
   listenToPrinting(showNow);
-  return listenToSaving({ solver, painter }, fault);
+  listenToSaving({ solver, painter }, fault);
 }
 
 async function begin() {
@@ -63,12 +63,14 @@ async function begin() {
   const { showSoon, showNow } = showing(painter);
   onChange(showSoon);
   onInks(showSoon);
-  await listen(opening, { solver, painter, showNow });
+  listen(opening, { solver, painter, showNow });
   settle();
   $('unproved').hidden = Boolean(solver.module);
-  await tellSums(solver.bytes);
   await opening.openFirst().catch(fault);
   play();
+  // What the first picture needn't wait for.
+  painter.prepare();
+  await Promise.all([tellFilms(), tellSums(solver.bytes)]);
 }
 
 begin().catch(fault).finally(() => busy(-1));

@@ -13,7 +13,11 @@ export class Painter {
     this.seen = null;
     this.asked = null;
     this.last = Promise.resolve();
-    this.start(); // so that the first picture needn't wait for it
+  }
+
+  // Starts the worker before a picture needs it.
+  prepare() {
+    if (!this.worker) this.start();
   }
 
   // The words of a picture, or null if the worker failed.
@@ -25,7 +29,7 @@ export class Painter {
   }
 
   askFor(shown, job) {
-    if (!this.worker) this.start();
+    this.prepare();
     if (this.seen !== shown) {
       const { places, forest, heights, rounds, turn } = shown;
       this.worker.postMessage({ task: 'see', shown: { places, forest, heights, rounds, turn } });

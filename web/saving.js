@@ -63,7 +63,7 @@ const FILES = {
   'picture.svg': { make: () => svg(pictureSvg($('picture'))) },
   'dendrogram.png': { can: () => state.clusters, make: () => png($('dendrogram')) },
   'dendrogram.svg': { can: () => state.clusters, make: () => svg(dendrogramSvg($('dendrogram'))) },
-  'rounds.webm': { can: () => canPlay() && !$('nofilm').textContent, make: madeFilm },
+  'rounds.webm': { can: () => canPlay() && state.canFilm, make: madeFilm },
   'clusters.csv': { can: () => state.clusters, make: made('clusters.csv') },
   'clusters.geojson': { can: () => state.clusters && state.shown.kind === 'globe', make: made('clusters.geojson') },
   'forest.csv': { make: made('forest.csv') },
@@ -82,7 +82,7 @@ function waited({ solver }) {
 }
 
 // Lets each button of a file save it; `fault` hears what fails, and null when another one begins.
-export async function listenToSaving(workers, fault) {
+export function listenToSaving(workers, fault) {
   const tried = act => async () => {
     fault(null);
     try {
@@ -108,7 +108,13 @@ export async function listenToSaving(workers, fault) {
   $('copypython').onclick = tried(async () => copy(await pythonText()));
   $('linkline').hidden = !canLink();
   $('pageline').hidden = !canSavePage();
+}
+
+// Says whether this browser can make a film. Until then its button is disabled.
+export async function tellFilms() {
   $('nofilm').textContent = await whyNoFilm();
+  state.canFilm = !$('nofilm').textContent;
+  tellSaving();
 }
 
 export function tellSaving() {

@@ -38,6 +38,7 @@ export const state = {
   told: {}, // what the page told last
   tree: { isAwaited: false, free: 0 }, // when the dendrogram may be drawn again
   isPrinted: false,
+  canFilm: false, // the browser encodes films, as far as is known yet
 };
 
 const hearers = [];

@@ -95,6 +95,7 @@
  * @property {Record<string, unknown>} told
  * @property {{ isAwaited: boolean, free: number }} tree
  * @property {boolean} isPrinted
+ * @property {boolean} canFilm
  */
 
 export {};
