@@ -1,6 +1,7 @@
 // What controls do: the bar, the dialogs, the sheet of a phone, the dendrogram, and the window.
 
 import { branchAt, countAt, countAtBar, countBeside } from './dendrogram.js';
+import { sizesNow } from './figures.js';
 import { isPlaying, play, stopPlaying } from './playing.js';
 import { change, colourFrom, cutTo, state } from './state.js';
 
@@ -146,7 +147,7 @@ export function listenToPrinting(showNow) {
   matchMedia('print').addEventListener('change', ({ matches }) => turn(matches));
 }
 
-// Measures what part of the picture nothing covers.
+// Measures which part of the picture nothing covers. If that or the size of a canvas changed, all is drawn again.
 export function settle() {
   const { classList } = document.body, isEmbedded = classList.contains('embed');
   const box = id => $(id).getBoundingClientRect(), gap = 8;
@@ -156,6 +157,6 @@ export function settle() {
   const low = isSheet && isPulled ? Math.min(box('side').top, box('bar').top) : box('bar').top;
   const bottom = isEmbedded ? innerHeight - gap : low - gap;
   const free = { left: 0, top, width: Math.max(40, right), height: Math.max(40, bottom - top) };
-  if (Object.keys(free).every(key => free[key] === state.free[key])) change({});
-  else change({ free });
+  const isSame = sizesNow() === state.told.sizes && Object.keys(free).every(key => free[key] === state.free[key]);
+  if (!isSame) change({ free });
 }

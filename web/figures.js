@@ -133,23 +133,28 @@ function dropLink(before) {
   if (isOther && location.hash) history.replaceState(null, '', location.href.split('#')[0]);
 }
 
+// The sizes of the canvases, in pixels of the page and of the screen.
+export function sizesNow() {
+  const sizesOf = id => [$(id).clientWidth, $(id).clientHeight];
+  return [devicePixelRatio, ...['picture', 'dendrogram', 'bars'].flatMap(sizesOf)].join(' ');
+}
+
 // Says all of it; what was said before, and is the same, stays.
 export function tell() {
-  const { shown, clusters, scale, round, smallest } = state;
-  const { clientWidth: width, clientHeight: height } = $('dendrogram');
+  const { shown, clusters, scale, round, smallest, told } = state;
   const { scheme } = inks(), rounds = round === null ? null : Math.floor(round);
-  const drawn = { shown, clusters, scale, smallest, rounds, width, height, scheme };
-  const isSame = keys => keys.every(key => drawn[key] === state.told[key]);
   put('say', caption());
   tellControls();
   tellCounter();
   tellPicked();
-  if (!isSame(['shown', 'clusters'])) {
+  if (told.shown !== shown || told.clusters !== clusters) {
     tellFigures();
     tellDendrogram();
-    dropLink(state.told.shown);
+    dropLink(told.shown);
   }
   tellSaving();
-  if (!isSame(Object.keys(drawn))) drawTreeSoon();
-  state.told = drawn;
+  // the figures may have changed how high the dendrogram is
+  const now = { shown, clusters, scale, smallest, rounds, scheme, sizes: sizesNow() };
+  if (Object.keys(now).some(key => now[key] !== told[key])) drawTreeSoon();
+  state.told = now;
 }

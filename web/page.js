@@ -68,6 +68,7 @@ async function begin() {
   $('unproved').hidden = Boolean(solver.module);
   await opening.openFirst().catch(fault);
   play();
+  await new Promise(done => requestAnimationFrame(() => setTimeout(done)));
   // What the first picture needn't wait for.
   painter.prepare();
   await Promise.all([tellFilms(), tellSums(solver.bytes)]);
