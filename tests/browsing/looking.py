@@ -45,17 +45,24 @@ return ['picture', 'dendrogram', 'bars'].map(it => light(document.getElementById
 
 @case
 def the_scheme_changes_during_the_film(_room):
-    """All of it turns dark: the dendrogram and the bars stayed white."""
-    page = Page.opened()
-    page.look(motion="no-preference")
-    page.browser.click("play")
-    page.browser.wait("document.getElementById('play').textContent === 'Stop'", seconds=5)
-    is_so(page.browser.run(DARKNESS), [True, True, True])
-    page.look(motion="no-preference", scheme="dark")
-    page.browser.run("return new Promise(done => setTimeout(done, 300))")
-    is_so((page.text("play"), page.browser.run(DARKNESS)), ("Stop", [False, False, False]))
-    page.browser.wait("document.getElementById('play').textContent === 'Play'", seconds=30)
-    is_so(page.browser.run(DARKNESS), [False, False, False])
+    """The picture, the dendrogram and the bars turn dark, also if the browser drops the event of the change. Chromium does so
+    if a frame of the film has read the scheme before it; the dendrogram and the bars then stayed white."""
+    for without_event in ("", "MediaQueryList.prototype.addEventListener = () => {}"):
+        page = Page.opened()
+        script = page.browser.devtools("Page.addScriptToEvaluateOnNewDocument", source=without_event)
+        try:
+            page = Page.opened()
+        finally:
+            page.browser.devtools("Page.removeScriptToEvaluateOnNewDocument", **script)
+        page.look(motion="no-preference")
+        page.browser.click("play")
+        page.browser.wait("document.getElementById('play').textContent === 'Stop'", seconds=5)
+        is_so(page.browser.run(DARKNESS), [True, True, True])
+        page.look(motion="no-preference", scheme="dark")
+        page.browser.run("return new Promise(done => setTimeout(done, 300))")
+        is_so((without_event, page.text("play"), page.browser.run(DARKNESS)), (without_event, "Stop", [False, False, False]))
+        page.browser.wait("document.getElementById('play').textContent === 'Play'", seconds=30)
+        is_so((without_event, page.browser.run(DARKNESS)), (without_event, [False, False, False]))
 
 
 @case
