@@ -1,5 +1,5 @@
-// The dendrogram: heights from the right, 0 or the least, to the left. And the greatest heights as bars. While the
-// rounds are played, it has the merges whose links are all taken.
+// The dendrogram, with heights that grow from right to left, and the greatest heights as bars. While the rounds are
+// played, it shows the merges whose edges have all been chosen.
 
 import { greatest } from './clusters.js';
 import { inkOf, inks } from './inks.js';
@@ -9,11 +9,11 @@ import { nameAt } from './names.js';
 import { emptied, paint, svgOf } from './shapes.js';
 import { state } from './state.js';
 
-const MOST_BRACKETS = 1000; // merges that are drawn, the heaviest
+const MOST_BRACKETS = 1000; // only the heaviest merges are drawn
 const EDGE = 14; // pixels
 const FOOT = 34; // pixels for the ticks
-const LEAST_ROW = 11; // pixels of a leaf's name
-const MOST_NAME = 0.38; // of the width
+const LEAST_ROW = 11; // pixels per leaf with a name
+const MOST_NAME = 0.38; // of the width of the canvas
 
 const BENDS = {
   even: { to: height => height, from: value => value },
@@ -24,20 +24,20 @@ const BENDS = {
   log: { to: Math.log, from: Math.exp },
 };
 
-// How many pixels the names of the leaves have at the right; none where they have no room.
+// The width of the names of the leaves, in pixels, or 0 if they don't fit.
 function nameWidth({ n, names }, width, height) {
   if (!names || (height - FOOT - EDGE) / n < LEAST_ROW) return 0;
   const widest = Math.max(...Array.from({ length: n }, (_, v) => widthOf(nameAt(names, v))));
   return Math.min(widest + 6, MOST_NAME * width);
 }
 
-// Where a height is from left to right. By logarithm it begins at the least height above 0.
+// The scale of heights. A logarithmic one begins at the least height above 0.
 function scaleOf({ heights }, width, right = EDGE) {
   const { to, from } = BENDS[state.scale], positive = heights.find(height => height > 0) ?? 1;
   const isLog = state.scale === 'log';
   const low = to(isLog ? positive : Math.min(0, heights[0]));
   const high = to(Math.max(heights.at(-1), isLog ? positive : -Infinity));
-  // as parts of the greatest, since the difference of two doubles may be past what doubles hold
+  // relative to the greatest, because the difference of two doubles may be too large for a double
   const unit = Math.max(Math.abs(low), Math.abs(high)) || 1, most = high / unit, across = most - low / unit || 1;
   const room = width - EDGE - right, bounded = height => isLog ? Math.max(height, positive) : height;
   const pixel = height => EDGE + room * (most - to(bounded(height)) / unit) / across;
@@ -51,7 +51,7 @@ function placing(shown, width, height) {
   return { scale, end, xOf, yOf: place => EDGE + most * place / n };
 }
 
-// A few round heights between the ends of the scale.
+// A few round heights for the ticks.
 function ticksOf({ heights }, scale) {
   const most = heights.at(-1);
   if (!(most > 0)) return [heights[0], most];
@@ -66,14 +66,14 @@ function ticksOf({ heights }, scale) {
   return Array.from({ length: Math.floor(most / step) + 1 }, (_, i) => i * step);
 }
 
-// Whether a merge is there yet: while the rounds are played, once all of its links are taken.
+// Whether a merge is shown yet. While the rounds are played, it is shown once all of its edges have been chosen.
 function thereYet({ n, rounds }) {
   const { round } = state;
   return round === null ? () => true : node => node < n || rounds.born[node - n] <= round;
 }
 
-// What is drawn of the merges from `begin` on, whatever their colours are: segments to what each merge joins, and boxes
-// for clusters whose own merges aren't drawn. Each has the node that gives it its colour.
+// The shapes of the merges from index `begin` on, without colours: segments to the two nodes that each merge joins, and
+// boxes for nodes whose own merges aren't drawn. `node` gives a part its colour.
 function partsOf(shown, begin, { xOf, yOf, end }) {
   const { n, merges: { roots, larger, smaller, size, first } } = shown, isThere = thereYet(shown);
   const segments = [], boxes = [], middle = node => yOf(first[node] + size[node] / 2);
@@ -96,17 +96,16 @@ function partsOf(shown, begin, { xOf, yOf, end }) {
   return { segments, boxes };
 }
 
-const partsDrawn = new WeakMap(); // by what is shown
+const partsDrawn = new WeakMap(); // by the points or the graph
 
-// The same parts, computed again only if the size, the scale or the round has changed. A drag of the cut changes only
-// colours.
+// The same parts, computed again only if the size, the scale or the round changed. A moved cut changes only colours.
 function partsNow(shown, begin, through, { width, height }) {
   const { scale, round } = state, key = [width, height, scale, round === null ? '' : Math.floor(round)].join(' ');
   if (partsDrawn.get(shown)?.key !== key) partsDrawn.set(shown, { key, parts: partsOf(shown, begin, through) });
   return partsDrawn.get(shown).parts;
 }
 
-// The numbers of these parts, by the colour that each part has.
+// The numbers of all parts that have the same colour.
 function numbersByInk(parts, inkAt) {
   const found = new Map();
   for (const { node, numbers } of parts) {
@@ -117,7 +116,7 @@ function numbersByInk(parts, inkAt) {
   return Array.from(found, ([ink, numbers]) => ({ ink, numbers }));
 }
 
-// Where the cut is, between the last height that is kept and the first that isn't.
+// The pixel of the cut, in the middle between the last height that is kept and the first height that is cut.
 function cutAt({ heights }, { kept }, scale) {
   const right = kept ? scale.to(heights[kept - 1]) : scale.to(-Infinity);
   const left = kept < heights.length ? scale.to(heights[kept]) : 0;
@@ -128,7 +127,7 @@ const short = height => formatted(Number(height.toPrecision(3)), {
   maximumSignificantDigits: 3, notation: Math.abs(height) >= 1e6 ? 'scientific' : 'standard',
 });
 
-// Ticks whose texts don't leave the picture, nor meet each other.
+// Ticks whose texts stay inside the canvas and don't overlap.
 function tickShapes(shown, scale, { width, height }, { soft, line }) {
   let free = -Infinity;
   const ticks = ticksOf(shown, scale).map(value => ({ x: scale.to(value), text: short(value) }));
@@ -142,7 +141,7 @@ function tickShapes(shown, scale, { width, height }, { soft, line }) {
   });
 }
 
-// A text cut to so many pixels.
+// The text, shortened to this width in pixels.
 function fitting(text, width) {
   let end = text.length;
   while (end > 1 && widthOf(text.slice(0, end)) > width) end--;
@@ -185,7 +184,7 @@ export function dendrogramSvg(canvas) {
   return svgOf(shapesOf(width, height), width, height, inks().paper);
 }
 
-// How many clusters are left if links are cut at this pixel.
+// The number of clusters if the cut is at this pixel.
 export function countAt(shown, x, canvas) {
   const { n, heights } = shown, most = placing(shown, canvas.clientWidth, canvas.clientHeight).scale.from(x);
   let low = 0, high = heights.length;
@@ -197,8 +196,8 @@ export function countAt(shown, x, canvas) {
   return n - low;
 }
 
-// How many clusters are left so many different heights further down, or up if `steps` is negative.
-export function countBeside({ n, heights }, { kept }, steps) {
+// The number of clusters after the cut moves by this many different heights: down, or up if `steps` is negative.
+export function countAfter({ n, heights }, { kept }, steps) {
   let at = kept;
   for (let left = Math.abs(steps); left > 0 && (steps < 0 ? at < heights.length : at > 0); left--) {
     const height = heights[steps < 0 ? at : at - 1];
@@ -208,7 +207,8 @@ export function countBeside({ n, heights }, { kept }, steps) {
   return n - at;
 }
 
-// The branch at a pixel: the vertices of the highest node there that is whole to the right, as indices in the order.
+// The branch at a pixel: the highest node there that lies to the right of the pixel, as indices in the order of
+// vertices.
 export function branchAt(shown, x, y, canvas) {
   const { n, heights, merges: { larger, smaller, first, size, roots } } = shown;
   const { clientWidth: width, clientHeight: height } = canvas;
@@ -219,9 +219,7 @@ export function branchAt(shown, x, y, canvas) {
   return node === undefined ? null : { begin: first[node], end: first[node] + size[node] };
 }
 
-// ---- bars
-
-// The greatest heights as bars, the greatest first; those that are cut in the mark's ink.
+// The greatest heights as bars, the greatest first. Heights that are cut have the colour of marks.
 export function drawBars(canvas) {
   const plain = inks(), { pen } = emptied(canvas, plain.paper), { shown, clusters } = state;
   const { clientWidth: width, clientHeight: height } = canvas;
@@ -236,7 +234,7 @@ export function drawBars(canvas) {
   }));
 }
 
-// How many clusters are left if all bars up to this pixel are cut.
+// The number of clusters if all bars up to this pixel are cut.
 export function countAtBar(shown, x, width) {
   const count = greatest(shown).length, step = (width - 2 * EDGE) / count;
   return shown.merges.roots.length + Math.max(0, Math.min(count, Math.floor((x - EDGE) / step) + 1));

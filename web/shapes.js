@@ -43,7 +43,7 @@ const escaped = text => text.replaceAll('&', '&amp;').replaceAll('<', '&lt;').re
 
 const ANCHORS = { right: 'end', center: 'middle' };
 
-// Four numbers at a time, as a path.
+// A path of all pieces, each with four numbers.
 function pathOf(numbers, one) {
   const parts = [], r = number => number.toFixed(1);
   for (let i = 0; i < numbers.length; i += 4) parts.push(one(...numbers.slice(i, i + 4).map(r)));
@@ -78,8 +78,7 @@ export function svgOf(shapes, width, height, paper) {
   return [head, ...shapes.map(written), '</svg>', ''].join('\n');
 }
 
-// A canvas with nothing but paper on it, and as many pixels as the screen has there. `sharp` of them are one of the
-// page's.
+// Clears a canvas and gives it as many pixels as the screen has there, `sharp` per pixel of the page.
 export function emptied(canvas, paper) {
   const sharp = devicePixelRatio || 1, pen = canvas.getContext('2d', { alpha: false });
   const width = Math.round(canvas.clientWidth * sharp), height = Math.round(canvas.clientHeight * sharp);

@@ -164,7 +164,7 @@ class Engine:
         self.browser.run("return new Promise(done => requestAnimationFrame(() => requestAnimationFrame(() => done(true))))")
 
     def shown(self):
-        return [self.browser.run("return document.getElementById(arguments[0]).textContent", it) for it in ("fault", "points", "total")]
+        return [self.browser.run("return document.getElementById(arguments[0]).textContent", it) for it in ("error", "points", "total")]
 
     def expect(self, points, total):
         self.settle()
@@ -178,7 +178,7 @@ class Engine:
         """The bytes of what a button saves."""
         self.browser.run("window.kept = null; const real = URL.createObjectURL; URL.createObjectURL = it => { window.kept = it; return real.call(URL, it); };"
                          "document.getElementById(arguments[0]).click()", f"save-{name.replace('.', '-')}")
-        self.browser.wait("window.kept !== null || document.getElementById('fault').textContent")
+        self.browser.wait("window.kept !== null || document.getElementById('error').textContent")
         is_so(self.shown()[0], "")
         script = "return new Promise(done => { const it = new FileReader(); it.onload = () => done(it.result.split(',')[1]); it.readAsDataURL(window.kept); })"
         return base64.b64decode(self.browser.run(script))
@@ -205,7 +205,7 @@ def opens_what_people_have(engine):
     engine.expect("22", "4,501.454 km")
     # each figure has its label
     labels = "return [...document.querySelectorAll('#side dt')].map(it => [it.textContent, getComputedStyle(it).display !== 'none', getComputedStyle(it.nextElementSibling).display !== 'none'])"
-    is_so([it[0] for it in engine.browser.run(labels) if it[1] and it[2]], ["Points", "Links", "Total", "Longest", "Longest kept", "Chosen in ms", "Chosen by"])
+    is_so([it[0] for it in engine.browser.run(labels) if it[1] and it[2]], ["Points", "Edges", "Total", "Longest", "Longest kept", "Time in ms", "Computed by"])
 
 
 def sends_pages_on(engine):

@@ -189,7 +189,7 @@ def points_that_cannot_be_measured(_room):
     page = Page.opened()
     for text, told in [(b"-1e308,0\n1e308,1e308\n", "TooFarApart"), (b"0,0\n1e-200,0\n1,1\n", "TooNear"), (b"1e-320,0\n0,0\n1,1\n", "TooNear")]:
         page.drop(("points.csv", text))
-        is_so(page.refusal(), told)
+        is_so(page.error(), told)
     page.drop(("points.csv", b"0,0\n0,3e-300\n4e-300,0\n"))
     page.expect(size="2")
     page.drop(("points.csv", b"0,1e308\n1e308,1e308\n"))

@@ -19,7 +19,7 @@ def a_dropped_graph(_room):
     is_so(page.saved("forest.gr"), SMALL_FOREST)
     is_so(page.text("pointsword"), "Vertices")
     page.set("cut", 3)
-    page.expect(kept="0", say="3 clusters, of 4, 1, 1; 2 of fewer than 2 are grey.")
+    page.expect(kept="0", say="3 clusters. Sizes: 4, 1, 1. 2 clusters smaller than 2 are grey.")
     is_so(page.saved("clusters.csv"), b"vertex,cluster\n1,2\n2,1\n3,1\n4,1\n5,1\n6,3\n")
     with open(f"{ROOT}/examples/roads.gr", "rb") as it:
         roads = it.read()
@@ -30,7 +30,7 @@ def a_dropped_graph(_room):
     page.click("pen")
     page.browser.click_at("picture", 300, 300)
     page.frames()
-    is_so((page.text("fault"), page.text("points")), ("What is shown comes from a file. Clear it to set points.", "10"))
+    is_so((page.text("error"), page.text("points")), ("These points come from a file. Clear them to add points with the pen.", "10"))
 
 
 @case
@@ -80,7 +80,7 @@ def a_graph_that_is_too_large_to_be_drawn(_room):
     page = Page.opened()
     page.drop(("large.gr", b"p sp 1500000 2\na 1 1500000 7\na 7 1 -3\n"))
     page.set("clusters", 1)
-    page.expect(points="1,500,000", size="2", total="4", heaviest="7", say="1,499,998 clusters, of 3, 1, 1, 1, 1, 1 and 1,499,992 more; 1,499,998 of fewer than 15,000 are grey.")
+    page.expect(points="1,500,000", size="2", total="4", heaviest="7", say="1,499,998 clusters. Sizes: 3, 1, 1, 1, 1, 1 and 1,499,992 more. 1,499,998 clusters smaller than 15,000 are grey.")
     is_so(page.saved("forest.gr"), b"p sp 1500000 2\na 1 7 -3\na 1 1500000 7\n")
 
 
@@ -157,28 +157,28 @@ def files_that_are_taken(_room):
     page = Page.opened()
     for name, text, points, total in TAKEN:
         page.drop((name, text))
-        is_so((name, text[:60], page.text("fault"), page.text("points"), page.text("total")), (name, text[:60], "", points, total))
+        is_so((name, text[:60], page.text("error"), page.text("points"), page.text("total")), (name, text[:60], "", points, total))
     page.drop(("semicolons.csv", b"1,5;2,5\n4,5;6,5\n"))
     is_so(page.text("notes"), "A comma is read as the decimal point: 1,5 is 1.5.")
     # they go with what is shown
     page.drop(("bad.csv", b"1\n"))
     is_so((page.text("points"), page.text("notes")), ("2", "A comma is read as the decimal point: 1,5 is 1.5."))
     page.drop(("links.csv", b"source,target\nc,c\na,b\n"), ("places.co", b"p aux sp co 3\nv 1 0 0\nv 2 3 4\nv 3 5 5\n"))
-    is_so(page.text("notes"), "1 of the links join a name with itself, and are left out. No column is a weight: each link weighs 1.")
+    is_so(page.text("notes"), "Edges from a name to itself are left out: 1. No column is a weight, so each edge has the weight 1.")
     page.click("clear")
     is_so(page.text("notes"), "")
     page.drop(("none.gr", b"p sp 0 0\n"))
     page.expect(points="0", size="0", say="0 clusters.")
     page.drop(("long.csv", b"name,x,y\n%s,0,0\n%s,3,4\nc,3,4\n" % (b"a" * 200, b"b" * 201)))
-    is_so(page.text("notes"), "1 of the names are cut to 200 characters.")
+    is_so(page.text("notes"), "Names longer than 200 characters were shortened: 1.")
     page.expect(points="3", total="5")
 
 
 # what is said of a first row that may be data, and of a column that changes nothing
 HEADS = [
-    ("−5,−3\n0,0\n3,4\n", "The first row is read as names of columns: ‘−5’, ‘−3’. If it is a row of data, put one of names before it."),
-    ("NA;NA\n0;0\n3;4\n", "The first row is read as names of columns: ‘NA’, ‘NA’. If it is a row of data, put one of names before it."),
-    ("x,y,z\n0,0,0\n3,4,9\n", "The column z is left out: points lie on paper here."),
+    ("−5,−3\n0,0\n3,4\n", "The first row is read as column names: ‘−5’, ‘−3’. If it is data, add a row of names above it."),
+    ("NA;NA\n0;0\n3;4\n", "The first row is read as column names: ‘NA’, ‘NA’. If it is data, add a row of names above it."),
+    ("x,y,z\n0,0,0\n3,4,9\n", "The column z is ignored, because the points are in a plane."),
     ("x,y,note\n0,0,0\n3,4,9\n", ""),
     ("0,0\n3,4\n", ""),
 ]
@@ -223,13 +223,13 @@ def first_rows_that_are_guessed(_room):
     for text, is_told in [("X,Y\n7.4474,46.9480\n8.5417,47.3769\n", True), ("7.4474,46.9480\n8.5417,47.3769\n", True), ("x;y\n7,4474;46,9480\n8,5417;47,3769\n", True),
                           ("x,y\n0.4474,0.9480\n0.5417,0.3769\n", False), ("x,y\n7.44,46.94\n8.54,47.37\n", False), ("x,y\n7.4474,460.9480\n8.5417,47.3769\n", False)]:
         page.drop(("points.csv", text.encode()))
-        is_so((text, "If these are degrees, call the columns lon and lat." in page.text("notes")), (text, is_told))
+        is_so((text, "If these are degrees, name the columns lon and lat." in page.text("notes")), (text, is_told))
     # links between names: nothing tells the first from a header
     page.browser.run(DROP_SOON, [("links.csv", base64.b64encode(b"Bern,Rome\nRome,Oslo\n").decode())])
     page.browser.wait("document.getElementById('columns').open")
     page.browser.run("document.querySelector('#columns button[value=take]').click()")
     page.settle()
-    is_so(page.text("notes").split(" If ")[0], "The first row is read as names of columns: ‘Bern’, ‘Rome’.")
+    is_so(page.text("notes").split(" If ")[0], "The first row is read as column names: ‘Bern’, ‘Rome’.")
 
 
 @case
@@ -294,7 +294,7 @@ def columns_that_are_chosen(_room):
     page.browser.wait("document.getElementById('columns').open")
     page.browser.press(ESCAPE)
     page.settle()
-    is_so((page.text("fault"), page.text("points")), ("table.csv: No columns were chosen.", "3"))
+    is_so((page.text("error"), page.text("points")), ("table.csv: No columns were chosen.", "3"))
 
 
 @case
@@ -323,10 +323,10 @@ def a_table_that_is_pasted(_room):
     page.expect(points="2", total="10")
     page.browser.run(cells.replace("data.setData('text/plain', arguments[0]);", ""))
     page.settle()
-    is_so(page.refusal(), "NoText (a PNG picture)")
+    is_so(page.error(), "NoText (a PNG picture)")
     page.browser.run(paste, "nothing")
     page.settle()
-    is_so(page.refusal(), "line 1: OneColumn (‘nothing’)")
+    is_so(page.error(), "line 1: OneColumn (‘nothing’)")
 
 
 FAULTS = [
@@ -411,8 +411,8 @@ def refused_files(_room):
     before, picture = page.shown(), page.saved("picture.svg")
     for name, text, told in FAULTS:
         page.drop((name, text))
-        found = page.text("fault")
-        is_so((name, text[:60], page.refusal()[: len(told)]), (name, text[:60], told))
+        found = page.text("error")
+        is_so((name, text[:60], page.error()[: len(told)]), (name, text[:60], told))
         is_so((found[: len(name) + 2], found.endswith((".", "?")), "{}" in found), (f"{name}: ", True, False))
         is_so(page.shown(), before)
     # (what is said of a file that is refused moves the picture, and goes with what is done next)
@@ -432,10 +432,10 @@ def several_files(_room):
     before = page.shown()
     for names in (["a.csv", "b.csv"], ["a.gr", "b.gr", "b.co"], ["a.co", "b.co"]):
         page.drop(*((name, SMALL_NET if name.endswith(".gr") else PLACES if name.endswith(".co") else b"0,0\n3,4\n") for name in names))
-        is_so((page.refusal(), page.shown()), (f"SeveralFiles ({len(names)})", before))
+        is_so((page.error(), page.shown()), (f"SeveralFiles ({len(names)})", before))
     # points have their places already: they stay
     page.drop(("a.csv", b"0,0\n3,4\n"), ("a.co", b"p aux sp co 3\nv 1 0 0\nv 2 1 0\nv 3 2 0\n"))
-    is_so((page.refusal(), page.text("points"), page.text("total")), ("SeveralFiles (2)", "2", "5"))
+    is_so((page.error(), page.text("points"), page.text("total")), ("SeveralFiles (2)", "2", "5"))
 
 
 @case
@@ -446,5 +446,5 @@ def a_file_that_is_refused_while_points_are_joined(_room):
     page.set("count", 40000)
     page.browser.run("document.getElementById('random').click()")
     page.drop(("bad.csv", b"1\n"))
-    is_so(page.refusal(), "line 1: OneColumn (‘1’)")
+    is_so(page.error(), "line 1: OneColumn (‘1’)")
     is_so(page.text("points"), before)

@@ -51,7 +51,7 @@ def large_files(_room):
         ("deep.json", "", "[", 30_000_000, "BadJson"),
     ]:
         told.append(f"{name} {dropped(page, name, head, text, times):.0f} s")
-        is_so((name, page.refusal()[: len(fault)], page.shown()), (name, fault, before))
+        is_so((name, page.error()[: len(fault)], page.shown()), (name, fault, before))
     return ", ".join(told)
 
 
@@ -100,7 +100,7 @@ def a_gzip_that_expands_without_end(_room):
     page = Page.opened()
     for name, content, fault in [("bomb.csv.gz", b"0" * 300_000_000, "LongRow"), ("bomb.csv.gz", b"\n" * 300_000_000, "TooManyLines")]:
         page.drop((name, gzip.compress(content, 1)), seconds=SECONDS)
-        is_so(fault in page.refusal(), True)
+        is_so(fault in page.error(), True)
 
 
 @case
@@ -108,7 +108,7 @@ def large_graphs(_room):
     large()
     page = Page.opened()
     seconds = [dropped(page, "empty.gr", "p sp 67108864 0", "\n", 1)]
-    page.expect(points="67,108,864", size="0", total="0", say="This graph is too large to be cut here. Its forest can be saved.")
+    page.expect(points="67,108,864", size="0", total="0", say="This graph is too large to be clustered here. You can save its forest.")
     star = "".join(f"a 1 {it} {it}\n" for it in range(2, 1_000_001))
     seconds.append(dropped(page, "star.gr", "p sp 1000000 999999\n", star, 1))
     page.expect(points="1,000,000", size="999,999", total="500,000,499,999")
@@ -156,7 +156,7 @@ def names_with_markup(_room):
     saved = page.saved("clusters.csv").decode()
     is_so(all(it.decode().replace('"', '""') in saved for it in HURTING), True)
     page.drop(("<b>.csv", b"<i>\n"))
-    is_so((page.text("fault")[:9], page.refusal()[:17], page.browser.run("return document.querySelectorAll('#fault *, #notes *, b, i, img').length")), ("<b>.csv: ", "line 1: OneColumn", 0))
+    is_so((page.text("error")[:9], page.error()[:17], page.browser.run("return document.querySelectorAll('#error *, #notes *, b, i, img').length")), ("<b>.csv: ", "line 1: OneColumn", 0))
     is_so(page.browser.complaints(), [])
 
 
@@ -203,7 +203,7 @@ def numbers_at_the_ends(_room):
     page = Page.opened()
     for name, text in ENDS:
         page.drop((name, text))
-        is_so((name, page.text("fault")), (name, ""))
+        is_so((name, page.text("error")), (name, ""))
         page.browser.run(LOOKED_AT)
         page.settle()
         is_so((name, page.browser.complaints()), (name, []))
@@ -221,6 +221,6 @@ def bytes_at_random(_room):
             page.drop((name, (b"\x1f\x8b" if turn % 2 else b"") + content))
             page.browser.run("for (const it of document.querySelectorAll('dialog')) it.close()")
             page.settle()
-            is_so((page.text("fault").startswith(f"{name}: "), "Broken" in page.refusal()), (True, False))
+            is_so((page.text("error").startswith(f"{name}: "), "Broken" in page.error()), (True, False))
     page.drop(("points.csv", b"0,0\n3,4\n"))
     page.expect(total="5")

@@ -69,14 +69,14 @@ def the_scheme_changes_during_the_film(_room):
 def no_message_covers_the_points(_room):
     """The picture begins below what is said of a file that is refused, too."""
     tall = "x,y\n" + "".join(f"{i * 37 % 11},{10 * i}\n" for i in range(60))
-    script = "return Promise.all([import('./state.js'), import('./view.js')]).then(([{ state: { shown } }, { lens }]) => [document.getElementById('fault').getBoundingClientRect().bottom, lens().down(shown.points[119])])"
+    script = "return Promise.all([import('./state.js'), import('./view.js')]).then(([{ state: { shown } }, { lens }]) => [document.getElementById('error').getBoundingClientRect().bottom, lens().down(shown.points[119])])"
     for width, height in [(1280, 800), (390, 844)]:
         page = Page.opened(width=width, height=height)
         page.drop(("tall.csv", tall.encode()))
         page.drop(("bad.csv", b"x,y\n1,2\n3,4,5\n"))
         page.frames()
         bottom, highest = page.browser.run(script)
-        is_so((width, page.refusal()[:22], 40 < bottom < highest), (width, "line 3: OtherColumns (", True))
+        is_so((width, page.error()[:22], 40 < bottom < highest), (width, "line 3: OtherColumns (", True))
 
 
 def texts_of(svg):

@@ -179,14 +179,14 @@ def the_dendrogram_of_scipys_corners(_room):
             page.click("tree")
         is_so([it[2] for it in linkage_of(page)], CORNER_HEIGHTS)
         # it begins where the heights leap most
-        is_so(line_of(page), ["1", "12", "4", "4 clusters, joined up to 1"])
+        is_so(line_of(page), ["1", "12", "4", "4 clusters, merged up to 1"])
         is_same_partition(numbers_of(page), CORNER_CLUSTERS)
         page.keep(f"corners_{scheme}")
         told = []
         for key in (LEFT, LEFT, RIGHT, RIGHT, RIGHT, HOME, END):
             press(page, key)
             told.append(line_of(page)[2:])
-        one, four, twelve = ["1", "1 cluster, joined up to 2"], ["4", "4 clusters, joined up to 1"], ["12", "12 clusters"]
+        one, four, twelve = ["1", "1 cluster, merged up to 2"], ["4", "4 clusters, merged up to 1"], ["12", "12 clusters"]
         is_so(told, [one, one, four, twelve, twelve, one, twelve])
         # from between equal heights to one end of them, or the other
         for key, wanted in [(LEFT, four), (RIGHT, twelve)]:
@@ -206,7 +206,7 @@ def the_dendrogram_of_several_trees(_room):
     for key in (HOME, RIGHT, RIGHT, LEFT, LEFT):
         press(page, key)
         told.append((line_of(page), numbers_of(page)))
-    joined, apart = ["3", "7", "3", "3 clusters, joined up to 4"], ["3", "7", "5", "5 clusters, joined up to −9"]
+    joined, apart = ["3", "7", "3", "3 clusters, merged up to 4"], ["3", "7", "5", "5 clusters, merged up to −9"]
     is_so(told[0], (joined, [1, 1, 1, 2, 2, 2, 3]))
     is_so(told[1], (apart, [1, 1, 3, 2, 2, 4, 5]))
     is_so(told[2], (["3", "7", "7", "7 clusters"], [1, 2, 3, 4, 5, 6, 7]))
@@ -237,7 +237,7 @@ def the_dendrogram_of_no_one_and_two_points(_room):
     for key in (HOME, RIGHT, LEFT):
         press(page, key)
         told.append(line_of(page))
-    joined = ["1", "2", "1", "1 cluster, joined up to 5"]
+    joined = ["1", "2", "1", "1 cluster, merged up to 5"]
     is_so(told, [joined, ["1", "2", "2", "2 clusters"], joined])
     page.expect(points="2", size="1")
 

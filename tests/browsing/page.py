@@ -146,11 +146,11 @@ class Page:
     def shown(self, *names):
         return [self.text(it) for it in names or SHOWN]
 
-    def refusal(self):
+    def error(self):
         """What was refused: its line and kind, and what is there. The page's words don't have the kind."""
-        kind, line, what = self.browser.run("const { kind, line, what } = document.getElementById('fault').dataset; return [kind, line, what]")
-        if kind and kind in self.text("fault"):
-            raise AssertionError(f"an internal name is shown: {self.text('fault')}")
+        kind, line, what = self.browser.run("const { kind, line, what } = document.getElementById('error').dataset; return [kind, line, what]")
+        if kind and kind in self.text("error"):
+            raise AssertionError(f"an internal name is shown: {self.text('error')}")
         return f"{f'line {line}: ' if line not in ('0', '', None) else ''}{kind}{f' ({what})' if what else ''}"
 
     def ask(self, *files):
@@ -192,7 +192,7 @@ class Page:
         """It shows this, and has told of no fault and no error."""
         self.frames()
         is_so(dict(zip(wanted, self.shown(*wanted))), wanted)
-        is_so((self.text("fault"), self.browser.complaints()), ("", []))
+        is_so((self.text("error"), self.browser.complaints()), ("", []))
 
 
 def is_so(found, wanted):

@@ -229,13 +229,13 @@ def data_too_long_for_the_address(_room):
         page.expect(points="5,000")
         page.click("save")
         page.click("copylink")
-        page.browser.wait("document.getElementById('fault').textContent")
-        is_so((page.refusal(), page.value("copied")), ("LongAddress", ""))
+        page.browser.wait("document.getElementById('error').textContent")
+        is_so((page.error(), page.value("copied")), ("LongAddress", ""))
         # no dialog lies over what is told
         is_so(page.browser.run("return document.getElementById('saving').open"), False)
         # nor does it stay after what goes well
         page.saved("forest.csv")
-        is_so(page.text("fault"), "")
+        is_so(page.text("error"), "")
 
 
 @case
@@ -250,12 +250,12 @@ def addresses_that_are_no_data(_room):
         (address_of(b"x,y\n"), "NoPoint"),
     ]:
         page = Page.opened(more)
-        is_so((page.refusal()[: len(told)], page.text("points")), (told, "0"))
+        is_so((page.error()[: len(told)], page.text("points")), (told, "0"))
     page.browser.complaints()
     # where the page is open already
     page = Page.opened()
     page.browser.run("location.hash = '#d=AAAA'")
-    page.browser.wait("document.getElementById('fault').dataset.kind === 'BadAddress'", seconds=5)
+    page.browser.wait("document.getElementById('error').dataset.kind === 'BadAddress'", seconds=5)
     is_so((page.text("points"), page.browser.complaints()), ("67", []))
 
 
@@ -267,7 +267,7 @@ def an_embedded_page_has_no_controls(_room):
     page.keep("embed")
     # but it says why it shows nothing
     page = Page.opened("?embed#d=AAAA")
-    is_so((page.browser.run(shown), page.refusal()), (["head"], "BadAddress"))
+    is_so((page.browser.run(shown), page.error()), (["head"], "BadAddress"))
 
 
 @case
@@ -297,7 +297,7 @@ def a_page_without_its_module_says_so(_room):
     try:
         page.browser.open(page.address)
         page.browser.wait("document.body?.ariaBusy === 'false'")
-        is_so(page.text("fault"), "boruvka.wasm is missing beside this page.")
+        is_so(page.text("error"), "The file boruvka.wasm is missing. It belongs next to this page.")
     finally:
         os.rename(f"{module}.away", module)
         page.browser.complaints()

@@ -95,7 +95,7 @@ def headers_that_are_asked_about(_room):
         is_so((text, {it: int(page.value(f"role-{it}")) for it in roles}), (text, roles))
         is_so(page.text("points"), "2")
         page.answer("columns")
-        is_so((text, page.text("fault")), (text, ""))
+        is_so((text, page.text("error")), (text, ""))
         page.expect(points=points, total=total)
 
 
@@ -116,7 +116,7 @@ def names_below_any_header(_room):
     page = Page.opened()
     for text, names in NAMED:
         page.drop(("named.csv", text.encode()))
-        is_so((text, page.text("fault"), page.browser.run(NAMES)), (text, "", names))
+        is_so((text, page.text("error"), page.browser.run(NAMES)), (text, "", names))
 
 
 @case
@@ -124,16 +124,16 @@ def rows_that_lack_a_value(_room):
     """They are left out if somebody says so: not in silence, and not by refusing the file. All columns are saved again."""
     page, text = Page.opened(), b"name,x,y\nA,0,0\nB,,\nC,3,4\nD,NA,7\n"
     page.ask(("towns.csv", text))
-    is_so(page.text("missingtold"), "2 of 4 rows lack a value. The first is in line 3, which has nothing there.")
+    is_so(page.text("missingtext"), "2 of 4 rows have no value. The first is in line 3, which has nothing there.")
     page.keep("missing")
     page.answer("missing", "")
-    is_so((page.text("fault"), page.text("points")), ("towns.csv: No rows were left out.", "67"))
+    is_so((page.text("error"), page.text("points")), ("towns.csv: No rows were left out.", "67"))
     page.ask(("towns.csv", text))
     page.answer("missing")
-    page.expect(points="2", total="5", notes="2 of 4 rows are left out: they lack a value. The first is in line 3.")
+    page.expect(points="2", total="5", notes="2 of 4 rows are left out: they have no value. The first is in line 3.")
     is_so(page.saved("clusters.csv"), b"name,x,y,cluster\nA,0,0,1\nB,,,\nC,3,4,1\nD,NA,7,\n")
     page.ask(("links.csv", b"source,target,weight\na,b,1\nb,c,\nc,d,2\n"))
-    is_so(page.text("missingtold"), "1 of 3 rows lacks a value. It is in line 3, which has nothing there.")
+    is_so(page.text("missingtext"), "1 of 3 rows has no value. It is in line 3, which has nothing there.")
     page.answer("missing")
     page.expect(points="4", size="2", total="3")
     # a name may be NA, but no name may be nothing
@@ -153,9 +153,9 @@ OTHERS = [
     ("excel.csv", b"sep=;\nname;x;y\na;0;0\nb;3;4\n", "2", "5", "", "a"),
     ("comments.csv", b"# made today\n# by hand\nname,x,y\na,0,0\nb,3,4\n", "2", "5", "", "a"),
     ("comments.csv", b"name,x,y\na,0,0\n# half\nb,3,4\n", "2", "5", "Comments (#) between the rows are left out: 1.", "a"),
-    ("marked.csv", b"name,x,y\n#a,0,0\n#b,3,4\n", "2", "5", "Rows that begin with # are read as the others: 2.", "#a"),
+    ("marked.csv", b"name,x,y\n#a,0,0\n#b,3,4\n", "2", "5", "Rows that begin with # are read like the others: 2.", "#a"),
     ("bars.csv", b"name|x|y\na|0|0\nb|3|4\n", "2", "5", "", "a"),
-    ("windows.csv", "name,x,y\nZürich,0,0\nŒuvre €,3,4\n".encode("cp1252"), "2", "5", "Letters are read as Windows-1252: ‘Zürich’.", "Zürich"),
+    ("windows.csv", "name,x,y\nZürich,0,0\nŒuvre €,3,4\n".encode("cp1252"), "2", "5", "The file is read as Windows-1252: ‘Zürich’.", "Zürich"),
     ("trip.gpx", GPX, "2", "111.1949 km", "Left out: 1 of the points of tracks.", "A & B"),
     ("places.kml", KML, "2", "111.1949 km", "", "<b>one</b>"),
 ]
@@ -166,7 +166,7 @@ def files_of_other_programs(_room):
     page = Page.opened()
     for name, text, points, total, told, first in OTHERS:
         page.drop((name, text))
-        is_so((name, page.text("fault"), page.text("points"), page.text("total"), page.text("notes")), (name, "", points, total, told))
+        is_so((name, page.text("error"), page.text("points"), page.text("total"), page.text("notes")), (name, "", points, total, told))
         is_so((name, page.browser.run(NAMES)[0]), (name, first))
     page.drop(("windows.csv", "name,x,y\nZürich,0,0\nB,3,4\n".encode("cp1252")))
     is_so(page.saved("clusters.csv").decode(), "name,x,y,cluster\nZürich,0,0,1\nB,3,4,1\n")
@@ -181,7 +181,7 @@ def files_of_other_programs(_room):
         ("page.csv", b"<html><table><tr><td>1</table>", "WebPage"),
     ]:
         page.drop((name, text))
-        is_so((name, page.refusal()), (name, told))
+        is_so((name, page.error()), (name, told))
 
 
 # It reads { text } on each line, a table of links, and tells the forest: names of both ends, and the weight.
@@ -193,9 +193,9 @@ import { forestByKruskal } from './kruskal.js';
 import { nameAt } from './names.js';
 import { putWeights, weightsOf } from './weights.js';
 for (const line of readFileSync(0, 'utf8').split('\\n').filter(Boolean)) {
-    const content = new TextEncoder().encode(JSON.parse(line)), { ends, weights, names } = await readTable(await Source.of({ name: 'links.csv', content }));
+    const content = new TextEncoder().encode(JSON.parse(line)), { endpoints, weights, names } = await readTable(await Source.of({ name: 'links.csv', content }));
     const links = new Uint32Array(4 * weights.length);
-    for (let i = 0; i < weights.length; i++) links.set([Math.min(ends[2 * i], ends[2 * i + 1]) + 1, Math.max(ends[2 * i], ends[2 * i + 1]) + 1], 4 * i + 2);
+    for (let i = 0; i < weights.length; i++) links.set([Math.min(endpoints[2 * i], endpoints[2 * i + 1]) + 1, Math.max(endpoints[2 * i], endpoints[2 * i + 1]) + 1], 4 * i + 2);
     putWeights(links, weights);
     const forest = forestByKruskal(names.ends.length - 1, links), heights = weightsOf(forest, false);
     console.log(JSON.stringify(Array.from(heights, (height, i) => [nameAt(names, forest[4 * i + 2] - 1), nameAt(names, forest[4 * i + 3] - 1), height])));
@@ -254,12 +254,12 @@ def the_smallest_cluster_is_chosen(_room):
     rows = [(x, 0) for x in range(981)] + [(5000 + x, 0) for x in range(9)] + [(9000 + x, 0) for x in range(10)]
     page.drop(("points.csv", table_of(rows)))
     page.set("clusters", 3)
-    is_so((page.value("smallest"), page.text("say")), ("10", "3 clusters, of 981, 10, 9; 1 of fewer than 10 is grey."))
-    for size, told in [(9, "3 clusters, of 981, 10, 9."), (11, "3 clusters, of 981, 10, 9; 2 of fewer than 11 are grey."), (1, "3 clusters, of 981, 10, 9.")]:
+    is_so((page.value("smallest"), page.text("say")), ("10", "3 clusters. Sizes: 981, 10, 9. 1 cluster smaller than 10 is grey."))
+    for size, told in [(9, "3 clusters. Sizes: 981, 10, 9."), (11, "3 clusters. Sizes: 981, 10, 9. 2 clusters smaller than 11 are grey."), (1, "3 clusters. Sizes: 981, 10, 9.")]:
         page.set("smallest", size)
         is_so((page.value("smallest"), page.text("say")), (str(size), told))
     page.set("smallest", "")
-    is_so(page.text("say"), "3 clusters, of 981, 10, 9; 1 of fewer than 10 is grey.")
+    is_so(page.text("say"), "3 clusters. Sizes: 981, 10, 9. 1 cluster smaller than 10 is grey.")
 
 
 @case

@@ -40,7 +40,7 @@ def clicked_points(_room):
     weights = [it[0] for it in forest_of(6, all_pairs(CLICKED))]
     total, heaviest = f"{sum(weights):.7g}", f"{weights[-1]:.7g}"
     page.set("clusters", 3)
-    page.expect(total=total, heaviest=heaviest, kept="12", say="3 clusters, of 3, 2, 1; 1 of fewer than 2 is grey.")
+    page.expect(total=total, heaviest=heaviest, kept="12", say="3 clusters. Sizes: 3, 2, 1. 1 cluster smaller than 2 is grey.")
     page.keep("six_clicks")
     rows = page.saved("clusters.csv").decode().splitlines()
     is_so((rows[0], [it.rsplit(",", 1)[1] for it in rows[1:]]), ("x,y,cluster", ["1", "1", "1", "2", "2", "3"]))
@@ -178,7 +178,7 @@ def small_clusters_are_grey(_room):
     rows = [(x, 0) for x in range(981)] + [(5000 + x, 0) for x in range(9)] + [(9000 + x, 0) for x in range(10)]
     page.drop(("points.csv", "".join(f"{x},{y}\n" for x, y in rows).encode()))
     page.set("clusters", 3)
-    page.expect(say="3 clusters, of 981, 10, 9; 1 of fewer than 10 is grey.")
+    page.expect(say="3 clusters. Sizes: 981, 10, 9. 1 cluster smaller than 10 is grey.")
     _, marks = drawn_marks(page.saved("picture.svg"))
     is_so((marks.pop(GREY), sorted(marks.values())), (9, [10, 981]))
 

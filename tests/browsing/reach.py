@@ -86,7 +86,7 @@ def the_slider_moves_by_keys(_room):
     page.frames()
     is_so((page.value("cut"), page.value("clusters")), (str(before + 2), str(before + 2)))
     is_so(page.browser.run("return document.getElementById('cut').ariaValueText"), f"{before + 2} clusters")
-    is_so(page.text("say").startswith(f"{before + 2} clusters, of "), True)
+    is_so(page.text("say").startswith(f"{before + 2} clusters. Sizes: "), True)
     page.browser.press("\ue011")
     page.frames()
     is_so(page.browser.run("return document.getElementById('cut').ariaValueText"), "1 cluster")

@@ -53,7 +53,7 @@ def the_rounds_are_played_once(_room):
     page.browser.open("about:blank")
     begun = time.monotonic()
     page.browser.open(page.address)
-    while "clusters, of " not in (told := page.text("say")):
+    while "clusters. Sizes: " not in (told := page.text("say")):
         if " piece" in told and told not in said:
             said.append(told)
             page.keep(f"round_{len(said)}")
@@ -61,7 +61,7 @@ def the_rounds_are_played_once(_room):
             raise AssertionError(f"it isn't done: {said}")
     counts = [[int(it.replace(",", "")) for it in re.findall(r"\d[\d,]*\d|\d", told.split(" piece")[0])] for told in said]
     last = counts[-1]
-    is_so((last[0], last[-1], all(2 * b <= a for a, b in zip(last, last[1:])), "clusters, of " in page.text("say")), (67, 1, True, True))
+    is_so((last[0], last[-1], all(2 * b <= a for a, b in zip(last, last[1:])), "clusters. Sizes: " in page.text("say")), (67, 1, True, True))
     for shorter in counts:
         is_so(shorter, last[: len(shorter)])
     is_so(time.monotonic() - begun > 5, True)
@@ -71,10 +71,10 @@ def the_rounds_are_played_once(_room):
     is_so(page.text("play"), "Stop")
     page.browser.click("play")
     page.frames()
-    is_so((page.text("play"), "clusters, of " in page.text("say")), ("Play", True))
+    is_so((page.text("play"), "clusters. Sizes: " in page.text("say")), ("Play", True))
     # who wants less motion sees the end alone
     page = Page.opened()
-    is_so("clusters, of " in page.text("say"), True)
+    is_so("clusters. Sizes: " in page.text("say"), True)
 
 
 @case
@@ -156,16 +156,16 @@ def a_point_tells_what_it_is(_room):
     page.set("clusters", 2)
     at = places(page)
     pointer(page, at[0])
-    is_so(page.text("tip"), "<b>one</b>, cluster 1, longest link 10")
+    is_so(page.text("tip"), "<b>one</b>, cluster 1, longest edge 10")
     page.keep("tip")
     pointer(page, at[3])
-    is_so(page.text("tip"), "four, cluster 2, longest link 22.36068")
+    is_so(page.text("tip"), "four, cluster 2, longest edge 22.36068")
     pointer(page, (at[0][0] + 90, at[0][1] - 60))
     is_so(page.browser.run("return document.getElementById('tip').hidden"), True)
     is_so(page.browser.run("return document.querySelectorAll('#tip *').length"), 0)
     # by a finger
     pointer(page, at[1], "down", "up", kind="touch")
-    is_so(page.text("tip"), "two, cluster 1, longest link 10")
+    is_so(page.text("tip"), "two, cluster 1, longest edge 10")
 
 
 @case
