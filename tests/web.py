@@ -1,14 +1,13 @@
 #!/usr/bin/env python3
-"""Tests the page of web/ in Chromium, by clicks, keys, dropped files and saves, and its module in Node.
+"""Tests the page of web/ in Chromium, Firefox and WebKit, and its module in Node.
 
 usage: tests/web.py [--strict] [--module FILE] [--program FILE] [--pictures FOLDER] [CASE..]
 
-The FILEs are boruvka.wasm and the built program, if they aren't where `make` puts them. FOLDER gets pictures of the page. A
-CASE is a word in the names of the cases to run (default: all). Forests are compared with what the program writes, or with
-Kruskal's algorithm in Python if the program isn't built. Cases that need Chromium, its driver or Node are skipped if these
-aren't installed. With --strict that is a failure, and so are times beyond their limits; large inputs are tested then too.
-
-The last line is `N passed, M failed`, without the skipped cases. The exit status is 0 only if no case failed.
+The two FILEs are boruvka.wasm and the program, by default those that `make` builds. Screenshots of the page are written
+to FOLDER. Only the cases whose names contain a CASE are run, or all cases if none is given. Forests are compared with the
+program's, or with those of Kruskal's algorithm in Python if the program isn't built. Cases are skipped if a browser, its
+driver or Node is missing. With --strict, a skipped case fails, a time over its limit fails, and large inputs are tested
+too. The last line is `N passed, M failed`, without the skipped cases, and the status is 0 if no case failed.
 """
 import argparse
 import os
@@ -33,12 +32,12 @@ def tried(chosen, strict):
             os.mkdir(room)
             begun = time.monotonic()
             try:
-                told = function(room)
-                print(f"web: {name}: ok, {time.monotonic() - begun:.1f} s{f': {told}' if told else ''}", flush=True)
+                note = function(room)
+                print(f"web: {name}: ok, {time.monotonic() - begun:.1f} s{f': {note}' if note else ''}", flush=True)
             except Skipped as why:
                 failed, skipped = failed + strict, skipped + (not strict)
                 print(f"web: {name}: skipped: {why}", flush=True)
-            except Exception as error:  # noqa: BLE001 (a case that ends so has failed, and the others are tried)
+            except Exception as error:  # noqa: BLE001 (the case has failed, and the others are run)
                 failed += 1
                 kind = "" if isinstance(error, AssertionError) else f"{type(error).__name__}: "
                 print(f"web: {name}: FAILED: {kind}{error}", flush=True)

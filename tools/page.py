@@ -56,8 +56,11 @@ def variable(name):
 
 
 def without_comments(text):
-    """Returns a script without indentation and without lines that are only comments. No string in it spans lines."""
-    text = re.sub(r"^ *//.*\n|^ */\*\*[^`]*?\*/\n", "", text, flags=re.M)
+    """Returns a script without comments and indentation. No string in it spans lines."""
+    text = re.sub(r"^ *//.*\n|^ */\*\*(?:(?!\*/)[\s\S])*\*/\n", "", text, flags=re.M)
+    text = re.sub(r"/\*\* @[^`]*?\*/ ?", "", text)
+    # (a comment after code follows `;`, `,` or a bracket outside quotes)
+    text = re.sub(r"^(.*[;,{(\[]) +// .*$", lambda it: it[0] if any(it[1].count(mark) % 2 for mark in "'\"`") else it[1], text, flags=re.M)
     if any(line.count("`") % 2 for line in text.splitlines()):
         raise SystemExit("tools/page.py: a text in backticks goes over several lines")
     return re.sub(r"^ +|^\n", "", text, flags=re.M)

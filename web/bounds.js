@@ -1,4 +1,4 @@
-// The least and the greatest of some numbers, or nothing where there are none.
+// The least and the greatest of these numbers, or Infinity and -Infinity if there are none.
 export function boundsOf(values, step = 1, begin = 0) {
   let low = Infinity, high = -Infinity;
   for (let i = begin; i < values.length; i += step) {

@@ -1,17 +1,16 @@
-// What the card tells: the sums of what runs here. A packed page has all of it inside; a page that is served knows
-// its module.
+// The checksums on the card. A packed page contains all of its parts; a page on a server knows only its module.
 
 const $ = id => document.getElementById(id);
 const hex = bytes => Array.from(new Uint8Array(bytes), byte => byte.toString(16).padStart(2, '0')).join('');
 
-// A packed page's script, style and worker, as the texts that the browser is given.
+// The script, the style and the worker of a packed page, exactly as the browser gets them.
 function textsOf() {
   const isPacked = Boolean($('packed-worker'));
   const text = part => isPacked ? document.querySelector(part).textContent : '';
   return { scripts: text('script[type=module]'), style: text('style'), worker: text('#packed-worker') };
 }
 
-export async function tellSums(module) {
+export async function showSums(module) {
   if (!crypto.subtle) return;
   const texts = Object.entries(textsOf()).filter(([, text]) => text);
   const parts = texts.map(([name, text]) => ({ name, bytes: new TextEncoder().encode(text) }));

@@ -1,4 +1,6 @@
-// The dialogs that ask: which columns of a table say what, and whether rows that lack a value are left out.
+// Two dialogs: what the columns of a table mean, and whether rows without a value are left out.
+
+import { counted } from './measures.js';
 
 /** @typedef {import('./types.js').Choice} Choice */
 
@@ -9,7 +11,7 @@ const ROLES = {
   globe: { across: 'Longitude', up: 'Latitude', name: 'Name' },
   links: { from: 'From', to: 'To', weight: 'Weight' },
 };
-const MAY_LACK = ['name', 'weight'];
+const OPTIONAL = ['name', 'weight'];
 
 function element(kind, text = '', more = {}) {
   const made = Object.assign(document.createElement(kind), more);
@@ -25,28 +27,27 @@ function showSample(rows) {
   }));
 }
 
-// A select for each role of the kind.
 function showRoles({ kind, roles }, header) {
-  $('roles').replaceChildren(...Object.entries(ROLES[kind]).map(([role, told], i) => {
-    const label = element('label', told), select = /** @type {any} */ (element('select', '', { id: `role-${role}` }));
+  $('roles').replaceChildren(...Object.entries(ROLES[kind]).map(([role, title], i) => {
+    const label = element('label', title), select = /** @type {any} */ (element('select', '', { id: `role-${role}` }));
     const names = header.map((field, column) => element('option', field.slice(0, 30), { value: String(column) }));
-    select.append(...(MAY_LACK.includes(role) ? [element('option', 'none', { value: '-1' })] : []), ...names);
-    select.value = String(roles[role] ?? (MAY_LACK.includes(role) ? -1 : Math.min(i, header.length - 1)));
+    select.append(...(OPTIONAL.includes(role) ? [element('option', 'none', { value: '-1' })] : []), ...names);
+    select.value = String(roles[role] ?? (OPTIONAL.includes(role) ? -1 : Math.min(i, header.length - 1)));
     label.append(select);
     return label;
   }));
 }
 
-// Opens a dialog; what is chosen by `taken` if its first button ends it, or null.
-function asked(dialog, taken) {
+// Opens a dialog. The promise is for the choice that `chosen` returns, or for null if the dialog was cancelled.
+function opened(dialog, chosen) {
   $(dialog).returnValue = '';
   $(dialog).showModal();
   return new Promise(done => {
-    $(dialog).onclose = () => done($(dialog).returnValue === 'take' ? taken() : null);
+    $(dialog).onclose = () => done($(dialog).returnValue === 'take' ? chosen() : null);
   });
 }
 
-// What is chosen, as columns.js has choices; null if the dialog is closed.
+// Asks which columns to use. The choice has the form of columns.js, or is null if the dialog was cancelled.
 export function askColumns({ rows, guess }) {
   const names = () => $('header').checked ? rows[0] : rows[0].map((field, i) => `${i + 1}: ${field}`);
   const chosen = () => {
@@ -60,15 +61,15 @@ export function askColumns({ rows, guess }) {
   showRoles(guess, names());
   $('kind').onchange = () => showRoles({ kind: $('kind').value, roles: {} }, names());
   $('header').onchange = () => showRoles(chosen(), names());
-  return asked('columns', chosen);
+  return opened('columns', chosen);
 }
 
-// The choice that leaves out rows which lack a value; null if the dialog is closed.
+// Asks whether to leave out rows without a value. Returns the choice that does so, or null.
 export function askMissing({ missing: { count, rows, line, field }, choice }) {
   const found = field ? `‘${field}’` : 'nothing';
-  const [many, all] = [count, rows].map(number => number.toLocaleString('en')), isOne = count === 1;
-  const told = `${many} of ${all} rows ${isOne ? 'lacks' : 'lack'} a value. ${isOne ? 'It' : 'The first'}`;
-  $('missingtold').textContent = `${told} is in line ${line}, which has ${found} there.`;
+  const [many, all] = [count, rows].map(counted), isOne = count === 1;
+  const begin = `${many} of ${all} rows ${isOne ? 'has' : 'have'} no value. ${isOne ? 'It' : 'The first'}`;
+  $('missingtext').textContent = `${begin} is in line ${line}, which has ${found} there.`;
   $('leaveout').textContent = isOne ? 'Leave the row out' : `Leave ${many} rows out`;
-  return asked('missing', () => ({ ...choice, leavesOut: true }));
+  return opened('missing', () => ({ ...choice, leavesOut: true }));
 }

@@ -1,9 +1,9 @@
-// Points drawn at random, in nine clouds.
+// Random points in nine clouds.
 
 const SEED = 625769211;
 const CLOUDS = 9;
 
-// Numbers from 0 to 1, the same for the same seed (Marsaglia's xorshift of 32 bits).
+// A generator of numbers from 0 to 1, by Marsaglia's xorshift with 32 bits. The same seed gives the same numbers.
 function unitsOf(seed) {
   let word = seed;
   return () => {
@@ -14,7 +14,7 @@ function unitsOf(seed) {
   };
 }
 
-// Clouds, each the one of eight drawn that is farthest from those before.
+// Each cloud is the one of eight candidates that is farthest from the clouds before it.
 function drawnClouds(unit) {
   const clouds = [], place = () => ({ x: 1000 * unit(), y: 640 * unit(), size: 40 + 60 * unit() });
   const between = (one, other) => Math.hypot(one.x - other.x, one.y - other.y) - one.size - other.size;
@@ -25,7 +25,7 @@ function drawnClouds(unit) {
   return clouds;
 }
 
-// n points: others for each turn, the same at each visit.
+// n points. They differ from turn to turn, but are the same at each visit.
 export function drawnPoints(n, turn) {
   const unit = unitsOf(SEED + 7919 * turn), clouds = drawnClouds(unit), points = new Float64Array(2 * n);
   const hundredth = value => Math.round(100 * value) / 100;

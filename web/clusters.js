@@ -1,5 +1,6 @@
-// What stays joined when the forest's heaviest links are cut.
+// The clusters that are left if the heaviest edges of the forest are cut.
 
+import { counted } from './measures.js';
 import { NONE } from './merges.js';
 
 /**
@@ -7,14 +8,13 @@ import { NONE } from './merges.js';
  * @typedef {import('./types.js').Clusters} Clusters
  */
 
-const SPLITS = 30; // how many of the greatest heights are looked at
-const CLEAR = 1.6; // a link that separates clusters is so many times as long as the next one
-const LEAST_POINTS = 4; // in a first cluster, on average
+const SPLITS = 30; // the number of the greatest heights that are considered
+const CLEAR = 1.6; // an edge between clusters is at least this many times as long as the next one
+const LEAST_POINTS = 4; // average number of points per cluster at first
 
-// The greatest heights, the greatest first.
 export const greatest = ({ heights }) => Array.from(heights.subarray(Math.max(0, heights.length - SPLITS))).reverse();
 
-// The indices, from the heaviest on, of the merges that join two parts neither of which is noise.
+// The indices of the merges whose two sides are both larger than noise, the heaviest merge first.
 function splitsOf({ heights, merges: { larger, smaller, size } }, few) {
   const found = [];
   for (let i = heights.length - 1; i >= 0 && found.length < SPLITS; i--) {
@@ -23,8 +23,9 @@ function splitsOf({ heights, merges: { larger, smaller, size } }, few) {
   return found;
 }
 
-// How many clusters there are if links are cut where the heights of such merges jump most; without a clear jump, one
-// for each tree. The last of them is compared with the merge below it, whatever that joins.
+// The number of clusters at first: the heaviest edges are cut where the heights of such merges jump most. Without a
+// clear jump, each tree is one cluster. The last of these merges is compared with the merge below it, whatever its
+// size.
 export function firstCount(shown, few) {
   const { n, heights, merges: { roots } } = shown, splits = splitsOf(shown, few);
   const last = splits.at(-1);
@@ -38,7 +39,6 @@ export function firstCount(shown, few) {
   return count;
 }
 
-// Two lists in this order, as one.
 function mergedLists(one, other, order) {
   const all = new Uint32Array(one.length + other.length);
   for (let i = 0, j = 0; i + j < all.length;) {
@@ -49,7 +49,7 @@ function mergedLists(one, other, order) {
 }
 
 /**
- * The clusters: their nodes, the largest first; the colour of each vertex, or NONE; and how many links stay.
+ * The clusters: their nodes, the largest first; the colour of each vertex, or NONE; and the number of edges kept.
  * @param {Shown} shown
  * @param {number} wanted
  * @param {Uint32Array} colour - of each node
@@ -71,7 +71,7 @@ export function clustersAt({ n, merges }, wanted, colour) {
   return { count, kept, nodes: all, colours, colour };
 }
 
-// The number of each vertex's cluster, from 1 on, the largest first.
+// The number of each vertex's cluster. The largest cluster has the number 1.
 export function numbersOf({ n, merges: { first, size, order } }, { nodes }) {
   const numbers = new Uint32Array(n);
   for (const [i, node] of nodes.entries()) {
@@ -80,13 +80,12 @@ export function numbersOf({ n, merges: { first, size, order } }, { nodes }) {
   return numbers;
 }
 
-const counted = number => number.toLocaleString('en');
-
-// The clusters in words: how many, and the sizes of the largest.
-export function clustersTold({ merges: { size } }, { count, nodes, colour }, few) {
+// The number of clusters and the sizes of the largest, as sentences.
+export function clustersText({ merges: { size } }, { count, nodes, colour }, few) {
   const large = nodes.filter(node => colour[node] !== NONE), small = count - large.length;
   const sizes = Array.from(nodes.subarray(0, 6), node => counted(size[node])), more = count - sizes.length;
-  const noise = small ? `; ${counted(small)} of fewer than ${counted(few)} ${small === 1 ? 'is' : 'are'} grey` : '';
-  const of = sizes.length ? `, of ${sizes.join(', ')}` : '';
-  return `${counted(count)} cluster${count === 1 ? '' : 's'}${of}${more ? ` and ${counted(more)} more` : ''}${noise}`;
+  const clusters = number => `${counted(number)} cluster${number === 1 ? '' : 's'}`;
+  const all = `${sizes.join(', ')}${more ? ` and ${counted(more)} more` : ''}`;
+  const noise = small ? ` ${clusters(small)} smaller than ${counted(few)} ${small === 1 ? 'is' : 'are'} grey.` : '';
+  return `${clusters(count)}.${sizes.length ? ` Size${count === 1 ? '' : 's'}: ${all}.` : ''}${noise}`;
 }

@@ -1,5 +1,5 @@
-// The coast around the example's towns, in degrees east and north: drawn by hand, a corner about every forty
-// kilometres.
+// The coast around the towns of the example, in degrees east and north. It was drawn by hand, with a corner about every
+// forty kilometres.
 
 import { EXAMPLE } from './example.js';
 

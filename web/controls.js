@@ -1,12 +1,13 @@
-// What controls do: the bar, the dialogs, the sheet of a phone, the dendrogram, and the window.
+// What the controls do: the bar, the dialogs, the sheet of a phone, the dendrogram and the window.
 
-import { branchAt, countAt, countAtBar, countBeside } from './dendrogram.js';
+import { branchAt, countAt, countAtBar, countAfter } from './dendrogram.js';
+import { sizesNow } from './figures.js';
 import { isPlaying, play, stopPlaying } from './playing.js';
 import { change, colourFrom, cutTo, state } from './state.js';
 
 const $ = id => /** @type {any} */ (document.getElementById(id));
 const LEAST_PULL = 30; // pixels
-// different heights by which keys move the dendrogram's line
+// the number of different heights by which a key moves the cut
 const STEPS = {
   ArrowLeft: -1, ArrowDown: -1, PageDown: -10, Home: -Infinity, ArrowRight: 1, ArrowUp: 1, PageUp: 10, End: Infinity,
 };
@@ -22,7 +23,7 @@ export function listenToOpening(opening) {
   $('take').onclick = closed(() => opening.openText($('pasted').value));
   $('files').onchange = closed(() => {
     const files = [...$('files').files];
-    $('files').value = ''; // so that the same file can be opened again
+    $('files').value = ''; // so that the same file can be chosen again
     return opening.openChosen(files);
   });
   $('stop').onclick = () => opening.stop();
@@ -30,7 +31,7 @@ export function listenToOpening(opening) {
   $('redo').onclick = () => opening.redo();
 }
 
-// A field of a whole number, which shows afterwards what there is: what was written may be no such number.
+// A field for a whole number. Afterwards it shows the number in use, since the text may have been no such number.
 function listenToNumber(id, take, now) {
   $(id).onchange = () => {
     take($(id).valueAsNumber);
@@ -46,7 +47,7 @@ export function listenToBar() {
   listenToNumber('smallest', value => colourFrom(value >= 1 ? Math.round(value) : null), () => state.smallest ?? '');
   $('pen').onclick = () => change({ tool: state.tool === 'pen' ? 'hand' : 'pen', cross: null });
   $('save').onclick = () => {
-    $('copied').hidden = true; // what was copied of other points, or clusters
+    $('copied').hidden = true; // it may be about other points or clusters
     $('saving').showModal();
   };
   $('about').onclick = () => $('card').showModal();
@@ -64,7 +65,7 @@ function pull(isUp) {
   settle();
 }
 
-// On a phone the tree is a sheet, which its button or a finger pulls up and down.
+// On a phone the tree is a sheet, which a button or a finger pulls up and down.
 export function listenToSheet() {
   let begun = null;
   $('tree').onclick = () => pull(!document.body.classList.contains('pulled'));
@@ -81,7 +82,7 @@ export function listenToSheet() {
   }
 }
 
-// A drag or a key moves the dashed line; without a button the branch under the pointer is shown.
+// A drag or a key moves the cut. If no button is pressed, the branch under the pointer is highlighted.
 export function listenToDendrogram() {
   const canvas = $('dendrogram'), canCut = () => state.clusters && state.shown.heights.length;
   const cut = event => canCut() && cutTo(countAt(state.shown, event.offsetX, canvas));
@@ -98,12 +99,12 @@ export function listenToDendrogram() {
     const { key, altKey, ctrlKey, metaKey } = event;
     if (!(key in STEPS) || altKey || ctrlKey || metaKey) return;
     event.preventDefault();
-    if (canCut()) cutTo(countBeside(state.shown, state.clusters, STEPS[key]));
+    if (canCut()) cutTo(countAfter(state.shown, state.clusters, STEPS[key]));
   };
   $('bars').onpointerdown = event => canCut() && cutTo(countAtBar(state.shown, event.offsetX, $('bars').clientWidth));
 }
 
-// Undo and redo by the keys that programs have for them.
+// The usual keys for undo and redo.
 function turnBackKey(event, opening) {
   const { key, ctrlKey, metaKey, shiftKey, target } = event, letter = key.toLowerCase();
   if (!(ctrlKey || metaKey) || !['y', 'z'].includes(letter) || target.matches('input, textarea')) return;
@@ -112,7 +113,7 @@ function turnBackKey(event, opening) {
   else opening.undo();
 }
 
-export function listenToWindow(opening, fault) {
+export function listenToWindow(opening, showError) {
   const observer = new ResizeObserver(settle);
   for (const id of ['head', 'side', 'bar']) observer.observe($(id));
   addEventListener('resize', settle);
@@ -121,7 +122,7 @@ export function listenToWindow(opening, fault) {
     const { target, clipboardData } = /** @type {any} */ (event);
     if (!target.matches('input, textarea')) opening.openAll(clipboardData);
   });
-  addEventListener('hashchange', () => opening.openCarried().catch(fault));
+  addEventListener('hashchange', () => opening.openCarried().catch(showError));
   document.ondragover = event => {
     event.preventDefault();
     document.body.classList.add('over');
@@ -134,8 +135,7 @@ export function listenToWindow(opening, fault) {
   };
 }
 
-// Prints on light paper, the picture in the shape that it has. Nothing is drawn between this event and the print,
-// unless `showNow` draws it.
+// A printed page is light. The browser draws no frame between the event and the print, so `showNow` draws at once.
 export function listenToPrinting(showNow) {
   const turn = isPrinted => {
     change({ isPrinted });
@@ -146,7 +146,8 @@ export function listenToPrinting(showNow) {
   matchMedia('print').addEventListener('change', ({ matches }) => turn(matches));
 }
 
-// Measures what part of the picture nothing covers.
+// Measures the part of the picture that nothing covers. If that or the size of a canvas changed, everything is drawn
+// again.
 export function settle() {
   const { classList } = document.body, isEmbedded = classList.contains('embed');
   const box = id => $(id).getBoundingClientRect(), gap = 8;
@@ -156,6 +157,6 @@ export function settle() {
   const low = isSheet && isPulled ? Math.min(box('side').top, box('bar').top) : box('bar').top;
   const bottom = isEmbedded ? innerHeight - gap : low - gap;
   const free = { left: 0, top, width: Math.max(40, right), height: Math.max(40, bottom - top) };
-  if (Object.keys(free).every(key => free[key] === state.free[key])) change({});
-  else change({ free });
+  const isSame = sizesNow() === state.drawn.sizes && Object.keys(free).every(key => free[key] === state.free[key]);
+  if (!isSame) change({ free });
 }

@@ -1,18 +1,19 @@
-// The dendrogram: heights from the right, 0 or the least, to the left. And the greatest heights as bars. While the
-// rounds are played, it has the merges whose links are all taken.
+// The dendrogram, with heights that grow from right to left, and the greatest heights as bars. While the rounds are
+// played, it shows the merges whose edges have all been chosen.
 
 import { greatest } from './clusters.js';
 import { inkOf, inks } from './inks.js';
 import { widthOf } from './labels.js';
+import { formatted } from './measures.js';
 import { nameAt } from './names.js';
 import { emptied, paint, svgOf } from './shapes.js';
 import { state } from './state.js';
 
-const MOST_BRACKETS = 1000; // merges that are drawn, the heaviest
+const MOST_BRACKETS = 1000; // only the heaviest merges are drawn
 const EDGE = 14; // pixels
 const FOOT = 34; // pixels for the ticks
-const LEAST_ROW = 11; // pixels of a leaf's name
-const MOST_NAME = 0.38; // of the width
+const LEAST_ROW = 11; // pixels per leaf with a name
+const MOST_NAME = 0.38; // of the width of the canvas
 
 const BENDS = {
   even: { to: height => height, from: value => value },
@@ -23,20 +24,20 @@ const BENDS = {
   log: { to: Math.log, from: Math.exp },
 };
 
-// How many pixels the names of the leaves have at the right; none where they have no room.
+// The width of the names of the leaves, in pixels, or 0 if they don't fit.
 function nameWidth({ n, names }, width, height) {
   if (!names || (height - FOOT - EDGE) / n < LEAST_ROW) return 0;
   const widest = Math.max(...Array.from({ length: n }, (_, v) => widthOf(nameAt(names, v))));
   return Math.min(widest + 6, MOST_NAME * width);
 }
 
-// Where a height is from left to right. By logarithm it begins at the least height above 0.
+// The scale of heights. A logarithmic one begins at the least height above 0.
 function scaleOf({ heights }, width, right = EDGE) {
   const { to, from } = BENDS[state.scale], positive = heights.find(height => height > 0) ?? 1;
   const isLog = state.scale === 'log';
   const low = to(isLog ? positive : Math.min(0, heights[0]));
   const high = to(Math.max(heights.at(-1), isLog ? positive : -Infinity));
-  // as parts of the greatest, since the difference of two doubles may be past what doubles hold
+  // relative to the greatest, because the difference of two doubles may be too large for a double
   const unit = Math.max(Math.abs(low), Math.abs(high)) || 1, most = high / unit, across = most - low / unit || 1;
   const room = width - EDGE - right, bounded = height => isLog ? Math.max(height, positive) : height;
   const pixel = height => EDGE + room * (most - to(bounded(height)) / unit) / across;
@@ -50,7 +51,7 @@ function placing(shown, width, height) {
   return { scale, end, xOf, yOf: place => EDGE + most * place / n };
 }
 
-// A few round heights between the ends of the scale.
+// A few round heights for the ticks.
 function ticksOf({ heights }, scale) {
   const most = heights.at(-1);
   if (!(most > 0)) return [heights[0], most];
@@ -65,51 +66,68 @@ function ticksOf({ heights }, scale) {
   return Array.from({ length: Math.floor(most / step) + 1 }, (_, i) => i * step);
 }
 
-// Whether a merge is there yet: while the rounds are played, once all of its links are taken.
+// Whether a merge is shown yet. While the rounds are played, it is shown once all of its edges have been chosen.
 function thereYet({ n, rounds }) {
   const { round } = state;
   return round === null ? () => true : node => node < n || rounds.born[node - n] <= round;
 }
 
-// Merges from `begin` on: lines to what each joins; what isn't drawn itself is a bar.
-function mergeShapes(shown, begin, { xOf, yOf, end, inkAt }) {
-  const { n, merges: { roots, larger, smaller, size, first } } = shown, isThere = thereYet(shown), lines = new Map();
-  const bars = new Map();
-  const put = (map, ink, path) => (map.get(ink) || map.set(ink, []).get(ink)).push(path);
-  const r = pixel => pixel.toFixed(1);
-  const middle = node => yOf(first[node] + size[node] / 2);
+// The shapes of the merges from index `begin` on, without colours: segments to the two nodes that each merge joins, and
+// boxes for nodes whose own merges aren't drawn. `node` gives a part its colour.
+function partsOf(shown, begin, { xOf, yOf, end }) {
+  const { n, merges: { roots, larger, smaller, size, first } } = shown, isThere = thereYet(shown);
+  const segments = [], boxes = [], middle = node => yOf(first[node] + size[node] / 2);
   let covered = -1;
-  const bar = node => {
+  const addBox = node => {
     if (node < n || node >= n + begin || !isThere(node)) return;
-    const top = yOf(first[node]), tall = Math.max(0.3, yOf(first[node] + size[node]) - top);
-    if (tall < 0.5 && Math.abs(top - covered) < 0.5) return; // there is one already
+    const top = yOf(first[node]), height = Math.max(0.3, yOf(first[node] + size[node]) - top);
+    if (height < 0.5 && Math.abs(top - covered) < 0.5) return; // there is one already
     covered = top;
-    put(bars, inkAt(node), `M${r(xOf(node))} ${r(top)}H${r(end)}v${r(tall)}H${r(xOf(node))}z`);
+    boxes.push({ node, numbers: [xOf(node), top, end - xOf(node), height] });
   };
-  roots.forEach(bar);
+  roots.forEach(addBox);
   for (let i = begin; i < larger.length; i++) {
-    const x = xOf(n + i);
-    for (const node of [larger[i], smaller[i]]) bar(node);
+    const x = xOf(n + i), joined = [larger[i], smaller[i]], [from, to] = joined.map(middle);
+    joined.forEach(addBox);
     if (!isThere(n + i)) continue;
-    for (const node of [larger[i], smaller[i]]) put(lines, inkAt(node), `M${r(x)} ${r(middle(node))}H${r(xOf(node))}`);
-    put(lines, inkAt(n + i), `M${r(x)} ${r(middle(larger[i]))}V${r(middle(smaller[i]))}`);
+    for (const node of joined) segments.push({ node, numbers: [x, middle(node), xOf(node), middle(node)] });
+    segments.push({ node: n + i, numbers: [x, from, x, to] });
   }
-  const filled = Array.from(bars, ([ink, paths]) => ({ fill: ink, path: paths.join('') }));
-  return [...filled, ...Array.from(lines, ([ink, paths]) => ({ stroke: ink, width: 1.2, path: paths.join('') }))];
+  return { segments, boxes };
 }
 
-// Where the cut is, between the last height that is kept and the first that isn't.
+const partsDrawn = new WeakMap(); // by the points or the graph
+
+// The same parts, computed again only if the size, the scale or the round changed. A moved cut changes only colours.
+function partsNow(shown, begin, through, { width, height }) {
+  const { scale, round } = state, key = [width, height, scale, round === null ? '' : Math.floor(round)].join(' ');
+  if (partsDrawn.get(shown)?.key !== key) partsDrawn.set(shown, { key, parts: partsOf(shown, begin, through) });
+  return partsDrawn.get(shown).parts;
+}
+
+// The numbers of all parts that have the same colour.
+function numbersByInk(parts, inkAt) {
+  const found = new Map();
+  for (const { node, numbers } of parts) {
+    const ink = inkAt(node);
+    if (!found.has(ink)) found.set(ink, []);
+    found.get(ink).push(...numbers);
+  }
+  return Array.from(found, ([ink, numbers]) => ({ ink, numbers }));
+}
+
+// The pixel of the cut, in the middle between the last height that is kept and the first height that is cut.
 function cutAt({ heights }, { kept }, scale) {
   const right = kept ? scale.to(heights[kept - 1]) : scale.to(-Infinity);
   const left = kept < heights.length ? scale.to(heights[kept]) : 0;
   return ((Number.isFinite(right) ? right : scale.to(scale.low)) + left) / 2;
 }
 
-const short = height => Number(height.toPrecision(3)).toLocaleString('en', {
+const short = height => formatted(Number(height.toPrecision(3)), {
   maximumSignificantDigits: 3, notation: Math.abs(height) >= 1e6 ? 'scientific' : 'standard',
 });
 
-// Ticks whose texts don't leave the picture, nor meet each other.
+// Ticks whose texts stay inside the canvas and don't overlap.
 function tickShapes(shown, scale, { width, height }, { soft, line }) {
   let free = -Infinity;
   const ticks = ticksOf(shown, scale).map(value => ({ x: scale.to(value), text: short(value) }));
@@ -123,7 +141,7 @@ function tickShapes(shown, scale, { width, height }, { soft, line }) {
   });
 }
 
-// A text cut to so many pixels.
+// The text, shortened to this width in pixels.
 function fitting(text, width) {
   let end = text.length;
   while (end > 1 && widthOf(text.slice(0, end)) > width) end--;
@@ -146,9 +164,11 @@ function shapesOf(width, height) {
   const labels = round === null ? null : rounds.labels[Math.min(Math.floor(round), rounds.labels.length - 1)];
   const inkAt = labels ? node => inkOf(plain, labels[order[first[node]]]) : ofClusters;
   const x = cutAt(shown, clusters, through.scale).toFixed(1);
+  const { boxes, segments } = partsNow(shown, Math.max(0, heights.length - MOST_BRACKETS), through, { width, height });
   return [
     ...tickShapes(shown, through.scale, { width, height }, plain),
-    ...mergeShapes(shown, Math.max(0, heights.length - MOST_BRACKETS), { ...through, inkAt }),
+    ...numbersByInk(boxes, inkAt).map(({ ink, numbers }) => ({ fill: ink, boxes: numbers })),
+    ...numbersByInk(segments, inkAt).map(({ ink, numbers }) => ({ stroke: ink, width: 1.2, segments: numbers })),
     ...nameShapes(shown, width, through, plain.ink),
     ...(labels ? [] : [{ stroke: plain.mark, width: 2, dash: [5, 4], path: `M${x} 2V${height - FOOT}` }]),
   ];
@@ -164,7 +184,7 @@ export function dendrogramSvg(canvas) {
   return svgOf(shapesOf(width, height), width, height, inks().paper);
 }
 
-// How many clusters are left if links are cut at this pixel.
+// The number of clusters if the cut is at this pixel.
 export function countAt(shown, x, canvas) {
   const { n, heights } = shown, most = placing(shown, canvas.clientWidth, canvas.clientHeight).scale.from(x);
   let low = 0, high = heights.length;
@@ -176,8 +196,8 @@ export function countAt(shown, x, canvas) {
   return n - low;
 }
 
-// How many clusters are left so many different heights further down, or up if `steps` is negative.
-export function countBeside({ n, heights }, { kept }, steps) {
+// The number of clusters after the cut moves by this many different heights: down, or up if `steps` is negative.
+export function countAfter({ n, heights }, { kept }, steps) {
   let at = kept;
   for (let left = Math.abs(steps); left > 0 && (steps < 0 ? at < heights.length : at > 0); left--) {
     const height = heights[steps < 0 ? at : at - 1];
@@ -187,7 +207,8 @@ export function countBeside({ n, heights }, { kept }, steps) {
   return n - at;
 }
 
-// The branch at a pixel: the vertices of the highest node there that is whole to the right, as indices in the order.
+// The branch at a pixel: the highest node there that lies to the right of the pixel, as indices in the order of
+// vertices.
 export function branchAt(shown, x, y, canvas) {
   const { n, heights, merges: { larger, smaller, first, size, roots } } = shown;
   const { clientWidth: width, clientHeight: height } = canvas;
@@ -198,9 +219,7 @@ export function branchAt(shown, x, y, canvas) {
   return node === undefined ? null : { begin: first[node], end: first[node] + size[node] };
 }
 
-// ---- bars
-
-// The greatest heights as bars, the greatest first; those that are cut in the mark's ink.
+// The greatest heights as bars, the greatest first. Heights that are cut have the colour of marks.
 export function drawBars(canvas) {
   const plain = inks(), { pen } = emptied(canvas, plain.paper), { shown, clusters } = state;
   const { clientWidth: width, clientHeight: height } = canvas;
@@ -215,7 +234,7 @@ export function drawBars(canvas) {
   }));
 }
 
-// How many clusters are left if all bars up to this pixel are cut.
+// The number of clusters if all bars up to this pixel are cut.
 export function countAtBar(shown, x, width) {
   const count = greatest(shown).length, step = (width - 2 * EDGE) / count;
   return shown.merges.roots.length + Math.max(0, Math.min(count, Math.floor((x - EDGE) / step) + 1));

@@ -1,13 +1,16 @@
-// A soft change from one picture to another, where the browser has View Transitions and nobody has asked for less
+// A soft change from one picture to another, if the browser has View Transitions and the user hasn't asked for less
 // motion.
 
 export const isStill = matchMedia('(prefers-reduced-motion: reduce)');
 
-// Calls it, now or with the next frame, and lets what was seen before fade away.
+// Makes the call, now or before the next frame, and lets the picture before it fade away.
 export function fade(call) {
   if (isStill.matches || !document.startViewTransition) return call();
   const transition = document.startViewTransition(call);
-  // (both are refused if another change comes before its end)
+  // (both promises are rejected if another change begins before this one ends)
   for (const promise of [transition.ready, transition.finished]) promise.catch(() => {});
   return transition.updateCallbackDone;
 }
+
+// Waits until the next frame has been drawn.
+export const afterFrame = () => new Promise(done => requestAnimationFrame(() => setTimeout(done)));

@@ -1,8 +1,8 @@
-// The rounds as a film: each frame is drawn and encoded for its own time, so that a slow machine cuts nothing off.
+// The rounds as a film. Each frame is drawn for its own time, so that the film is complete on a slow machine too.
 
 import { inks } from './inks.js';
 import { isDrawnAtOnce, jobOf, shapesOf } from './picture.js';
-import { HOLD, SECONDS, lastRound, piecesAt, roundsTold } from './playing.js';
+import { HOLD, SECONDS, lastRound, piecesAt, roundsText } from './playing.js';
 import { counted } from './measures.js';
 import { paint } from './shapes.js';
 import { state } from './state.js';
@@ -11,7 +11,7 @@ import { webmOf } from './webm.js';
 
 const WIDTH = 960, HEIGHT = 540;
 const RATE = 24; // frames in a second
-const MOST_WAITING = 8; // frames that the encoder has yet to take
+const MOST_WAITING = 8; // frames in the queue of the encoder
 const CONFIGURATION = {
   codec: 'vp8', width: WIDTH, height: HEIGHT, bitrate: 3_000_000, framerate: RATE, latencyMode: 'realtime',
   contentHint: 'motion',
@@ -19,7 +19,8 @@ const CONFIGURATION = {
 const TOP = 92; // pixels above the picture
 const FREE = { left: 0, top: TOP, width: WIDTH, height: HEIGHT - TOP };
 
-// Why no film can be made in this browser, or nothing. (A WebKit without codecs ends if it is asked for an encoder.)
+// The reason why this browser can't make a film, or an empty text. (WebKit without codecs crashes if it is asked for an
+// encoder.)
 export async function whyNoFilm() {
   const canShow = document.createElement('video').canPlayType('video/webm; codecs="vp8"');
   if (!window.VideoEncoder || !canShow) return 'This browser can’t make a film.';
@@ -27,7 +28,7 @@ export async function whyNoFilm() {
   return supported ? '' : 'This browser can’t encode VP8.';
 }
 
-// The picture at a time of the rounds, with what it is and how many pieces there are.
+// Draws the picture at a time of the rounds, with a title and the number of pieces.
 async function drawFrame(canvas, painter, round) {
   const pen = canvas.getContext('2d', { alpha: false }), plain = inks(), { shown } = state;
   const through = lens(wholeView(FREE), FREE);
@@ -37,25 +38,24 @@ async function drawFrame(canvas, painter, round) {
   else {
     const job = jobOf({ moment: { round }, through, sharp: 1, width: WIDTH, height: HEIGHT });
     const words = await painter.draw(shown, job);
-    if (!words) throw new Error('The film can’t be drawn: the browser gives no more memory.');
+    if (!words) throw new Error('The film can’t be drawn: the browser is out of memory.');
     pen.putImageData(new ImageData(new Uint8ClampedArray(words.buffer), WIDTH, HEIGHT), 0, 0);
   }
   paint(pen, titleShapes(shown, round, plain));
 }
 
-// What the film is about, and how many pieces there are.
 function titleShapes(shown, round, { ink, soft }) {
   const pieces = piecesAt(shown, round), serif = 'ui-serif, Georgia, serif', sans = '14px system-ui, sans-serif';
   const right = WIDTH - 24;
   return [
     { text: document.title, x: 24, y: 38, fill: ink, font: `500 23px ${serif}` },
-    { text: roundsTold(shown, round), x: 24, y: 62, fill: soft, font: sans },
+    { text: roundsText(shown, round), x: 24, y: 62, fill: soft, font: sans },
     { text: counted(pieces), x: right, y: 56, fill: ink, anchor: 'right', font: `500 54px ${serif}` },
     { text: pieces === 1 ? 'piece' : 'pieces', x: right, y: 76, fill: soft, anchor: 'right', font: sans },
   ];
 }
 
-// An encoder, and the frames that it made so far.
+// An encoder that adds its frames to this list.
 function encoderFor(frames, fail) {
   const encoder = new window.VideoEncoder({
     output(chunk) {
@@ -69,8 +69,8 @@ function encoderFor(frames, fail) {
   return encoder;
 }
 
-// The film as WebM. `tell` hears which part of it is done.
-export async function filmOf(painter, tell) {
+// The film as WebM. `report` is called with the part that is done, from 0 to 1.
+export async function filmOf(painter, report) {
   const canvas = Object.assign(document.createElement('canvas'), { width: WIDTH, height: HEIGHT }), frames = [];
   const { shown } = state, last = lastRound(shown), count = Math.round((SECONDS + HOLD) * RATE);
   let failure = null;
@@ -83,7 +83,7 @@ export async function filmOf(painter, tell) {
     const frame = new window.VideoFrame(canvas, { timestamp: Math.round(1e6 * i / RATE) });
     encoder.encode(frame, { keyFrame: i % RATE === 0 });
     frame.close();
-    tell(i / count);
+    report(i / count);
     while (encoder.encodeQueueSize > MOST_WAITING && !failure) await new Promise(done => setTimeout(done, 5));
     if (i % 4 === 0) await new Promise(done => setTimeout(done));
     if (failure) throw failure;

@@ -1,27 +1,26 @@
-// The points of a GeoJSON text: degrees east and north, a name from the properties, and the properties themselves.
+// Reads the points of a GeoJSON text: degrees east and north, and a name from the properties.
 
-import { Refusal } from './boruvka.js';
+import { InputError } from './boruvka.js';
 import { Points } from './tables.js';
 
-const MOST_BYTES = 400_000_000; // a text longer than about 500 million letters can't be in memory
+const MOST_BYTES = 400_000_000; // browsers hold no text of more than about 500 million letters
 const NAMES = ['name', 'Name', 'NAME', 'title', 'label', 'id'];
 
-// Each feature of what was parsed.
 function featuresOf(given) {
   if (Array.isArray(given)) return given;
   if (given?.type === 'FeatureCollection' && Array.isArray(given.features)) return given.features;
   return [given];
 }
 
-// The places of a point or of several. Features have numbers, from 1 on.
+// The coordinates of a point or of several. `number` is the feature's, from 1.
 function placesOf(feature, number) {
   const geometry = feature?.type === 'Feature' ? feature.geometry : feature;
   if (geometry?.type === 'Point') return [geometry.coordinates];
   if (geometry?.type === 'MultiPoint' && Array.isArray(geometry.coordinates)) return geometry.coordinates;
-  throw new Refusal('NoGeoPoint', 0, `feature ${number}: ${String(geometry?.type ?? 'nothing').slice(0, 40)}`);
+  throw new InputError('NoGeoPoint', 0, `feature ${number}: ${String(geometry?.type ?? 'nothing').slice(0, 40)}`);
 }
 
-// The first property of texts whose key isn't known stands for the name.
+// The name of a feature: a property with a known key, or else the first property that is a text.
 function nameOf(feature, number) {
   const all = feature?.properties ?? {};
   const isWritten = key => typeof all[key] === 'string' || typeof all[key] === 'number';
@@ -33,8 +32,8 @@ function parsed(bytes) {
   try {
     return JSON.parse(new TextDecoder('utf-8', { fatal: true }).decode(bytes));
   } catch (error) {
-    if (error instanceof TypeError) throw new Refusal('NoUtf8');
-    throw new Refusal('BadJson', 0, error.message.slice(0, 120));
+    if (error instanceof TypeError) throw new InputError('NoUtf8');
+    throw new InputError('BadJson', 0, error.message.slice(0, 120));
   }
 }
 
@@ -44,7 +43,7 @@ export async function readGeoJson(source) {
     for (const place of placesOf(feature, i + 1)) {
       const [east, north] = Array.isArray(place) ? place : [];
       if (!Number.isFinite(east) || !Number.isFinite(north)) {
-        throw new Refusal('NoGeoPoint', 0, `feature ${i + 1}: no two numbers`);
+        throw new InputError('NoGeoPoint', 0, `feature ${i + 1}: no two numbers`);
       }
       points.add(east, north, nameOf(feature, i + 1), 0);
     }
@@ -52,7 +51,7 @@ export async function readGeoJson(source) {
   return { ...points.all([]), format: 'geojson' };
 }
 
-// The properties of each point, in the order in which they are read.
+// The properties of each point, in the order of the points.
 export async function propertiesOf(source) {
   const features = featuresOf(parsed(await source.whole(MOST_BYTES)));
   return features.flatMap((feature, i) => placesOf(feature, i + 1).map(() => Object(feature?.properties ?? {})));

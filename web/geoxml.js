@@ -1,18 +1,18 @@
-// The points of a GPX or a KML text: degrees east and north, and names. No markup of it is ever made: it is only
-// searched.
+// Reads the points of a GPX or KML text: degrees east and north, and names. The text is searched, and never becomes
+// markup of the page.
 
-import { Refusal } from './boruvka.js';
+import { InputError } from './boruvka.js';
 import { Points } from './tables.js';
 
 const MOST_BYTES = 400_000_000;
-// Of a GPX, the kinds of points; the first kind that it has is read.
+// The kinds of points in GPX. The first kind that occurs is read.
 const GPX_POINTS = [
   ['wpt', 'of the waypoints'], ['rtept', 'of the points of routes'], ['trkpt', 'of the points of tracks'],
 ];
 const KML_OTHERS = ['LineString', 'Polygon', 'LinearRing', 'Model'];
 const ENTITIES = { amp: '&', lt: '<', gt: '>', quot: '"', apos: "'" };
 
-// The text that XML writes with entities, or in CDATA.
+// A text of XML without its entities or CDATA.
 function unescaped(text) {
   const cdata = /^\s*<!\[CDATA\[([^]*?)\]\]>\s*$/.exec(text);
   if (cdata) return cdata[1];
@@ -23,7 +23,7 @@ function unescaped(text) {
   });
 }
 
-// Each element of a name: its attributes, and what is inside. Elements of one name aren't nested in these formats.
+// The elements with this name: their attributes and their contents. In these formats they aren't nested.
 function* elementsOf(text, name) {
   const begin = new RegExp(`<(?:\\w+:)?${name}(\\s[^<>]*?)?(/)?>`, 'g');
   const end = new RegExp(`</(?:\\w+:)?${name}\\s*>`, 'g');
@@ -32,7 +32,7 @@ function* elementsOf(text, name) {
     else {
       end.lastIndex = begin.lastIndex;
       const close = end.exec(text);
-      if (!close) throw new Refusal('BadXml', 0, `<${name}>`);
+      if (!close) throw new InputError('BadXml', 0, `<${name}>`);
       yield { attributes: found[1] ?? '', inside: text.slice(begin.lastIndex, close.index) };
       begin.lastIndex = end.lastIndex;
     }
@@ -48,7 +48,7 @@ const attributeOf = (attributes, name) => new RegExp(`\\s${name}\\s*=\\s*["']([^
 
 function add(points, number, [east, north], name) {
   if (![east, north].every(value => /^\s*[-+]?[\d.]+(e[-+]?\d+)?\s*$/i.test(value) && Number.isFinite(Number(value)))) {
-    throw new Refusal('NoGeoPoint', 0, `point ${number}: no two numbers`);
+    throw new InputError('NoGeoPoint', 0, `point ${number}: no two numbers`);
   }
   points.add(Number(east), Number(north), name || String(number), 0);
 }
@@ -58,13 +58,13 @@ function readGpx(text) {
   const countOf = name => (text.match(new RegExp(`<${name}\\s`, 'g')) ?? []).length;
   const counts = GPX_POINTS.map(([name]) => countOf(name));
   const kind = counts.findIndex(Boolean);
-  if (kind < 0) throw new Refusal('NoPoint');
+  if (kind < 0) throw new InputError('NoPoint');
   let number = 0;
   for (const { attributes, inside } of elementsOf(text, GPX_POINTS[kind][0])) {
     add(points, ++number, [attributeOf(attributes, 'lon'), attributeOf(attributes, 'lat')], textIn(inside, 'name'));
   }
-  const told = GPX_POINTS.map(([, words], i) => i > kind && counts[i] ? `Left out: ${counts[i]} ${words}.` : '');
-  return points.all(told.filter(Boolean));
+  const notes = GPX_POINTS.map(([, words], i) => i > kind && counts[i] ? `Left out: ${counts[i]} ${words}.` : '');
+  return points.all(notes.filter(Boolean));
 }
 
 function readKml(text) {
@@ -72,7 +72,7 @@ function readKml(text) {
   let number = 0;
   for (const { inside } of elementsOf(text, 'Placemark')) {
     const other = KML_OTHERS.find(name => new RegExp(`<(?:\\w+:)?${name}[\\s>]`).test(inside));
-    if (other) throw new Refusal('NoGeoPoint', 0, `place ${number + 1}: ${other}`);
+    if (other) throw new InputError('NoGeoPoint', 0, `place ${number + 1}: ${other}`);
     for (const { inside: point } of elementsOf(inside, 'Point')) {
       add(points, ++number, textIn(point, 'coordinates').split(','), textIn(inside, 'name'));
     }
@@ -88,10 +88,10 @@ export async function readGeoXml(source) {
   try {
     text = new TextDecoder(encoding, { fatal: true }).decode(bytes);
   } catch {
-    throw new Refusal('BadXml', 0, encoding);
+    throw new InputError('BadXml', 0, encoding);
   }
   text = text.replace(/<!--[^]*?-->/g, '');
   if (/<(?:\w+:)?gpx[\s>]/.test(text)) return { ...readGpx(text), format: 'gpx' };
   if (/<(?:\w+:)?kml[\s>]/.test(text)) return { ...readKml(text), format: 'kml' };
-  throw new Refusal('OtherXml', 0, /<([\w:-]+)[\s>/]/.exec(text)?.[1] ?? 'nothing');
+  throw new InputError('OtherXml', 0, /<([\w:-]+)[\s>/]/.exec(text)?.[1] ?? 'nothing');
 }

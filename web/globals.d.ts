@@ -1,4 +1,4 @@
-// What browsers have, and the checker's library lacks.
+// Browser features that the checker's library doesn't know.
 
 interface Window {
   VideoEncoder?: any;

@@ -1,6 +1,6 @@
-// Colours: twelve hues by the golden angle in OKLCH, and twelve more at other lightnesses. First hue and lightnesses
-// are chosen so that any two of the first eight differ to eyes that lack a kind of cones too
-// (tests/browsing/reach.py). The plain colours are those of page.css.
+// The colours of clusters: twelve hues in OKLCH, each turned from the last by the golden angle, and the same hues at
+// other lightnesses. The first hue and the lightnesses are chosen so that colour-blind people can also tell the first
+// eight apart, which tests/browsing/reach.py checks. All other colours are defined in page.css.
 
 import { NONE } from './merges.js';
 import { state } from './state.js';
@@ -33,7 +33,7 @@ function rgbOf(lightness, chroma, hue) {
 
 const hexOf = rgb => `#${rgb.map(value => value.toString(16).padStart(2, '0')).join('')}`;
 
-// The inks of clusters by their numbers, on light or on dark paper.
+// The colours of clusters by their numbers, on light or dark paper.
 export function huesOn(paper) {
   const steps = LIGHTNESS[paper], lightness = i => steps[(i + Math.floor(i / HUES)) % steps.length];
   const hue = i => FIRST[paper] + GOLDEN * (i % HUES);
@@ -48,11 +48,11 @@ function inksOn(paper) {
 
 const all = { light: inksOn('light'), dark: inksOn('dark') };
 
-// All inks of now: `hues` of clusters, and the plain ones. What is printed is on light paper.
+// All colours in use: the `hues` of clusters, and those of page.css. Printed pages use the light ones.
 export const inks = () => all[isDark.matches && !state.isPrinted ? 'dark' : 'light'];
 
-// The ink of a cluster's number; of what is none the grey of noise.
+// The colour of a cluster, or the grey of noise.
 export const inkOf = ({ hues, alone }, colour) => colour === NONE ? alone : hues[colour % hues.length];
 
-// The word of a pixel: red comes first in memory.
+// A colour as a word of pixel data, in which red comes first in memory.
 export const wordOf = ink => 0xff000000 + parseInt(ink.slice(5) + ink.slice(3, 5) + ink.slice(1, 3), 16);

@@ -1,12 +1,12 @@
-// Kruskal's algorithm, for browsers that can't run the module. It isn't proved. Its order of links is the module's:
-// by weight, then by the lower end, then by the higher one. So the forest is the same, and so are its merges.
+// Kruskal's algorithm, for browsers that can't run the module. It isn't proved. It orders edges as the module does, by
+// weight, then by the lower endpoint, then by the higher one, so the forest and its merges are the same.
 
 function rootIn(parent, node) {
   while (parent[node] !== node) node = parent[node] = parent[parent[node]];
   return node;
 }
 
-// The forest of links between the vertices 1 to n, as boruvka.js has them.
+// The same as forestOfLinks in boruvka.js.
 export function forestByKruskal(n, links) {
   const high = new Int32Array(links.buffer, links.byteOffset, links.length);
   const parent = new Uint32Array(n + 1).map((_, v) => v);
@@ -23,7 +23,7 @@ export function forestByKruskal(n, links) {
   return forest.slice(0, 4 * count);
 }
 
-// The merges of a forest's links, as boruvka.js has them.
+// The same as mergesOfLinks in boruvka.js.
 export function mergesByKruskal(n, forest) {
   const k = forest.length / 4, rows = new Uint32Array(3 * k), size = new Uint32Array(n + k).fill(1);
   const parent = new Uint32Array(n + k).map((_, node) => node);

@@ -1,13 +1,13 @@
-// Texts wherever there is room: names beside points, and weights at the middles of edges.
+// Texts in the picture, as far as they fit: names next to points, and weights at the middles of edges.
 
 import { weightAt } from './measures.js';
 import { nameAt } from './names.js';
 import { FONT } from './shapes.js';
 
-const MOST_TRIED = 2000; // points in sight, of which names are looked for room
+const MOST_TRIED = 2000; // visible points; with more of them no names are drawn
 const MOST_LETTERS = 28;
 const TALL = 12; // pixels of a text's line
-const CELL = 32; // pixels; boxes are looked up by cells
+const CELL = 32; // pixels; boxes are found by the cells that they touch
 
 const pen = document.createElement('canvas').getContext('2d');
 export function widthOf(text) {
@@ -15,31 +15,31 @@ export function widthOf(text) {
   return pen.measureText(text).width;
 }
 
-// Boxes that don't overlap.
-class Room {
+// A set of boxes that don't overlap.
+class Layout {
   constructor() {
     this.cells = new Map();
   }
 
-  // The boxes that may overlap this one, cell by cell.
-  *near({ left, top, right, bottom }) {
+  // The keys of the cells that a box touches.
+  *cellsOf({ left, top, right, bottom }) {
     for (let across = Math.floor(left / CELL); across <= Math.floor(right / CELL); across++) {
       for (let down = Math.floor(top / CELL); down <= Math.floor(bottom / CELL); down++) yield `${across},${down}`;
     }
   }
 
   isFree(box) {
-    for (const key of this.near(box)) {
+    for (const key of this.cellsOf(box)) {
       for (const other of this.cells.get(key) ?? []) {
-        const isBeside = box.left >= other.right || other.left >= box.right;
-        if (!isBeside && box.top < other.bottom && other.top < box.bottom) return false;
+        const isApart = box.left >= other.right || other.left >= box.right;
+        if (!isApart && box.top < other.bottom && other.top < box.bottom) return false;
       }
     }
     return true;
   }
 
   take(box) {
-    for (const key of this.near(box)) {
+    for (const key of this.cellsOf(box)) {
       if (!this.cells.has(key)) this.cells.set(key, []);
       this.cells.get(key).push(box);
     }
@@ -48,7 +48,7 @@ class Room {
 
 const boxAt = (left, top, width, height = TALL) => ({ left, top, right: left + width, bottom: top + height });
 
-// The vertices in sight; null if they are too many.
+// The visible vertices, or null if there are too many.
 function inSight({ places }, { across, down, free }) {
   const found = [], { left, top, width, height } = free;
   for (let v = 0; v < places.length / 2; v++) {
@@ -60,27 +60,27 @@ function inSight({ places }, { across, down, free }) {
   return found;
 }
 
-// Where a text of this width may be beside a point: right, left, above, below.
-function boxesBeside(x, y, width, gap) {
+// The boxes for a text of this width next to a point: right, left, above, below.
+function boxesAround(x, y, width, gap) {
   return [
     boxAt(x + gap, y - TALL + 3, width), boxAt(x - gap - width, y - TALL + 3, width),
     boxAt(x - width / 2, y - gap - TALL, width), boxAt(x - width / 2, y + gap, width),
   ];
 }
 
-function nameShapes(shown, seen, { room, free, gap }, { ink, paper }) {
+function nameShapes(shown, seen, { layout, free, gap }, { ink, paper }) {
   const shapes = [], isInside = box => box.left >= free.left && box.right <= free.left + free.width && box.top >= 0;
   for (const { v, x, y } of seen) {
     const text = nameAt(shown.names, v).slice(0, MOST_LETTERS);
-    const box = text && boxesBeside(x, y, widthOf(text), gap).find(one => isInside(one) && room.isFree(one));
+    const box = text && boxesAround(x, y, widthOf(text), gap).find(one => isInside(one) && layout.isFree(one));
     if (!box) continue;
-    room.take(box);
+    layout.take(box);
     shapes.push({ text, x: box.left, y: box.bottom - 2, fill: ink, halo: paper });
   }
   return shapes;
 }
 
-function weightShapes(shown, { across, down }, room, { soft, paper }) {
+function weightShapes(shown, { across, down }, layout, { soft, paper }) {
   const shapes = [], { places, forest, heights, turn } = shown;
   for (let i = heights.length - 1; i >= 0 && shapes.length < MOST_TRIED; i--) {
     const u = forest[4 * i + 2] - 1, v = forest[4 * i + 3] - 1;
@@ -89,8 +89,8 @@ function weightShapes(shown, { across, down }, room, { soft, paper }) {
     const y = (down(places[2 * u + 1]) + down(places[2 * v + 1])) / 2;
     const text = weightAt(shown, i), width = widthOf(text);
     const box = boxAt(x - width / 2 - 2, y - TALL / 2 - 1, width + 4, TALL + 2);
-    if (!room.isFree(box)) continue;
-    room.take(box);
+    if (!layout.isFree(box)) continue;
+    layout.take(box);
     const wide = (width + 4).toFixed(1), begin = `M${box.left.toFixed(1)} ${box.top.toFixed(1)}`;
     const path = `${begin}h${wide}v${TALL + 2}h-${wide}z`;
     shapes.push({ fill: paper, path }, { text, x: x - width / 2, y: y + 4, fill: soft });
@@ -98,14 +98,14 @@ function weightShapes(shown, { across, down }, room, { soft, paper }) {
   return shapes;
 }
 
-// The texts that have room in a picture. Points keep theirs, whose marks have this radius.
+// The texts that fit into a picture without covering its points, which have this radius.
 export function labelShapes(shown, through, plain, { radius, hasWeights }) {
   const isNamed = shown.names || shown.kind === 'graph';
   const seen = isNamed || hasWeights ? inSight(shown, through) : null;
   if (!seen) return [];
-  const room = new Room(), side = 2 * radius;
-  for (const { x, y } of seen) room.take(boxAt(x - radius, y - radius, side, side));
-  const weights = hasWeights ? weightShapes(shown, through, room, plain) : [];
-  const names = isNamed ? nameShapes(shown, seen, { room, free: through.free, gap: radius + 3 }, plain) : [];
+  const layout = new Layout(), side = 2 * radius;
+  for (const { x, y } of seen) layout.take(boxAt(x - radius, y - radius, side, side));
+  const weights = hasWeights ? weightShapes(shown, through, layout, plain) : [];
+  const names = isNamed ? nameShapes(shown, seen, { layout, free: through.free, gap: radius + 3 }, plain) : [];
   return [...weights, ...names];
 }

@@ -1,8 +1,9 @@
-// Places for the vertices of a graph that has none: each tree of its forest in a circle, the circles side by side.
+// Coordinates for the vertices of a graph without any: each tree of its forest is a circle, and the circles are in
+// rows.
 
 const NOWHERE = 0xffffffff;
 
-// The forest's links by vertex: the neighbours of v, numbered from 0, are `ends` from start[v] to start[v + 1].
+// The adjacency lists of a forest: the neighbours of vertex v (from 0) are `ends` from start[v] to start[v + 1].
 function neighbours(n, forest) {
   const start = new Uint32Array(n + 2), ends = new Uint32Array(forest.length / 2);
   for (let i = 0; i < forest.length; i += 4) {
@@ -18,7 +19,7 @@ function neighbours(n, forest) {
   return { start, ends };
 }
 
-// Walks over trees, from a vertex outwards.
+// Breadth-first search over the trees of a forest.
 class Walk {
   constructor(n, forest) {
     const { start, ends } = neighbours(n, forest);
@@ -31,7 +32,7 @@ class Walk {
     this.turn = new Float64Array(n);
   }
 
-  // The vertices of a tree, those nearer to `begin` first. `from` is the neighbour on the way back, or NOWHERE.
+  // The vertices of a tree in the order of the search from `begin`. `from` is each vertex's parent, or NOWHERE.
   over(begin) {
     const { start, ends, queue, from, depth } = this;
     let count = 1;
@@ -49,7 +50,7 @@ class Walk {
     return queue.subarray(0, count);
   }
 
-  // The vertex in the middle of a longest way through the tree of v.
+  // The middle of a longest path in the tree of v.
   middle(v) {
     const end = this.over(v).at(-1);
     let u = this.over(end).at(-1);
@@ -58,7 +59,7 @@ class Walk {
   }
 }
 
-// Puts a tree into a circle around (0, 0), its middle there and its leaves at equal angles. Answers its vertices.
+// Arranges a tree in a circle around its middle at (0, 0), with its leaves at equal angles. Returns its vertices.
 function putRound(walk, v, points) {
   const order = walk.over(walk.middle(v)), { from, depth, leaves, turn } = walk, [middle] = order;
   for (let i = order.length - 1; i >= 0; i--) {
@@ -78,7 +79,7 @@ function putRound(walk, v, points) {
   return order;
 }
 
-// The trees side by side in rows, the largest first.
+// The coordinates, with the largest tree first.
 export function placed(n, forest, { roots, first, order, size }) {
   const walk = new Walk(n, forest), points = new Float64Array(2 * n);
   const radius = root => Math.sqrt(size[root]) + 1;

@@ -1,16 +1,16 @@
-// The tree that a forest's merges make, and an order of the vertices in which each of its nodes is together.
+// The tree of a forest's merges, and an order of the vertices in which the vertices of each node are consecutive.
 
 /** @typedef {import('./types.js').Merges} Merges */
 
-export const NONE = 0xffffffff; // no number of a colour
+export const NONE = 0xffffffff; // instead of a colour's number
 
-// A cluster of fewer points than this has no colour, if nobody chose another size: it is noise.
+// By default, a cluster of fewer points than this is noise and has no colour.
 export const fewOf = n => Math.max(2, Math.ceil(n / 100));
 
 /**
- * The tree of single linkage, by its merges as boruvka.js has them. The nodes 0 to n - 1 are the vertices, and n + i is
- * what the merge at index i makes of `larger` and `smaller`. A node has `size` vertices, and `least` is the least of
- * them. `roots` are the whole trees, the largest first.
+ * The tree of single linkage, from the rows that mergesOfLinks returns. The nodes 0 to n - 1 are the vertices, and the
+ * merge at index i joins the nodes `larger` and `smaller` into the node n + i. A node has `size` vertices, of which
+ * `least` is the first. `roots` are the whole trees, the largest first.
  * @returns {Merges}
  */
 export function mergesOf(n, rows) {
@@ -28,7 +28,7 @@ export function mergesOf(n, rows) {
   return { roots, larger, smaller, size, least, ...ordered(n, roots, larger, smaller, size) };
 }
 
-// An order of the vertices: those of a node are together, from its `first` on.
+// An order of the vertices. Those of a node are consecutive and begin at its `first`.
 function ordered(n, roots, larger, smaller, size) {
   const k = larger.length, first = new Uint32Array(n + k), order = new Uint32Array(n);
   let begin = 0;
@@ -44,8 +44,8 @@ function ordered(n, roots, larger, smaller, size) {
   return { first, order };
 }
 
-// Numbers of the nodes' colours: what a link cuts off gets the next number, the larger part keeps its own, and what
-// has fewer than `few` vertices has none.
+// The number of each node's colour. When a cut splits a node, the larger part keeps its colour and the smaller part
+// gets the next number. A node with fewer than `few` vertices has none.
 export function coloursOf(n, { roots, larger, smaller, size }, few) {
   const k = larger.length, colour = new Uint32Array(n + k);
   let colours = 0;

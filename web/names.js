@@ -1,4 +1,4 @@
-// Names of points or vertices, packed into bytes that go from the worker to the page without a copy.
+// Names of points or vertices as one array of bytes, which the worker can send to the page without a copy.
 
 const MOST_IN_NAME = 200; // characters
 
@@ -22,7 +22,7 @@ export class Packer {
   }
 
   notes() {
-    return this.cuts ? [`${this.cuts} of the names are cut to ${MOST_IN_NAME} characters.`] : [];
+    return this.cuts ? [`Names longer than ${MOST_IN_NAME} characters were shortened: ${this.cuts}.`] : [];
   }
 
   packed() {
@@ -30,12 +30,12 @@ export class Packer {
   }
 }
 
-// The name at this place, or its number if there are no names.
+// The name at this index, or its number if there are no names.
 export function nameAt(names, v) {
   return names ? new TextDecoder().decode(names.bytes.subarray(names.ends[v], names.ends[v + 1])) : String(v + 1);
 }
 
-// The name of each place, where a name that several have gets the place's number behind it.
+// A function for unique names: a name that occurs several times gets the point's number after it.
 export function namesApart(names, n) {
   const all = new Set(), shared = new Set();
   for (let v = 0; names && v < n; v++) {

@@ -1,11 +1,11 @@
-// Points in: files, texts, what the address or the page carries, points drawn at random or set by the pen.
+// Opens points: from files, texts, the address or the page itself, at random, or by the pen.
 
 import { LINKED, carried, inside } from './address.js';
 import { askColumns, askMissing } from './choosing.js';
-import { Refused } from './causes.js';
+import { PageError } from './causes.js';
 import { drawnPoints } from './clouds.js';
 import { exampleFile } from './example.js';
-import { fade } from './fading.js';
+import { afterFrame, fade } from './fading.js';
 import { isDrawnAtOnce } from './picture.js';
 import { play, stopPlaying } from './playing.js';
 import { busy } from './solver.js';
@@ -16,20 +16,20 @@ const $ = id => /** @type {any} */ (document.getElementById(id));
 const MOST_DRAWN = 1_000_000;
 const PASTED = 'pasted.csv';
 
-// What is said of an error; nothing of null.
-export function fault(error) {
+// Shows an error, or hides it if it is null.
+export function showError(error) {
   const { kind = '', line = 0, what = '' } = error ?? {};
-  Object.assign($('fault').dataset, { kind, line, what });
-  $('fault').textContent = error ? error.message : '';
+  Object.assign($('error').dataset, { kind, line, what });
+  $('error').textContent = error ? error.message : '';
 }
 
-// An error with the file that it is of.
-function faultOf(name, error) {
+// Shows an error with the name of its file.
+function showErrorOf(name, error) {
   const { kind, line, what } = error;
-  fault(Object.assign(new Error(`${name}: ${error.message}`), { kind, line, what }));
+  showError(Object.assign(new Error(`${name}: ${error.message}`), { kind, line, what }));
 }
 
-// A file that a worker may read. In WebKit a page from a file may read files, but its worker may not.
+// A file's bytes, for a worker. In WebKit, a page that was opened from a file may read files, but its worker may not.
 const bytesOf = async file => ({ name: file.name, content: new Uint8Array(await file.arrayBuffer()) });
 
 export class Opening {
@@ -37,12 +37,12 @@ export class Opening {
     this.solver = solver;
   }
 
-  // Whatever is opened, drawn or cleared replaces what went on before it. Returns whether that is still so.
+  // Ends what was going on. Returns a function that tells whether nothing else has begun since.
   begin() {
     const own = ++state.turn;
     this.solver.stop();
     stopPlaying();
-    fault(null);
+    showError(null);
     return () => own === state.turn;
   }
 
@@ -50,7 +50,7 @@ export class Opening {
     this.begin();
   }
 
-  // Shows an answer instead of another one, which fades away if both pictures are there at once.
+  // Shows new points. The old picture fades away if both pictures can be drawn at once.
   async show(shown, more, isFirst = false) {
     const own = state.turn, put = isFirst ? showFirst : show, before = more.view === null && state.shown;
     const showNow = () => own === state.turn && put(shown, more);
@@ -70,7 +70,7 @@ export class Opening {
       if (shown || !points.length) await this.show(shown, more);
       return Boolean(shown);
     } catch (error) {
-      fault(error);
+      showError(error);
       return false;
     }
   }
@@ -84,25 +84,24 @@ export class Opening {
     return this.showPoints(new Float64Array(), { view: null });
   }
 
-  // ---- the pen: one point after the other, however fast they are set
-
+  // The pen adds one point after the other, however fast they are set.
   addPoint(place) {
-    state.penning = state.penning.then(() => this.addPlace(place));
+    state.adding = state.adding.then(() => this.addPlace(place));
   }
 
   async addPlace(place) {
     const { shown, clusters } = state;
     if (shown && (shown.kind !== 'plane' || shown.names)) {
-      fault(new Error('What is shown comes from a file. Clear it to set points.'));
+      showError(new Error('These points come from a file. Clear them to add points with the pen.'));
       return;
     }
     const points = Float64Array.from([...(shown?.points ?? []), ...place]);
     await this.showPoints(points, { view: { ...viewNow() }, count: clusters?.count ?? 1, smallest: state.smallest });
   }
 
-  // Undoes or redoes, after the points that are set.
+  // Undoes or redoes a step, once the points of the pen are there.
   turnBack(how) {
-    state.penning = state.penning.then(() => {
+    state.adding = state.adding.then(() => {
       if (!state[how === undo ? 'past' : 'future'].length) return;
       this.begin();
       how();
@@ -117,60 +116,58 @@ export class Opening {
     this.turnBack(redo);
   }
 
-  // ---- files
-
-  // Asks the worker for a file's points. Where it may read no file, it is sent the bytes.
+  // Asks the worker for a file's points. If the worker may not read files, it gets the bytes.
   async ask(file, choice) {
     try {
-      return { file, answer: await this.solver.ask({ task: 'open', file, choice }) };
+      return { file, result: await this.solver.ask({ task: 'open', file, choice }) };
     } catch (error) {
       if (error.kind !== 'Unreadable' || file.content || location.protocol !== 'file:') throw error;
       const read = await bytesOf(file).catch(() => { throw error; });
-      return { file: read, answer: await this.solver.ask({ task: 'open', file: read, choice }) };
+      return { file: read, result: await this.solver.ask({ task: 'open', file: read, choice }) };
     }
   }
 
-  // The answer of a file, after somebody was asked about its columns, and rows that lack a value.
-  async answerOf(chosen, choice, isNow) {
-    let { file, answer } = await this.ask(chosen, choice);
-    while (answer?.ask) {
-      const { ask } = answer;
+  // The points of a file, after the dialogs about its columns and about rows without a value.
+  async resultOf(chosen, choice, isNow) {
+    let { file, result } = await this.ask(chosen, choice);
+    while (result?.ask) {
+      const { ask } = result;
       busy(-1);
       const made = await (ask.missing ? askMissing(ask) : askColumns(ask));
       busy(1);
-      if (!isNow()) return { file, answer: null };
+      if (!isNow()) return { file, result: null };
       if (!made) throw new Error(ask.missing ? 'No rows were left out.' : 'No columns were chosen.');
-      ({ file, answer } = await this.ask(file, made));
+      ({ file, result } = await this.ask(file, made));
     }
-    return { file, answer };
+    return { file, result };
   }
 
   async openFile(chosen, { isNow, isAlone, isFirst, choice, ...more }) {
-    const { file, answer } = await this.answerOf(chosen, choice, isNow);
-    if (!answer) return;
-    if (answer.kind === 'places') await this.putPlaces(answer.points, file, isAlone);
-    else await this.show(answer, { file, cross: null, view: null, ...more }, isFirst);
+    const { file, result } = await this.resultOf(chosen, choice, isNow);
+    if (!result) return;
+    if (result.kind === 'places') await this.putPlaces(result.points, file, isAlone);
+    else await this.show(result, { file, cross: null, view: null, ...more }, isFirst);
   }
 
   async putPlaces(points, file, isAlone) {
     const { shown } = state;
     if (shown?.kind !== 'graph' && shown?.kind !== 'links') {
-      if (!isAlone) throw new Refused({ kind: 'SeveralFiles', what: '2' });
+      if (!isAlone) throw new PageError({ kind: 'SeveralFiles', what: '2' });
       const joined = await this.solver.ask({ task: 'points', points });
       if (joined) await this.show(joined, { view: null });
       return;
     }
-    if (points.length / 2 !== shown.n) throw new Refused({ kind: 'PlacesDiffer' });
+    if (points.length / 2 !== shown.n) throw new PageError({ kind: 'PlacesDiffer' });
     const { count } = state.clusters ?? {}, { smallest } = state;
     show({ ...shown, places: points }, { file: state.file, placesFile: file, count, smallest, view: null });
   }
 
-  // Opens a file, and a graph before its places. A file that is refused changes nothing.
+  // Opens files, a graph before its coordinates. A file that is rejected changes nothing.
   async open(files, { isFirst = false, choices = [], ...more } = /** @type {any} */ ({})) {
     const isNow = this.begin(), isPlaces = file => /\.co(\.gz)?$/i.test(file.name);
     const places = files.filter(isPlaces).length;
     if (Math.max(places, files.length - places) > 1) {
-      fault(new Refused({ kind: 'SeveralFiles', what: String(files.length) }));
+      showError(new PageError({ kind: 'SeveralFiles', what: String(files.length) }));
       return false;
     }
     busy(1);
@@ -182,7 +179,7 @@ export class Opening {
         const choice = choices[files.indexOf(file)];
         if (isNow()) await this.openFile(file, { isNow, isAlone, isFirst, choice, ...more });
       } catch (error) {
-        faultOf(file.name, error);
+        showErrorOf(file.name, error);
         isDone = false;
         break;
       }
@@ -191,7 +188,7 @@ export class Opening {
     return isDone && isNow();
   }
 
-  // Opens what somebody chose, and plays it.
+  // Opens files and plays the rounds.
   async openChosen(files) {
     if (await this.open(files)) play();
   }
@@ -200,29 +197,30 @@ export class Opening {
     return this.openChosen([new File([text], PASTED)]);
   }
 
-  // Opens what was dropped or pasted: files, or a text. Spreadsheets copy cells as a text and as a picture.
+  // Opens dropped or pasted files or text. Spreadsheets copy cells both as text and as a picture.
   openAll(data) {
     const files = [...data.files], text = data.getData('text/plain');
     const areFiles = files.length && !(text && files.every(file => file.type.startsWith('image/')));
     return areFiles ? this.openChosen(files) : this.openText(text);
   }
 
-  // Shows what the address or the page carries, cut as it was left. Returns whether there is something.
+  // Opens the points in the address or in the page, with their settings. Returns whether there are any.
   async openCarried(isFirst = false) {
     const found = await carried() ?? inside();
     if (!found) return false;
     const { files, choices, count, smallest, view, scale } = found;
     if (await this.open(files, { isFirst, choices, count, smallest })) {
+      await afterFrame(); // the new texts determine the free part of the picture, on which the view depends
       change({ view: viewKept(view), ...(scale ? { scale } : {}) });
     }
     return true;
   }
 
-  // What the page begins with.
+  // Opens the points that the page begins with.
   async openFirst() {
     if (!await this.openCarried(true)) await this.open([exampleFile()], { isFirst: true });
   }
 }
 
-// Whether the address has the points that are shown.
+// Whether the points come from the address.
 export const isLinked = () => state.file?.name === LINKED;

@@ -1,10 +1,10 @@
-// Files out that the worker makes, each a Blob. Forests and merges are as worker.js answers them.
+// The files that the worker writes, each as a Blob.
 
 import { nameAt, namesApart } from './names.js';
 import { onceEast } from './spaces.js';
 import { bitsOf } from './weights.js';
 
-// A text that grows by pieces.
+// A long text, collected in pieces.
 class Text {
   constructor(head = '') {
     this.parts = [];
@@ -23,28 +23,28 @@ class Text {
   }
 }
 
-// A field of CSV. Spaces at its ends are kept.
+// A field of CSV. Quotes keep the spaces at its ends.
 const quoted = field => /[",\n\r;]|^\s|\s$/.test(field) ? `"${field.replaceAll('"', '""')}"` : field;
 
-// A field of a file that may be opened by a program that makes formulas of texts: it gets none. A number stays one.
+// A field of CSV that no spreadsheet runs as a formula. Numbers are left alone.
 function guarded(field) {
   const isFormula = /^[=+@\t\r]/.test(field) || (/^-/.test(field) && Number.isNaN(Number(field)));
   return isFormula ? `"'${field.replaceAll('"', '""')}"` : quoted(field);
 }
 
-// The .gr text of links: their weights as whole numbers.
+// The .gr text of edges, with whole weights.
 export function grOf(n, links) {
   const weights = bitsOf(links), text = new Text(`p sp ${n} ${links.length / 4}\n`);
   for (let i = 0; i < links.length; i += 4) text.add(`a ${links[i + 2]} ${links[i + 3]} ${weights[i / 2]}\n`);
   return text.blob('text/plain');
 }
 
-// A double past 2^53 isn't written as a whole number: the zeros at its end would not be its own.
+// A double beyond 2^53 is written with an exponent, because the last digits of a whole number wouldn't be its own.
 const written = number => Math.abs(number) > Number.MAX_SAFE_INTEGER ? number.toExponential() : number;
 
 const PLACES = { plane: ['x', 'y'], globe: ['longitude', 'latitude'] };
 
-// The columns of properties, in the order in which they come.
+// The keys of all properties, in the order of their first occurrence.
 const keysOf = properties => [...new Set((properties ?? []).flatMap(all => Object.keys(all)))];
 
 function asText(value) {
@@ -52,20 +52,20 @@ function asText(value) {
   return typeof value === 'string' ? value : JSON.stringify(value);
 }
 
-// A column's title that none of the others has.
-function titleBeside(title, others) {
+// A title that no other column has.
+function uniqueTitle(title, others) {
   let free = title;
   while (others.includes(free)) free += '_';
   return free;
 }
 
-// The points or vertices, with their properties, and the numbers of their clusters if these are given. `named` makes
-// a field of a name.
+// The points or vertices with their properties, and with the numbers of their clusters if these are given. `named`
+// writes a name as a field.
 export function pointsCsv({ n, points, names, kind }, numbers = null, properties = null, named = guarded) {
   const keys = keysOf(properties), isNamed = names && !keys.includes('name'), places = PLACES[kind] ?? [];
   const own = [...(isNamed ? ['name'] : []), ...places, ...(!names && !places.length ? ['vertex'] : [])];
-  const more = [...(numbers ? ['cluster'] : [])].map(title => titleBeside(title, [...keys, ...own]));
-  const titles = own.map(title => titleBeside(title, keys));
+  const more = [...(numbers ? ['cluster'] : [])].map(title => uniqueTitle(title, [...keys, ...own]));
+  const titles = own.map(title => uniqueTitle(title, keys));
   const text = new Text(`${[...titles, ...keys.map(guarded), ...more].join(',')}\n`);
   const fieldOf = v => ({
     name: () => named(nameAt(names, v)), vertex: () => v + 1,
@@ -79,9 +79,9 @@ export function pointsCsv({ n, points, names, kind }, numbers = null, properties
   return text.blob('text/csv');
 }
 
-// The points of the globe as GeoJSON, with their properties and the numbers of their clusters.
+// Points on the globe as GeoJSON, with their properties and the numbers of their clusters.
 export function clustersGeoJson({ n, points, names }, numbers, properties) {
-  const title = titleBeside('cluster', keysOf(properties));
+  const title = uniqueTitle('cluster', keysOf(properties));
   const text = new Text('{"type":"FeatureCollection","features":[');
   for (let v = 0; v < n; v++) {
     const all = { ...(properties ? properties[v] : names ? { name: nameAt(names, v) } : {}), [title]: numbers[v] };
@@ -92,16 +92,16 @@ export function clustersGeoJson({ n, points, names }, numbers, properties) {
   return text.blob('application/geo+json');
 }
 
-// The points as a table that this page reads again, with the names that they have.
+// The points as a table for this page, with unchanged names.
 export const carriedCsv = shown => pointsCsv(shown, null, null, quoted);
 
-// What is written of the weight of a forest's link.
+// A function for the written weight of an edge of the forest.
 function weightsWritten({ forest, heights, isExact }) {
   const weights = bitsOf(forest);
   return i => isExact ? weights[2 * i] : written(heights[i]);
 }
 
-// The forest's links with the names of their ends, the lightest first.
+// The edges of the forest with the names of their endpoints, the lightest edge first.
 export function forestCsv(shown) {
   const { n, forest, names, heights, isExact } = shown, nameOf = namesApart(names, n), weight = weightsWritten(shown);
   const text = new Text(`from,to,${isExact ? 'weight' : 'length'}\n`);
@@ -112,7 +112,7 @@ export function forestCsv(shown) {
   return text.blob('text/csv');
 }
 
-// A link, from -180 to 180 degrees east. If it crosses the edge of the map it is cut in two there (RFC 7946, 3.1.9).
+// An edge, from -180 to 180 degrees east. At the border of the map it is cut in two (RFC 7946, section 3.1.9).
 function lineOf(ends) {
   const [[east, high], [west, low]] = ends[0][0] < ends[1][0] ? [ends[1], ends[0]] : ends;
   const over = west + 360 - east;
@@ -134,7 +134,7 @@ export function forestGeoJson({ n, forest, names, heights, points }) {
   return text.blob('application/geo+json');
 }
 
-// The merges as scipy's linkage has them: two nodes, the lower first, the height, and how many points they have
+// The merges in the format of scipy's linkage: two nodes, the lower one first, their height, and their number of points
 // together.
 export function linkageCsv(shown) {
   const { n, heights, merges: { larger, smaller, size } } = shown, weight = weightsWritten(shown), text = new Text();

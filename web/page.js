@@ -1,44 +1,45 @@
-// The page: it wires controls to the state, and shows what the state is. What takes long goes on in worker.js.
+// The page: it connects the controls to the state, and shows the state. Long computations run in worker.js.
 //
-// points in: opening, choosing, address, clouds, example; and in the worker sources, rows, columns, tables, geojson,
-// geoxml,
-//   graphs
-// tree and forest, in the worker: bounds, spaces, tree, weights, boruvka, kruskal; then merges, rounds, layout what
-// is shown: state, clusters, view, inks; scene, picture, labels, coast, dendrogram; pixels and painter for many
-// points what moves and is pressed: playing, film, webm, fading; reading, controls; figures says what is shown files
-// out: saving, python; and out in the worker; card
+// - opening points: opening, choosing, address, clouds, example
+// - reading files, in the worker: sources, rows, columns, tables, geojson, geoxml, graphs
+// - the tree, in the worker: bounds, spaces, tree, weights, boruvka, kruskal, merges, rounds, layout
+// - the picture: state, clusters, view, inks, scene, picture, labels, coast, dendrogram; pixels, painter if it is large
+// - moves and controls: playing, film, webm, fading, reading, controls
+// - texts: figures, measures, causes, card
+// - saving files: saving, python; in the worker: out
 
-import { tellSums } from './card.js';
+import { showSums } from './card.js';
 import { listenToBar, listenToDendrogram, listenToOpening, listenToPrinting } from './controls.js';
 import { listenToSheet, listenToWindow, settle } from './controls.js';
-import { tell } from './figures.js';
+import { afterFrame } from './fading.js';
+import { showTexts } from './figures.js';
 import { onInks } from './inks.js';
-import { Opening, fault } from './opening.js';
+import { Opening, showError } from './opening.js';
 import { Painter } from './painter.js';
 import { Picture } from './picture.js';
 import { play } from './playing.js';
 import { listenToKeys, listenToPointer, placeAt } from './reading.js';
-import { listenToSaving } from './saving.js';
+import { listenToSaving, showFilms } from './saving.js';
 import { Solver, busy } from './solver.js';
 import { onChange } from './state.js';
 
 const $ = id => /** @type {any} */ (document.getElementById(id));
 
-// Says and draws what is so: now, or once before the next frame, however often the state changes.
+// Two functions that show the state: now, or once before the next frame, however often the state changes.
 function showing(painter) {
-  const picture = new Picture($('picture'), painter, fault);
+  const picture = new Picture($('picture'), painter, showError);
   let awaited = 0;
   const showSoon = () => {
     if (!awaited) {
       awaited = requestAnimationFrame(() => {
         awaited = 0;
-        tell();
+        showTexts();
       });
     }
-    picture.soon(); // after what is said, below which it has its place
+    picture.soon(); // after the texts, which determine where the picture begins
   };
   const showNow = () => {
-    tell();
+    showTexts();
     picture.draw();
   };
   return { showSoon, showNow };
@@ -52,9 +53,9 @@ function listen(opening, { solver, painter, showNow }) {
   listenToBar();
   listenToSheet();
   listenToDendrogram();
-  listenToWindow(opening, fault);
+  listenToWindow(opening, showError);
   listenToPrinting(showNow);
-  return listenToSaving({ solver, painter }, fault);
+  listenToSaving({ solver, painter }, showError);
 }
 
 async function begin() {
@@ -63,12 +64,15 @@ async function begin() {
   const { showSoon, showNow } = showing(painter);
   onChange(showSoon);
   onInks(showSoon);
-  await listen(opening, { solver, painter, showNow });
+  listen(opening, { solver, painter, showNow });
   settle();
   $('unproved').hidden = Boolean(solver.module);
-  await tellSums(solver.bytes);
-  await opening.openFirst().catch(fault);
+  await opening.openFirst().catch(showError);
   play();
+  await afterFrame();
+  // (the first picture needn't wait for these)
+  painter.prepare();
+  await Promise.all([showFilms(), showSums(solver.bytes)]);
 }
 
-begin().catch(fault).finally(() => busy(-1));
+begin().catch(showError).finally(() => busy(-1));

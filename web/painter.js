@@ -1,10 +1,10 @@
-// Pictures of many points, pixel by pixel: a worker of their own draws them, one after the other. Where that takes a
-// few milliseconds they are drawn at once, since a worker has to be waited for.
+// Pictures of many points, drawn pixel by pixel, one after the other, by a worker of their own. Pictures that take only
+// a few milliseconds are drawn at once instead.
 
 import { drawn } from './pixels.js';
 import { state } from './state.js';
 
-const MOST_AT_ONCE = 20_000; // places
+const MOST_AT_ONCE = 20_000; // points
 
 export class Painter {
   constructor(starts) {
@@ -13,10 +13,14 @@ export class Painter {
     this.seen = null;
     this.asked = null;
     this.last = Promise.resolve();
-    this.start(); // so that the first picture needn't wait for it
   }
 
-  // The words of a picture, or null if the worker failed.
+  // Starts the worker before a picture needs it.
+  prepare() {
+    if (!this.worker) this.start();
+  }
+
+  // The words of a picture, or a promise of them. They are null if the worker failed.
   draw(shown, job) {
     if (shown.places.length <= 2 * MOST_AT_ONCE || state.isPrinted) return drawn(shown, job);
     const words = this.last.then(() => this.askFor(shown, job));
@@ -25,7 +29,7 @@ export class Painter {
   }
 
   askFor(shown, job) {
-    if (!this.worker) this.start();
+    this.prepare();
     if (this.seen !== shown) {
       const { places, forest, heights, rounds, turn } = shown;
       this.worker.postMessage({ task: 'see', shown: { places, forest, heights, rounds, turn } });
@@ -39,7 +43,7 @@ export class Painter {
 
   start() {
     this.worker = this.starts();
-    this.worker.onmessage = ({ data: { answer } }) => this.settle(answer?.words ?? null);
+    this.worker.onmessage = ({ data: { result } }) => this.settle(result?.words ?? null);
     this.worker.onerror = () => {
       this.worker.terminate();
       this.worker = this.seen = null;

@@ -1,21 +1,21 @@
-// The picture: places and links. A few thousand are drawn as shapes. More are drawn pixel by pixel by a worker of
-// its own, and until that is done the last picture is moved with the view.
+// The picture: points and edges. Up to a few thousand points are drawn as shapes. A worker draws more of them pixel by
+// pixel; until it is done, the last picture moves with the view.
 
 import { coastShapes } from './coast.js';
 import { inkOf, inks, wordOf } from './inks.js';
 import { labelShapes } from './labels.js';
-import { scaleBar } from './measures.js';
+import { counted, scaleBar } from './measures.js';
 import { linesOf, sceneAt } from './scene.js';
 import { emptied, paint, svgOf } from './shapes.js';
 import { state } from './state.js';
 import { lens } from './view.js';
 
-const MOST_SHAPES = 4000; // more places are drawn pixel by pixel
-const MOST_SVG = 100_000; // places
+const MOST_SHAPES = 4000; // points that are drawn as shapes
+const MOST_SVG = 100_000; // points
 
 export const isDrawnAtOnce = ({ places }) => places.length <= 2 * MOST_SHAPES;
 
-// What is to be seen now: clusters, or a time of the rounds.
+// The moment to draw: clusters, or a time of the rounds.
 function momentNow() {
   const { clusters, round } = state;
   return round === null ? { kept: clusters?.kept, colours: clusters?.colours } : { round };
@@ -23,7 +23,7 @@ function momentNow() {
 
 const radiusOf = n => n > 1000 ? 2 : n > 200 ? 3 : 4.5;
 
-// Paths by their ink.
+// Paths by their colour.
 class Paths {
   constructor() {
     this.all = new Map();
@@ -64,7 +64,7 @@ function markShapes({ places }, { across, down }, radius, inkAt) {
   return marks.shapes((ink, path) => ({ fill: ink, path }));
 }
 
-// The graph's edges that its forest leaves out.
+// The edges of the graph that aren't in its forest.
 function otherShapes({ others, places, turn }, { across, down }, faint) {
   if (!state.hasOthers || !others?.length) return [];
   const paths = [];
@@ -86,7 +86,7 @@ function scaleShapes(shown, { zoom, free }, { soft }) {
   return [{ stroke: soft, width: 1.5, path }, { text: bar.text, x, y: y - 9, fill: soft }];
 }
 
-// What is drawn over many points as well: a scale bar and texts.
+// The scale bar and the texts, which are shapes in every picture.
 function textShapes(shown, through, plain) {
   const radius = radiusOf(shown.places.length / 2), { hasWeights } = state;
   return [...scaleShapes(shown, through, plain), ...labelShapes(shown, through, plain, { radius, hasWeights })];
@@ -108,27 +108,26 @@ export function shapesOf(shown, moment, through) {
 export function pictureSvg(canvas) {
   const { shown } = state, { clientWidth: width, clientHeight: height } = canvas;
   if (shown?.places.length > 2 * MOST_SVG) {
-    throw new Error(`An SVG of more than ${MOST_SVG.toLocaleString('en')} points is too long to be of use. Save PNG.`);
+    throw new Error(`An SVG of more than ${counted(MOST_SVG)} points would be too large. Save a PNG instead.`);
   }
   return svgOf(shapesOf(shown, momentNow(), lens()), width, height, inks().paper);
 }
 
-// The words of the colours for pixels.
 function wordsOf({ paper, cut, alone, hues }) {
   return { paper: wordOf(paper), cut: wordOf(cut), alone: wordOf(alone), hues: Uint32Array.from(hues, wordOf) };
 }
 
-// What pixels.js needs to draw this moment.
+// The job of drawing this moment, for pixels.js.
 export function jobOf({ moment, through: { left, top, x, y, zoom }, sharp, width, height }) {
   return { moment, lens: { left, top, x, y, zoom }, sharp, width, height, words: wordsOf(inks()) };
 }
 
 export class Picture {
-  constructor(canvas, painter, fault) {
+  constructor(canvas, painter, showError) {
     const last = document.createElement('canvas');
     this.canvas = canvas;
     this.painter = painter;
-    this.fault = fault;
+    this.showError = showError;
     this.last = last;
     this.lens = null;
     this.of = null;
@@ -137,7 +136,7 @@ export class Picture {
     this.awaited = 0;
   }
 
-  // Draws it before the next frame, however often it is asked for.
+  // Draws once before the next frame, however often this is called.
   soon() {
     this.isOld = true;
     this.await();
@@ -169,8 +168,7 @@ export class Picture {
     paint(pen, textShapes(state.shown, through, plain));
   }
 
-  // Asks for the picture of now. If it has to be waited for, it is drawn when it is there, and perhaps the next one
-  // begun.
+  // Has the pixels of the current view drawn. If a worker does it, its picture is shown once it is there.
   begin(sharp, through) {
     const { canvas: { width, height } } = this, { shown } = state;
     const words = this.painter.draw(shown, jobOf({ moment: momentNow(), through, sharp, width, height }));
@@ -193,10 +191,10 @@ export class Picture {
       const image = new ImageData(new Uint8ClampedArray(words.buffer), width, height);
       this.last.getContext('2d').putImageData(image, 0, 0);
       [this.lens, this.of] = [through, shown];
-    } else this.fault(new Error('The picture can’t be drawn: the browser gives no more memory.'));
+    } else this.showError(new Error('The picture can’t be drawn: the browser is out of memory.'));
   }
 
-  // The last picture, moved from its view to that of now.
+  // Draws the last picture, moved from its view to the current one.
   drawMoved(pen, sharp, { across, down, zoom }) {
     const { lens: then, last } = this, by = zoom / then.zoom, whole = value => Math.round(value * sharp) / sharp;
     const [left, top] = [whole(across(then.placeX(0))), whole(down(then.placeY(0)))];
@@ -207,7 +205,7 @@ export class Picture {
 
 const ringAt = (x, y, r) => `M${x - r} ${y}a${r} ${r} 0 1 0 ${2 * r} 0a${r} ${r} 0 1 0 ${-2 * r} 0`;
 
-// What is drawn over all: the cross of the keys, what is pointed at, and a branch of the dendrogram.
+// The shapes on top: the cross of the pen, a ring around the chosen point, and the points of a branch.
 function overlay({ across, down }, { mark, ink }) {
   const { shown, cross, picked, branch } = state, shapes = [];
   const ring = v => ringAt(across(shown.places[2 * v]), down(shown.places[2 * v + 1]), 8);
@@ -218,7 +216,7 @@ function overlay({ across, down }, { mark, ink }) {
   return shapes;
 }
 
-// Rings round a branch's points, of many only some.
+// Rings around the points of a branch, or around some of them if there are many.
 function branchPath({ merges: { order }, places }, { begin, end }, across, down) {
   const step = Math.max(1, Math.ceil((end - begin) / 3000)), rings = [];
   for (let at = begin; at < end; at += step) {

@@ -1,13 +1,12 @@
-// A picture of many points, pixel by pixel, which the worker draws: lines and points with soft edges, and of more
-// points than pixels their density.
+// A picture of many points, drawn pixel by pixel: lines and points with soft edges, or the density of very many points.
 
 import { NONE } from './merges.js';
 import { linesOf, sceneAt } from './scene.js';
 
-const MOST_DISCS = 100_000; // of more points the density is drawn
-const LEAST_LINE = 0.7; // pixels; shorter ones are under their points
+const MOST_DISCS = 100_000; // points that are drawn as discs
+const LEAST_LINE = 0.7; // pixels; points cover shorter lines
 
-// Where a line that runs by so much, from 0 to 1, comes between 0 and `most` along one axis; and where it leaves.
+// The parts of a line, from 0 to 1, at which it comes between 0 and `most` along one axis, and at which it leaves.
 const enters = (start, by, most) => {
   if (by === 0) return start >= 0 && start <= most ? 0 : 2;
   return Math.min(-start / by, (most - start) / by);
@@ -16,7 +15,7 @@ const leaves = (start, by, most) => by === 0 ? 1 : Math.max(-start / by, (most -
 
 const RED_BLUE = 0xff00ff, GREEN = 0xff00, OPAQUE = 0xff000000;
 
-// A word of one pixel with another one over it, by so many of 256 parts.
+// A pixel covered by another colour to this many 256ths.
 function mixed(under, over, part) {
   const rest = 256 - part;
   const redBlue = (Math.imul(over & RED_BLUE, part) + Math.imul(under & RED_BLUE, rest)) >>> 8 & RED_BLUE;
@@ -31,7 +30,7 @@ class Pixels {
     this.words = new Uint32Array(width * height).fill(paper);
   }
 
-  // A line as wide as this. It goes along the axis on which it is longer, and covers a part of each pixel across.
+  // Draws a line, pixel by pixel along the axis on which it is longer. Across, it covers pixels in part.
   line([x, y, toX, toY], wide, word) {
     const isFlat = Math.abs(toX - x) >= Math.abs(toY - y);
     const [length, across] = isFlat ? [this.width, this.height] : [this.height, this.width];
@@ -49,7 +48,7 @@ class Pixels {
     }
   }
 
-  // Covers pixels of a column, which are `stride` words apart, from one fraction to another.
+  // Covers a column of pixels, which are `stride` words apart, from one fractional index to another.
   span({ start, stride, most }, low, high, word) {
     const { words } = this, end = Math.min(most - 1, Math.ceil(high) - 1);
     for (let at = Math.max(0, Math.floor(low)); at <= end; at++) {
@@ -69,7 +68,7 @@ class Pixels {
     }
   }
 
-  // Points as so many pixels, each the darker the more of them it has.
+  // Draws the pixels that have points. A pixel with more of them is darker.
   density(counts, owners) {
     let most = 1;
     for (const count of counts) if (count > most) most = count;
@@ -83,7 +82,7 @@ class Pixels {
 
 const radiusOf = n => n > 40_000 ? 1 : n > 12_000 ? 1.4 : 1.8;
 
-// Functions from places to pixels of a canvas with `sharp` of them for one of the page's.
+// Functions from coordinates to pixels of a canvas. `sharp` is its number of pixels per pixel of the page.
 function placing({ left, top, x, y, zoom }, sharp) {
   return { across: value => sharp * (left + (value - x) * zoom), down: value => sharp * (top - (value - y) * zoom) };
 }
@@ -111,9 +110,9 @@ function drawDensity(pixels, { places }, { across, down }, wordOf) {
 }
 
 /**
- * The words of a picture.
+ * Draws a picture. The result is its pixels, one word each.
  * @param {{ places: Float64Array, forest: Uint32Array, heights: Float64Array, rounds: object, turn: number }} shown
- * @param {any} job - the moment, what is seen, and the words of colours
+ * @param {any} job - the moment, the view, and the colours as words
  */
 export function drawn(shown, { moment, lens, sharp, width, height, words: { paper, cut, alone, hues } }) {
   const pixels = new Pixels(width, height, paper), scene = sceneAt(shown, moment), through = placing(lens, sharp);

@@ -1,11 +1,11 @@
-// Borůvka's rounds, played in six seconds or stepped by keys.
+// Plays Borůvka's rounds in six seconds, or steps through them by keys.
 
 import { fade, isStill } from './fading.js';
 import { counted } from './measures.js';
 import { change, state } from './state.js';
 
-export const SECONDS = 6; // that all rounds take
-export const HOLD = 1.5; // seconds that the whole tree is shown for
+export const SECONDS = 6; // for all rounds
+export const HOLD = 1.5; // seconds for the whole tree
 
 export const canPlay = () => Boolean(state.shown?.rounds && state.shown.heights.length);
 export const isPlaying = () => state.round !== null;
@@ -16,8 +16,8 @@ export function stopPlaying() {
   change(state.round === null ? { playing } : { playing, round: null, isStepped: false });
 }
 
-// Plays all rounds once; it ends with the whole tree, and then the clusters. Who wants less motion sees the end
-// alone, unless it is asked for.
+// Plays all rounds once, and then shows the whole tree and the clusters. If the user prefers less motion, only an
+// explicit request plays them.
 export function play({ isAsked = false } = {}) {
   state.playing++;
   const { shown, playing } = state, begun = performance.now();
@@ -35,7 +35,7 @@ export function play({ isAsked = false } = {}) {
   });
 }
 
-// Goes a round on, or back, and stays there. Past the last one are the clusters.
+// Goes one round forward or back, and stays there. The clusters come after the last round.
 export function stepRounds(by) {
   if (!canPlay()) return;
   const last = lastRound(state.shown), { round } = state;
@@ -44,13 +44,13 @@ export function stepRounds(by) {
   change(now < 0 || now > last ? { round: null, isStepped: false } : { round: now, isStepped: true });
 }
 
-// How many pieces there are at this time of the rounds.
+// The number of pieces at this time of the rounds.
 export const piecesAt = ({ rounds }, round) => rounds.counts[Math.min(Math.floor(round), rounds.counts.length - 1)];
 
-// How the rounds are at this time, in words.
-export function roundsTold({ rounds }, round) {
+// The caption at this time of the rounds.
+export function roundsText({ rounds }, round) {
   const now = Math.min(Math.floor(round), rounds.counts.length - 1), isLast = now === rounds.counts.length - 1;
   const counts = rounds.counts.slice(0, now + 1).map(counted);
-  const next = isLast ? 'No link is left that joins two.' : 'Each reaches for its nearest neighbour.';
+  const next = isLast ? 'No edge is left that joins two pieces.' : 'Each piece reaches for its nearest neighbour.';
   return `${counts.join(', ')} ${rounds.counts[now] === 1 ? 'piece' : 'pieces'}. ${next}`;
 }

@@ -1,28 +1,26 @@
-// Python that finds the same forest and clusters as the page, by the package.
+// Python that computes the same forest and clusters as the page, with this project's package.
 
 import { state } from './state.js';
 
-const MOST_INSIDE = 200_000; // letters of a table that is written into the text
-const NOBODYS = ['pasted.csv', 'link.csv']; // names of tables that are no file
+const MOST_INSIDE = 200_000; // letters of a table that the program contains
+const NO_FILES = ['pasted.csv', 'link.csv']; // tables that the user doesn't have as a file
 const ENCODINGS = { 'windows-1252': 'cp1252', 'utf-16le': 'utf-16', 'utf-16be': 'utf-16' };
-const LACKED = '{"", "na", "n/a", "nan", "null", "none", "nil", "-", "?"}';
+const MISSING = '{"", "na", "n/a", "nan", "null", "none", "nil", "-", "?"}';
 
 const quoted = text => JSON.stringify(text);
 const number = ({ commas }, column) => `float(row[${column}]${commas ? '.replace(",", ".")' : ''})`;
 
-// A file that is opened, compressed or not.
 const openedInPython = (name, how) => `${/\.gz$/i.test(name) ? 'gzip.' : ''}open(${quoted(name)}, ${how})`;
 
-// The table itself where nobody has it as a file and it is short, or clusters.csv as this page saves it.
+// The table: the file, or the text itself if it isn't a file and is short, or clusters.csv as the page saves it.
 async function textOf(file, choice) {
-  const name = file && !NOBODYS.includes(file.name) ? file.name : '';
+  const name = file && !NO_FILES.includes(file.name) ? file.name : '';
   if (name) return openedInPython(name, `"rt", encoding="${ENCODINGS[choice.encoding] ?? 'utf-8-sig'}"`);
   const text = file ? await new Blob([file.content ?? file]).text() : '';
   if (text && text.length <= MOST_INSIDE) return `io.StringIO(${quoted(text)})`;
   return openedInPython('clusters.csv', '"rt", encoding="utf-8"');
 }
 
-// Lines that read the rows of a table.
 /** @param {any} choice */
 async function rowsInPython(choice, file) {
   const part = quoted(choice.separator), lines = `[line for line in ${await textOf(file, choice)} if keeps(line)]`;
@@ -31,7 +29,7 @@ async function rowsInPython(choice, file) {
   const isHeaded = choice.hasHeader && choice.skips !== 'header';
   const roles = Object.entries(choice.roles).filter(([role, column]) => role !== 'name' && column >= 0);
   const needed = quoted(roles.map(([, column]) => column));
-  const left = `rows = [row for row in rows if not any(row[i].strip().lower() in ${LACKED} for i in ${needed})]`;
+  const left = `rows = [row for row in rows if not any(row[i].strip().lower() in ${MISSING} for i in ${needed})]`;
   return [
     'import csv, gzip, io', 'import numpy as np',
     `keeps = lambda line: not line.lower().startswith("sep=")${choice.skips ? ' and not line.startswith("#")' : ''}`,
@@ -73,7 +71,7 @@ function graphInPython(file) {
   return `import gzip, subprocess\nprint(${run}.stdout.decode(), end="")\n`;
 }
 
-// Points that came from no table are read from clusters.csv, by the columns' names there.
+// Points that don't come from a table are read from clusters.csv.
 const ofClusters = kind => [
   'import csv, gzip, io', 'import numpy as np',
   'rows = list(csv.DictReader(open("clusters.csv", encoding="utf-8")))',

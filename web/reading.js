@@ -1,17 +1,18 @@
-// Pointer and keys on the picture: zoom, pan, point at, step the rounds, and the pen that sets points.
+// The pointer and the keys on the picture: they zoom, pan, choose points, step through the rounds, and add points.
 
+import { counted } from './measures.js';
 import { nameAt } from './names.js';
 import { canPlay, isPlaying, play, stepRounds, stopPlaying } from './playing.js';
 import { change, state } from './state.js';
 import { lens, moved, viewNow } from './view.js';
 
-const NEAR = 12; // pixels to a point that is pointed at
-const CLICK = 4; // pixels that a pointer may move in a click
+const NEAR = 12; // pixels from the pointer to the point that it chooses
+const CLICK = 4; // pixels that the pointer may move during a click
 const STEP = 40; // pixels that a key pans
 
 const isEmbedded = () => document.body.classList.contains('embed');
 
-// The vertex whose place is nearest to a pixel, or -1.
+// The vertex nearest to a pixel, or -1.
 function vertexAt(x, y) {
   const { shown } = state, { across, down } = lens();
   let least = NEAR * NEAR, found = -1;
@@ -22,7 +23,7 @@ function vertexAt(x, y) {
   return found;
 }
 
-// The longest of the forest's links at a vertex, or -1.
+// The longest edge of the forest at a vertex, or -1.
 function longestAt(v) {
   const { forest, heights } = state.shown;
   for (let i = heights.length - 1; i >= 0; i--) {
@@ -31,15 +32,15 @@ function longestAt(v) {
   return -1;
 }
 
-// What is said of a vertex: its name, its cluster and its longest link.
-export function vertexTold(v, numbers, told) {
+// A description of a vertex: its name, its cluster and its longest edge.
+export function vertexText(v, numbers, weightOf) {
   const { shown: { names }, clusters } = state, longest = longestAt(v), rows = [nameAt(names, v)];
-  if (clusters) rows.push(`cluster ${numbers()[v].toLocaleString('en')}`);
-  if (longest >= 0) rows.push(`longest link ${told(longest)}`);
+  if (clusters) rows.push(`cluster ${counted(numbers()[v])}`);
+  if (longest >= 0) rows.push(`longest edge ${weightOf(longest)}`);
   return rows.join(', ');
 }
 
-// Pointers that are down on the picture: one pans, two zoom.
+// The pointers that are down on the picture. One pans, two zoom.
 class Gesture {
   constructor(picture, { set }) {
     this.picture = picture;
@@ -56,7 +57,7 @@ class Gesture {
     this.last = this.spread();
   }
 
-  // The middle of the pointers, and how far they are apart.
+  // The middle of the pointers, and the distance between the first two.
   spread() {
     const all = [...this.down.values()], middle = of => all.reduce((sum, place) => sum + of(place), 0) / all.length;
     const apart = all.length > 1 ? Math.hypot(all[0].x - all[1].x, all[0].y - all[1].y) : 0;
@@ -86,7 +87,7 @@ class Gesture {
   }
 }
 
-// The wheel zooms. In an embedded view it is left to the page around it, unless Control is pressed.
+// The wheel zooms. In an embedded view it scrolls the page around it, unless Control is pressed.
 function wheel(event) {
   if (isEmbedded() && !event.ctrlKey) return;
   event.preventDefault();
@@ -113,7 +114,7 @@ export function listenToPointer(picture, calls) {
 const ARROWS = { ArrowLeft: [-1, 0], ArrowRight: [1, 0], ArrowUp: [0, -1], ArrowDown: [0, 1] };
 const WALK = { n: 1, p: -1, PageDown: 1, PageUp: -1 };
 
-// Points at the next vertex, or the one before: those of a cluster follow each other. The view follows to it.
+// Chooses the next or the previous vertex, cluster by cluster. The view follows.
 function walk(by) {
   const { shown, picked } = state;
   if (!shown?.places.length) return;
@@ -133,7 +134,7 @@ function moveCross(picture, event, dx, dy) {
   change({ cross: { x: within(x + dx * by, picture.clientWidth), y: within(y + dy * by, picture.clientHeight) } });
 }
 
-// What a key does with the hand and the pen alike, or nothing.
+// What a key does with both tools, the hand and the pen, if anything.
 function commonKey(key) {
   const { left, top } = lens();
   return {
@@ -148,7 +149,7 @@ function commonKey(key) {
   }[key];
 }
 
-// The hand pans by arrows, the pen moves a cross by them.
+// Arrows pan with the hand, and move the cross with the pen.
 export function listenToKeys(picture, { set, undo: takeBack }) {
   picture.onkeydown = event => {
     const { left, top } = lens(), { key } = event, [dx, dy] = ARROWS[key] ?? [0, 0], isPen = state.tool === 'pen';
@@ -167,7 +168,7 @@ export function listenToKeys(picture, { set, undo: takeBack }) {
   picture.onblur = () => state.cross && change({ cross: null });
 }
 
-// The place at a pixel, to six digits, or to as many as keep it within a tenth of the pixel.
+// The coordinates of a pixel, to six digits, or to more if those miss it by a tenth of a pixel.
 export function placeAt(x, y) {
   const { placeX, placeY, zoom } = lens(viewNow());
   const digits = value => Math.ceil(Math.log10(Math.abs(value) * zoom)) + 2;

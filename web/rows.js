@@ -1,17 +1,16 @@
-// The rows of a text that comes in pieces: CSV with quotes, or fields between tabs, semicolons or spaces.
+// The rows of a text that comes in pieces: CSV with quotes, or fields separated by tabs, semicolons, bars or spaces.
 
-import { Refusal } from './boruvka.js';
+import { InputError } from './boruvka.js';
 
 const MOST_IN_ROW = 1_000_000; // characters
 const MOST_LINES = 20_000_000;
-const CONTROLS = /[\0-\x08\x0e-\x1f]/; // no text has them
-const BREAKS = /\r\n|\n|\r(?=[^])/; // a CR at the end may have its LF in the next piece
+const CONTROLS = /[\0-\x08\x0e-\x1f]/; // these occur in no text
+const BREAKS = /\r\n|\n|\r(?=[^])/; // the LF of a CR at the end may be in the next piece
 
-// What separates the fields of a table, by its first row: the first of these that it has outside of quotes, or
-// spaces.
+// The separator of a table, by its first row: the first of these that occurs outside quotes, or else spaces.
 export const separatorOf = row => ['\t', ';', '|', ','].find(mark => row.replace(/"[^"]*"/g, '').includes(mark)) ?? ' ';
 
-// The fields of a row. Quotes round a field are taken off, and two inside of it are one.
+// The fields of a row, without the quotes around them. Two quotes inside a field stand for one.
 export function fieldsOf(row, separator, line) {
   if (separator === ' ' && row.includes('\n')) throw strayQuote(row, line);
   if (separator === ' ') return row.trim().split(/\s+/).map(unquoted);
@@ -21,17 +20,17 @@ export function fieldsOf(row, separator, line) {
   for (let at = 0; at <= row.length; at++) {
     if (row[at] === '"') isInside = !isInside;
     if (at < row.length && (isInside || row[at] !== separator)) continue;
-    fields.push(heldTogether(row.slice(begin, at).trim(), separator, line));
+    fields.push(wholeField(row.slice(begin, at).trim(), separator, line));
     begin = at + 1;
   }
   return fields;
 }
 
-const strayQuote = (text, line) => new Refusal('StrayQuote', line, `‘${text.slice(0, 40).split('\n')[0]}’`);
+const strayQuote = (text, line) => new InputError('StrayQuote', line, `‘${text.slice(0, 40).split('\n')[0]}’`);
 
-// A field without its quotes. It goes on past a separator or a line only if quotes surround all of it: a single
-// mark, as of inches, would take the next row in.
-function heldTogether(field, separator, line) {
+// A field without its quotes. Only quotes around the whole field may hide a separator or a line break: a single mark,
+// for inches, would swallow the next row.
+function wholeField(field, separator, line) {
   const isWhole = isQuoted(field) && !field.slice(1, -1).replaceAll('""', '').includes('"');
   if (!isWhole && (field.includes(separator) || field.includes('\n'))) throw strayQuote(field, line);
   return unquoted(field);
@@ -40,10 +39,11 @@ function heldTogether(field, separator, line) {
 const isQuoted = field => /^"[^]*"$/.test(field);
 const unquoted = field => isQuoted(field) ? field.slice(1, -1).replaceAll('""', '"') : field;
 
-// Whether a line opens a quote that it doesn't close, or closes one that was open.
-const turnsQuotes = line => line.includes('"') && line.split('"').length % 2 === 0;
+// Whether a line opens a quote that it doesn't close, or closes an open one.
+const changesQuotes = line => line.includes('"') && line.split('"').length % 2 === 0;
 
-// It calls `take(row, line)` for each row that says something. Lines end in LF, CR or both; within quotes they go on.
+// Calls `take(row, line)` for each row that isn't empty. Lines end in LF, CR or both, and rows may contain quoted
+// lines.
 export class Rows {
   constructor(take) {
     this.take = take;
@@ -56,37 +56,37 @@ export class Rows {
 
   push(text) {
     const control = text.search(CONTROLS);
-    if (control >= 0) throw this.notText(text.slice(0, control));
+    if (control >= 0) throw this.binaryError(text.slice(0, control));
     const all = this.rest + text, lines = all.split(all.includes('\r') ? BREAKS : '\n');
     this.rest = lines.pop();
-    if (this.line + lines.length > MOST_LINES) throw new Refusal('TooManyLines', MOST_LINES + 1);
-    for (const line of lines) this.hear(line);
-    if (this.rest.length > MOST_IN_ROW) throw new Refusal('LongRow', this.line + 1);
+    if (this.line + lines.length > MOST_LINES) throw new InputError('TooManyLines', MOST_LINES + 1);
+    for (const line of lines) this.add(line);
+    if (this.rest.length > MOST_IN_ROW) throw new InputError('LongRow', this.line + 1);
   }
 
-  // Of a text that goes on with letters that no text has.
-  notText(before) {
-    return new Refusal('NoText', this.line + (this.rest + before).split(BREAKS).length, 'a binary file');
+  // The error of a control character after this part of the text.
+  binaryError(before) {
+    return new InputError('NoText', this.line + (this.rest + before).split(BREAKS).length, 'a binary file');
   }
 
-  hear(line) {
+  add(line) {
     this.line++;
     const isWithin = this.held.length > 0;
     if (!isWithin) [this.first, this.length] = [this.line, 0];
-    if (isWithin !== turnsQuotes(line)) this.hold(line);
+    if (isWithin !== changesQuotes(line)) this.hold(line);
     else if (isWithin) this.take([...this.held.splice(0), line].join('\n'), this.first);
     else if (line.trim() !== '') this.take(line, this.first);
   }
 
-  // Keeps a line of a row that goes on.
+  // Stores a line of a row that isn't complete.
   hold(line) {
     this.length += line.length + 1;
-    if (this.length > MOST_IN_ROW) throw new Refusal('OpenQuote', this.first);
+    if (this.length > MOST_IN_ROW) throw new InputError('OpenQuote', this.first);
     this.held.push(line);
   }
 
   end() {
-    if (this.rest.replace(/\r$/, '')) this.hear(this.rest.replace(/\r$/, ''));
-    if (this.held.length) throw new Refusal('OpenQuote', this.first);
+    if (this.rest.replace(/\r$/, '')) this.add(this.rest.replace(/\r$/, ''));
+    if (this.held.length) throw new InputError('OpenQuote', this.first);
   }
 }

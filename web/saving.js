@@ -1,4 +1,4 @@
-// Files out: what can be saved of what is shown, and what is copied.
+// Saves files, and copies texts.
 
 import { MOST_CARRIED, addressOf, canLink, canSavePage, pageWith } from './address.js';
 import { numbersOf } from './clusters.js';
@@ -22,7 +22,7 @@ export function save(name, content) {
 
 const svg = text => new Blob([text], { type: 'image/svg+xml' });
 
-// A canvas as PNG, once it is drawn.
+// A canvas as PNG, after it has been drawn.
 async function png(canvas) {
   while (canvas.ariaBusy === 'true') await new Promise(requestAnimationFrame);
   return new Promise(done => canvas.toBlob(done, 'image/png'));
@@ -30,14 +30,14 @@ async function png(canvas) {
 
 const isPoints = () => state.shown?.kind === 'plane' || state.shown?.kind === 'globe';
 
-// A text that the worker makes of what is shown.
+// A file that the worker writes.
 const made = name => async ({ solver }) => {
   const { shown: { rounds: _rounds, places: _places, others: _others, ...shown }, clusters, file } = state;
   const numbers = name.startsWith('clusters.') ? numbersOf(state.shown, clusters) : null;
   return solver.ask({ task: 'save', name, shown, file, numbers });
 };
 
-// The page with the file that was opened inside, or with the points that were set or drawn.
+// The page with the opened file inside, or with the current points.
 async function madePage({ solver }) {
   const { file, shown } = state, choice = shown.choice;
   if (file) return pageWith(file, choice);
@@ -57,13 +57,13 @@ async function madeFilm({ painter }) {
   }
 }
 
-// Of each file whether it can be saved now, and what makes it.
+// For each file: whether it can be saved now, and what makes it.
 const FILES = {
   'picture.png': { make: () => png($('picture')) },
   'picture.svg': { make: () => svg(pictureSvg($('picture'))) },
   'dendrogram.png': { can: () => state.clusters, make: () => png($('dendrogram')) },
   'dendrogram.svg': { can: () => state.clusters, make: () => svg(dendrogramSvg($('dendrogram'))) },
-  'rounds.webm': { can: () => canPlay() && !$('nofilm').textContent, make: madeFilm },
+  'rounds.webm': { can: () => canPlay() && state.canFilm, make: madeFilm },
   'clusters.csv': { can: () => state.clusters, make: made('clusters.csv') },
   'clusters.geojson': { can: () => state.clusters && state.shown.kind === 'globe', make: made('clusters.geojson') },
   'forest.csv': { make: made('forest.csv') },
@@ -76,49 +76,55 @@ const FILES = {
 
 const idOf = name => `save-${name.replace('.', '-')}`;
 
-// (another task would stop the one that goes on)
-function waited({ solver }) {
-  if (solver.asked) throw new Error('Wait until the forest is there.');
+// (a second task would stop the first one)
+function expectIdle({ solver }) {
+  if (solver.asked) throw new Error('Wait until the forest has been computed.');
 }
 
-// Lets each button of a file save it; `fault` hears what fails, and null when another one begins.
-export async function listenToSaving(workers, fault) {
+// Makes the buttons save and copy. `showError` gets each error, and null at the start of each attempt.
+export function listenToSaving(workers, showError) {
   const tried = act => async () => {
-    fault(null);
+    showError(null);
     try {
       await act();
     } catch (error) {
-      $('saving').close(); // it would hide what is told
-      fault(error);
+      $('saving').close(); // it would cover the error
+      showError(error);
     }
   };
   for (const [name, { make }] of Object.entries(FILES)) {
     $(idOf(name)).onclick = tried(async () => {
-      waited(workers);
+      expectIdle(workers);
       if (name === 'rounds.webm') $('saving').close();
       const content = await /** @type {any} */ (make)(workers);
       if (content) save(name, content);
     });
   }
   $('copylink').onclick = tried(async () => {
-    waited(workers);
+    expectIdle(workers);
     const table = await made('carried.csv')(workers);
     if (table) await copy(await addressOf(await table.text()));
   });
   $('copypython').onclick = tried(async () => copy(await pythonText()));
   $('linkline').hidden = !canLink();
   $('pageline').hidden = !canSavePage();
-  $('nofilm').textContent = await whyNoFilm();
 }
 
-export function tellSaving() {
+// Shows whether this browser can make a film. Until then the button is disabled.
+export async function showFilms() {
+  $('nofilm').textContent = await whyNoFilm();
+  state.canFilm = !$('nofilm').textContent;
+  showSaving();
+}
+
+export function showSaving() {
   const { shown } = state;
   for (const [name, { can }] of Object.entries(FILES)) $(idOf(name)).disabled = !shown || (can ? !can() : false);
   $('copylink').disabled = !isPoints() || shown.n > MOST_CARRIED;
   $('copypython').disabled = !shown;
 }
 
-// Copies a text; where the browser doesn't, the text is shown to be copied by hand.
+// Copies a text, and shows it too, in case the browser doesn't allow copying.
 async function copy(text) {
   $('copied').value = text;
   $('copied').hidden = false;

@@ -1,18 +1,18 @@
-// The page's side of worker.js: tasks, and their progress.
+// The page's side of worker.js: it sends tasks and shows their progress.
 
-import { Refused } from './causes.js';
+import { PageError } from './causes.js';
 
 const $ = id => /** @type {any} */ (document.getElementById(id));
 const SOON = 300; // milliseconds until the bar is shown
 
-// The page is busy from its start until all that began has ended.
+// The page is busy from its start until everything that has begun has ended.
 let underway = 1;
 export function busy(by) {
   underway += by;
   document.body.ariaBusy = String(underway > 0);
 }
 
-// What a packed page has inside, or null: bytes packed by deflate.
+// The bytes of a part of a packed page, which are compressed by deflate, or null.
 async function packed(id) {
   const text = $(id)?.textContent;
   if (!text) return null;
@@ -21,7 +21,7 @@ async function packed(id) {
   return new Uint8Array(await new Response(stream).arrayBuffer());
 }
 
-// What starts a worker. A page from a file may start none from a module.
+// A function that starts a worker. A page from a file may not start one from a module.
 async function workerStart() {
   const script = await packed('packed-worker');
   if (!script) return () => new Worker('worker.js', { type: 'module' });
@@ -32,12 +32,12 @@ async function workerStart() {
 async function moduleBytes() {
   const inside = await packed('packed-module');
   if (inside) return inside;
-  const answer = await fetch('boruvka.wasm');
-  if (!answer.ok) throw new Error('boruvka.wasm is missing beside this page.');
-  return new Uint8Array(await answer.arrayBuffer());
+  const result = await fetch('boruvka.wasm');
+  if (!result.ok) throw new Error('The file boruvka.wasm is missing. It belongs next to this page.');
+  return new Uint8Array(await result.arrayBuffer());
 }
 
-// Whether the browser runs the proved module (it needs Memory64).
+// The compiled module, or null if the browser can't run it, because it lacks Memory64.
 async function compiled(bytes) {
   return WebAssembly.validate(bytes) ? WebAssembly.compile(bytes) : null;
 }
@@ -60,16 +60,16 @@ export class Solver {
   start() {
     this.worker = this.starts();
     this.worker.postMessage({ module: this.module });
-    this.worker.onmessage = ({ data }) => this.hear(data);
+    this.worker.onmessage = ({ data }) => this.receive(data);
     this.worker.onerror = event => {
-      const told = event.message || 'The page’s worker ended. The browser may have no more memory.';
-      this.settle('reject', new Error(told));
+      const text = event.message || 'The page’s worker ended. The browser may be out of memory.';
+      this.settle('reject', new Error(text));
       this.worker.terminate();
       this.start();
     };
   }
 
-  // Its answer; null if another task or `stop` comes before it.
+  // The result of a task, or null if another task or `stop` comes first.
   ask(task) {
     if (this.asked) this.stop();
     busy(1);
@@ -80,9 +80,9 @@ export class Solver {
     });
   }
 
-  hear({ progress, refusal, answer }) {
-    if (refusal) this.settle('reject', new Refused(refusal));
-    else if (progress === undefined) this.settle('resolve', answer);
+  receive({ progress, error, result }) {
+    if (error) this.settle('reject', new PageError(error));
+    else if (progress === undefined) this.settle('resolve', result);
     else if (progress === null) $('progress').removeAttribute('value');
     else $('progress').value = progress;
   }

@@ -1,14 +1,14 @@
-// What a file holds, by its bytes: compressed or not, its letters, and which kind it is. Pieces come one after the
-// other, so that no file has to be in memory whole.
+// Reads a file: decompresses and decodes it, and recognizes its kind. It is read in pieces, so that it needn't fit into
+// memory.
 
-import { Refusal } from './boruvka.js';
+import { InputError } from './boruvka.js';
 import { Rows } from './rows.js';
 
-const MOST_BYTES = 2 ** 30; // of a text that has to be in memory whole
-const HEAD = 4096; // bytes that are looked at first
+const MOST_BYTES = 2 ** 30; // of a text that is read as a whole
+const HEAD = 4096; // bytes by which the kind is recognized
 const PIECE = 2 ** 20; // bytes
 
-// The first bytes of what isn't text, and what it is.
+// The first bytes of some kinds of files that aren't text.
 const MAGIC = {
   '89504e47': 'a PNG picture',
   'ffd8ff': 'a JPEG picture',
@@ -24,7 +24,7 @@ const MAGIC = {
 
 const hex = bytes => Array.from(bytes, byte => byte.toString(16).padStart(2, '0')).join('');
 
-// Bytes in pieces, as a file's stream has them.
+// A stream of bytes in pieces, like that of a file.
 function streamOf(bytes) {
   let at = 0;
   return new ReadableStream({
@@ -35,12 +35,12 @@ function streamOf(bytes) {
   });
 }
 
-// A file's bytes in pieces. What gzip compressed is decompressed. A file is a File, or { name, content } where a
-// worker may read no File.
+// A file's bytes in pieces, decompressed if it is a .gz. `file` is a File, or { name, content } if a worker may not
+// read files.
 export class Source {
   constructor(file, head) {
     this.file = file;
-    this.isPacked = hex(head.subarray(0, 2)) === '1f8b';
+    this.isGzip = hex(head.subarray(0, 2)) === '1f8b';
     this.encoding = '';
     this.foreign = '';
     this.name = file.name.toLowerCase().replace(/\.gz$/, '');
@@ -53,11 +53,11 @@ export class Source {
 
   async *pieces() {
     const { content } = this.file, stream = content ? streamOf(content) : this.file.stream();
-    const reader = (this.isPacked ? stream.pipeThrough(new DecompressionStream('gzip')) : stream).getReader();
+    const reader = (this.isGzip ? stream.pipeThrough(new DecompressionStream('gzip')) : stream).getReader();
     try {
       for (let read = await reader.read(); !read.done; read = await reader.read()) yield read.value;
     } catch (error) {
-      if (this.isPacked && error instanceof TypeError) throw new Refusal('BadGzip');
+      if (this.isGzip && error instanceof TypeError) throw new InputError('BadGzip');
       throw error;
     } finally {
       reader.cancel().catch(() => {});
@@ -75,33 +75,33 @@ export class Source {
     return joined(parts, length).subarray(0, HEAD);
   }
 
-  // All bytes together.
+  // All bytes.
   async whole(most = MOST_BYTES) {
     const parts = [];
     let length = 0;
     for await (const piece of this.pieces()) {
       parts.push(piece);
       length += piece.length;
-      if (length > most) throw new Refusal('TooLong');
+      if (length > most) throw new InputError('TooLong');
     }
     return joined(parts, length);
   }
 
-  // Reads a table's letters as Windows-1252 from now on, or returns false where they were read so already.
+  // Decodes a table as Windows-1252 from now on. Returns false if it was decoded so already.
   turnsToWindows() {
     if (this.encoding === 'windows-1252') return false;
     this.encoding = 'windows-1252';
     return true;
   }
 
-  // Its rows as text, each handed to `take(row, line)`, until that returns false.
+  // Calls `take(row, line)` with the text of each row, until it returns false.
   async rows(take) {
     this.encoding ||= encodingOf(await this.head());
     try {
       return await this.rowsIn(this.encoding, take);
     } catch (error) {
       if (!(error instanceof TypeError)) throw error;
-      throw new Refusal(this.encoding === 'utf-8' ? 'NoUtf8' : 'NoUtf16');
+      throw new InputError(this.encoding === 'utf-8' ? 'NoUtf8' : 'NoUtf16');
     }
   }
 
@@ -111,7 +111,7 @@ export class Source {
     const rows = new Rows((row, line) => { goes = goes && take(row, line) !== false; });
     for await (const piece of this.pieces()) {
       const text = decoder.decode(piece, { stream: true });
-      if (isForeign) this.hearForeign(text);
+      if (isForeign) this.checkForeign(text);
       rows.push(text);
       if (!goes) return rows.line;
     }
@@ -120,9 +120,9 @@ export class Source {
     return rows.line;
   }
 
-  // Five bytes are no letter of Windows-1252. A file that has one is of another encoding.
-  hearForeign(text) {
-    if (/[\x80-\x9f]/.test(text)) throw new Refusal('NoUtf8');
+  // Five bytes aren't letters of Windows-1252. A file that contains one has another encoding.
+  checkForeign(text) {
+    if (/[\x80-\x9f]/.test(text)) throw new InputError('NoUtf8');
     this.foreign ||= /[^\n\r\t;,|]{0,12}[\u0100-\uffff\xa0-\xff][^\n\r\t;,|]{0,12}/.exec(text)?.[0] ?? '';
   }
 }
@@ -141,13 +141,13 @@ const encodingOf = head => ({ fffe: 'utf-16le', feff: 'utf-16be' })[hex(head.sub
 
 const ENDINGS = { gr: 'gr', co: 'co', geojson: 'geojson', json: 'geojson', gpx: 'xml', kml: 'xml' };
 
-// A file's kind: `gr`, `co`, `geojson`, `xml` (GPX or KML) or `table`. What is no text is refused.
+// The kind of a file: `gr`, `co`, `geojson`, `xml` (GPX or KML) or `table`. Files that aren't text are rejected.
 export function kindOf(name, head) {
   const magic = Object.keys(MAGIC).find(bytes => hex(head.subarray(0, 4)).startsWith(bytes));
-  if (magic) throw new Refusal('NoText', 0, MAGIC[magic]);
+  if (magic) throw new InputError('NoText', 0, MAGIC[magic]);
   const text = new TextDecoder('latin1').decode(head), ending = name.split('.').at(-1);
   if (ending === 'gr' || ending === 'co') return ending;
-  if (/^(\xef\xbb\xbf)?\s*<(!doctype )?html/i.test(text)) throw new Refusal('WebPage');
+  if (/^(\xef\xbb\xbf)?\s*<(!doctype )?html/i.test(text)) throw new InputError('WebPage');
   if (/^(\xef\xbb\xbf)?\s*<(\?xml|gpx|kml)/i.test(text)) return 'xml';
   const first = text.split('\n').find(line => line.trim() && !/^c(\s|$)/.test(line)) ?? '';
   if (first.startsWith('p sp ')) return 'gr';

@@ -1,19 +1,18 @@
-// Where points lie: in the plane, or on the globe. A space measures between its places, which it keeps in an order
-// of their own.
+// The two spaces of points: the plane and the globe. A space measures the distance of two points, by their indices.
 //
-// A space has `width` coordinates of each place, one after the other in a Float64Array, for boxes around places;
-// `square`, which grows with the distance of two places; `within`, the largest square of boxes' gaps that a nearer
-// place can have; and `length`, the distance of a square.
+// A space has `width` coordinates per point, in one Float64Array, for bounding boxes. `square` grows with the distance
+// of two points, and `length` computes the distance from it. `within` is the largest square of a gap between boxes that
+// a nearer point can have.
 
 import { boundsOf } from './bounds.js';
 
 const KILOMETRES_OF_EARTH = 6371;
 const RADIAN = Math.PI / 180;
 
-// By so much may a chord between two places on the globe be wrong, if it is taken from axes: they are rounded.
+// The error of a chord between two points of the globe that is computed from their rounded coordinates.
 const BLUR = 1e-15;
 
-// The values of places in this order, `width` of each.
+// The values of points in this order, `width` per point.
 function picked(values, order, width = 1) {
   const all = new Float64Array(order.length * width);
   for (let i = 0; i < order.length; i++) {
@@ -22,8 +21,7 @@ function picked(values, order, width = 1) {
   return all;
 }
 
-// Distances on paper. Coordinates are scaled by a power of two, so that no square of a distance is past what doubles
-// hold.
+// Distances in the plane. Coordinates are scaled by a power of two, so that no square of a distance overflows a double.
 export class Plane {
   constructor(coordinates, scale) {
     this.coordinates = coordinates;
@@ -36,7 +34,7 @@ export class Plane {
     const most = Math.max(across.high - across.low, up.high - up.low);
     if (points.length && !Number.isFinite(Math.hypot(across.high - across.low, up.high - up.low))) return null;
     const scale = most > 0 ? 2 ** -Math.max(-1022, Math.min(1022, Math.floor(Math.log2(most)))) : 1;
-    // what all points share is 0: scaled, it may be past what doubles hold
+    // a coordinate that all points share becomes 0, because it could overflow when it is scaled
     const by = [across, up].map(({ low, high }) => low < high ? scale : 0);
     return new Plane(points.map((value, i) => value * by[i % 2]), scale);
   }
@@ -61,15 +59,15 @@ export class Plane {
   }
 }
 
-// Degrees east from -180 to below 180. Each step is exact.
+// Degrees east, from -180 to below 180. No step rounds.
 export const onceEast = east => east >= 180 ? east - 360 : east < -180 ? east + 360 : east;
 
-// Degrees by which each place of the globe has one pair: 0 east at the poles.
+// Degrees such that each point of the globe has only one pair. At the poles, it is 0 degrees east.
 export const namedOnce = points =>
   points.map((value, i) => i % 2 ? value : Math.abs(points[i + 1]) === 90 ? 0 : onceEast(value));
 
-// Kilometres on great circles, by the haversine formula. Points are degrees east and north; axes lead out of the
-// earth.
+// Distances in kilometres on great circles, by the haversine formula. Points are given in degrees east and north; their
+// coordinates are those of the unit sphere.
 export class Globe {
   constructor(coordinates, east, north) {
     this.coordinates = coordinates;
@@ -94,7 +92,7 @@ export class Globe {
     return new Globe(picked(this.coordinates, order, 3), picked(this.east, order), picked(this.north, order));
   }
 
-  // Of the chord through the earth, whose radius is 1.
+  // The square of the chord in the unit sphere.
   square(one, other) {
     const up = Math.sin((this.north[one] - this.north[other]) / 2);
     const across = Math.sin((this.east[one] - this.east[other]) / 2);
@@ -102,7 +100,7 @@ export class Globe {
   }
 
   within(square) {
-    // nothing is nearer than 0: otherwise all equal places would be looked at
+    // (for 0 nothing is nearer, and a search would visit all equal points)
     return square && (Math.sqrt(square) + BLUR) ** 2;
   }
 
@@ -111,8 +109,8 @@ export class Globe {
   }
 }
 
-// Where points of the globe are drawn, and how wide all degrees are: each degree up as long as one across in the
-// middle. It is cut open in the middle of the widest gap between degrees east.
+// A map of points on the globe: their coordinates, the width of 360 degrees, and the degree at which the map is cut
+// open, in the middle of its widest gap. In the middle of the map, a degree north is as long as a degree east.
 export function drawnGlobe(points) {
   const n = points.length / 2, east = new Float64Array(n).map((_, v) => (points[2 * v] % 360 + 360) % 360);
   const sorted = east.slice().sort(), around = n ? sorted[0] + 360 - sorted[n - 1] : 0;

@@ -1,57 +1,57 @@
-// All that the page shows, in one place. What follows from it is computed from it.
+// The state of the page. Everything on the page is computed from it.
 //
-// `shown` is an answer of worker.js, or null; another one replaces it whole. `clusters` is how it is cut, and is
-// made anew whenever `shown`, `smallest` or the count changes, here alone. What was shown before is in `past`, for
-// undo.
+// `shown` is a result of worker.js, or null. It is never changed, only replaced. Only this file computes `clusters`,
+// again whenever `shown`, `smallest` or the number of clusters changes. `past` has the earlier results, for undo.
 
 import { clustersAt, firstCount } from './clusters.js';
 import { coloursOf, fewOf } from './merges.js';
 
 /** @typedef {import('./types.js').Snapshot} Snapshot */
 
-const MOST_KEPT = 3_000_000; // vertices of all that undo can bring back
+const MOST_KEPT = 3_000_000; // vertices in all results that undo can restore
 
 /** @type {import('./types.js').State} */
 export const state = {
   shown: null,
-  file: null, // that it came from
-  placesFile: null, // that its places came from
+  file: null, // the source of `shown`
+  placesFile: null, // the source of its coordinates, for a graph
   clusters: null,
-  smallest: null, // points of a cluster that has a colour, or null for a hundredth of all
-  round: null, // Borůvka's rounds so far, with a fraction, while they are played; null shows the clusters
-  isStepped: false, // the rounds go on by keys alone
-  playing: 0, // which time the rounds are played
-  view: null, // what part of the places is seen, or null for all
-  picked: -1, // a vertex that is pointed at
-  branch: null, // vertices of a branch that is pointed at, as indices in `merges.order` from `begin` to `end`
+  smallest: null, // the fewest points of a cluster with a colour, or null for a hundredth of all points
+  round: null, // the time while Borůvka's rounds are played: the round and its fraction; null shows the clusters
+  isStepped: false, // keys step through the rounds
+  playing: 0, // how often the rounds were played or stopped
+  view: null, // the visible part of the points, or null for all of them
+  picked: -1, // the chosen vertex, or -1
+  branch: null, // the branch under the pointer, as indices in `merges.order` from `begin` to `end`
   tool: 'hand', // or 'pen'
-  cross: null, // where keys set points, in pixels
+  cross: null, // the pixel at which a key adds a point
   scale: 'root', // of heights
-  hasWeights: false, // the edges' weights are drawn
+  hasWeights: false, // weights are drawn at the edges
   hasOthers: true, // edges that aren't in the forest are drawn
   past: [],
   future: [],
   free: { left: 0, top: 0, width: 1, height: 1 }, // the part of the picture that nothing covers, in pixels
-  turn: 0, // which time something is opened, drawn or cleared
-  draws: 0, // how many times points were drawn at random
-  penning: Promise.resolve(), // until the points that were set before are there
-  told: {}, // what the page told last
-  tree: { isAwaited: false, free: 0 }, // when the dendrogram may be drawn again
+  turn: 0, // how often something was opened, generated or cleared
+  draws: 0, // how often points were generated at random
+  adding: Promise.resolve(), // fulfilled when all points of the pen are there
+  drawn: {}, // the state that the texts and the dendrogram show
+  tree: { isAwaited: false, free: 0 }, // whether the dendrogram will be drawn, and from when on it may be
   isPrinted: false,
+  canFilm: false, // whether the browser can encode films, once that is known
 };
 
-const hearers = [];
-export const onChange = call => hearers.push(call);
+const listeners = [];
+export const onChange = call => listeners.push(call);
 
 export function change(more) {
   Object.assign(state, more);
-  for (const hear of hearers) hear();
+  for (const call of listeners) call();
 }
 
-// How many points a cluster with a colour has at least.
+// The fewest points of a cluster with a colour.
 export const fewNow = () => state.smallest ?? fewOf(state.shown?.n ?? 0);
 
-// Shows an answer, cut into `count` clusters, or by the clearest jump of heights.
+// Shows a result with this number of clusters, or with the number at the clearest jump of heights.
 function put(shown, { count = null, smallest = null, ...more }) {
   const few = smallest ?? fewOf(shown?.n ?? 0), { n, merges } = shown ?? {};
   const clusters = merges ? clustersAt(shown, count ?? firstCount(shown, few), coloursOf(n, merges, few)) : null;
@@ -65,21 +65,21 @@ function snapshot() {
   return { shown, file, placesFile, count: clusters?.count ?? null, smallest, view };
 }
 
-// The last of these that are few enough together. Each has a vertex at least, so that there is an end of empty ones
-// too.
+// The last of these snapshots that are small enough together. Each counts as one vertex at least, so that their number
+// is bounded too.
 function bounded(snapshots) {
   let left = MOST_KEPT, first = snapshots.length;
   while (first > 0 && (left -= 1 + (snapshots[first - 1].shown?.n ?? 0)) >= 0) first--;
   return snapshots.slice(first);
 }
 
-// Shows an answer instead of what is shown now, which undo brings back.
+// Shows a result. Undo restores the one before it.
 export function show(shown, more = {}) {
   const past = bounded([...state.past, snapshot()]);
   put(shown, { file: null, placesFile: null, ...more, past, future: [] });
 }
 
-// Shows the first answer: there is nothing to undo.
+// Shows the first result, which can't be undone.
 export const showFirst = (shown, more = {}) => put(shown, more);
 
 function swap(from, to) {
@@ -99,7 +99,7 @@ export function cutTo(count) {
   change({ clusters: cut, round: null, isStepped: false, branch: null });
 }
 
-// Takes the colour from clusters of fewer points.
+// Makes clusters of fewer points than this grey.
 export function colourFrom(smallest) {
   const { shown, clusters } = state;
   if (!clusters) return;

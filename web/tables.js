@@ -1,23 +1,24 @@
-// What a table says, row by row: points with their names, or links between names.
+// Reads a table row by row: points with optional names, or edges between names.
 
 /**
  * @typedef {import('./types.js').Choice} Choice
  * @typedef {import('./sources.js').Source} Source
  */
 
-import { Refusal } from './boruvka.js';
-import { chosenBy, degreesTold, hasComma, headerTold, isMissing, isRounded, numberOf, rankOfNames } from './columns.js';
+import { InputError } from './boruvka.js';
+import { chosenBy, degreesNotes, hasComma, headerNotes, isMissing } from './columns.js';
+import { isRounded, numberOf, rankOfNames } from './columns.js';
 import { Packer } from './names.js';
 import { fieldsOf, separatorOf } from './rows.js';
 
 export const MOST_POINTS = 1_000_000;
 const MOST_LINKS = 16_000_000;
 const MOST_COLUMNS = 1000;
-const SAMPLE = 6; // rows that are looked at before columns are chosen
-const SEPARATES = /^sep=(.)\s*$/i; // a first line by which Excel says what separates fields
+const SAMPLE = 6; // rows by which columns are chosen
+const SEPARATOR_LINE = /^sep=(.)\s*$/i; // a first line with the separator, as Excel writes it
 const COMMENT = /^\s*#/;
 
-// Reads fields of one table, and refuses those that it can't read.
+// Reads the fields of one table, and rejects the bad ones.
 class Reader {
   constructor(separator) {
     this.separator = separator;
@@ -28,31 +29,31 @@ class Reader {
 
   fields(row, line, count) {
     const fields = fieldsOf(row, this.separator, line);
-    if (fields.length > MOST_COLUMNS) throw new Refusal('TooManyColumns', line, String(fields.length));
+    if (fields.length > MOST_COLUMNS) throw new InputError('TooManyColumns', line, String(fields.length));
     const isOther = count && fields.length !== count;
-    if (isOther) throw new Refusal('OtherColumns', line, `${fields.length} instead of ${count}`);
+    if (isOther) throw new InputError('OtherColumns', line, `${fields.length} instead of ${count}`);
     return fields;
   }
 
   number(field, line) {
     const number = numberOf(field, this.commas);
-    if (!Number.isFinite(number)) throw new Refusal('NoNumber', line, `‘${field.slice(0, 40)}’`);
-    if (this.commas) this.hearPoint(field, line);
+    if (!Number.isFinite(number)) throw new InputError('NoNumber', line, `‘${field.slice(0, 40)}’`);
+    if (this.commas) this.checkMark(field, line);
     return number;
   }
 
-  // The number. A whole one that doubles round is refused.
+  // The number in a field. A whole number that a double would round is rejected.
   whole(field, line, kind) {
     const number = this.number(field, line);
-    if (isRounded(field, number)) throw new Refusal(kind, line, field.slice(0, 40));
+    if (isRounded(field, number)) throw new InputError(kind, line, field.slice(0, 40));
     return number;
   }
 
-  // Within a table all numbers have a point, or all have a comma.
-  hearPoint(field, line) {
+  // All numbers of a table must have the same decimal mark.
+  checkMark(field, line) {
     if (hasComma(field)) this.comma ||= field;
     else if (field.includes('.')) this.point ||= field;
-    if (this.comma && this.point) throw new Refusal('PointAndComma', line, `‘${field.slice(0, 40)}’`);
+    if (this.comma && this.point) throw new InputError('PointAndComma', line, `‘${field.slice(0, 40)}’`);
   }
 
   notes() {
@@ -61,7 +62,7 @@ class Reader {
   }
 }
 
-// Points with their names, as they are added.
+// A growing list of points with optional names.
 export class Points {
   constructor(kind, hasNames) {
     this.kind = kind;
@@ -70,15 +71,15 @@ export class Points {
   }
 
   add(across, up, name, line) {
-    if (this.kind === 'globe' && !(Math.abs(up) <= 90)) throw new Refusal('NoLatitude', line, String(up));
-    if (this.kind === 'globe' && !(Math.abs(across) <= 360)) throw new Refusal('NoLongitude', line, String(across));
-    if (this.places.length >= 2 * MOST_POINTS) throw new Refusal('TooManyPoints', line);
+    if (this.kind === 'globe' && !(Math.abs(up) <= 90)) throw new InputError('NoLatitude', line, String(up));
+    if (this.kind === 'globe' && !(Math.abs(across) <= 360)) throw new InputError('NoLongitude', line, String(across));
+    if (this.places.length >= 2 * MOST_POINTS) throw new InputError('TooManyPoints', line);
     this.places.push(across, up);
     this.names?.add(name);
   }
 
   all(notes) {
-    if (!this.places.length) throw new Refusal('NoPoint');
+    if (!this.places.length) throw new InputError('NoPoint');
     notes.push(...this.names?.notes() ?? []);
     return { kind: this.kind, points: new Float64Array(this.places), names: this.names?.packed() ?? null, notes };
   }
@@ -97,13 +98,13 @@ class PointTable extends Points {
   }
 }
 
-// Links between names, which are numbered as they come, and by their order in the end.
+// Edges between names. Names are numbered as they occur, and in the end by their order.
 class LinkTable {
   constructor(reader, { roles }) {
     this.reader = reader;
     this.roles = roles;
     this.ids = new Map();
-    this.ends = [];
+    this.endpoints = [];
     this.weights = [];
     this.loops = 0;
   }
@@ -111,8 +112,8 @@ class LinkTable {
   id(name, line) {
     const known = this.ids.get(name);
     if (known !== undefined) return known;
-    if (name === '') throw new Refusal('NoName', line);
-    if (this.ids.size >= MOST_POINTS) throw new Refusal('TooManyPoints', line);
+    if (name === '') throw new InputError('NoName', line);
+    if (this.ids.size >= MOST_POINTS) throw new InputError('TooManyPoints', line);
     this.ids.set(name, this.ids.size);
     return this.ids.size - 1;
   }
@@ -120,44 +121,44 @@ class LinkTable {
   take(fields, line) {
     const { from, to, weight } = this.roles, u = this.id(fields[from], line), v = this.id(fields[to], line);
     const number = weight >= 0 ? this.reader.whole(fields[weight], line, 'LongWeight') : 1;
-    if (this.weights.length >= MOST_LINKS) throw new Refusal('TooManyLinks', line);
+    if (this.weights.length >= MOST_LINKS) throw new InputError('TooManyLinks', line);
     if (u === v) this.loops++;
-    this.ends.push(u, v);
+    this.endpoints.push(u, v);
     this.weights.push(number);
   }
 
   all(notes) {
-    if (!this.weights.length) throw new Refusal('NoLink');
-    if (this.loops) notes.push(`${this.loops} of the links join a name with itself, and are left out.`);
-    if (this.roles.weight < 0) notes.push('No column is a weight: each link weighs 1.');
+    if (!this.weights.length) throw new InputError('NoLink');
+    if (this.loops) notes.push(`Edges from a name to itself are left out: ${this.loops}.`);
+    if (this.roles.weight < 0) notes.push('No column is a weight, so each edge has the weight 1.');
     const all = [...this.ids.keys()], order = rankOfNames(all), rank = new Uint32Array(all.length);
     const names = new Packer();
     order.forEach((id, place) => {
       rank[id] = place;
       names.add(all[id]);
     });
-    const ends = Uint32Array.from(this.ends, id => rank[id]), weights = new Float64Array(this.weights);
-    return { kind: 'links', ends, weights, names: names.packed(), notes: [...notes, ...names.notes()] };
+    const endpoints = Uint32Array.from(this.endpoints, id => rank[id]), weights = new Float64Array(this.weights);
+    return { kind: 'links', endpoints, weights, names: names.packed(), notes: [...notes, ...names.notes()] };
   }
 }
 
-// The first rows of a table, what separates its fields, and its line that names the columns if that is a comment.
+// The first rows of a table, its separator, and the comment above them, which may name the columns.
 async function sampleOf(source) {
   const rows = [];
   let separator = '', comment = /** @type {any} */ (null);
   await source.rows((row, line) => {
-    const told = !rows.length && !separator && SEPARATES.exec(row);
-    if (told) [, separator] = told;
+    const found = !rows.length && !separator && SEPARATOR_LINE.exec(row);
+    if (found) [, separator] = found;
     else if (!rows.length && COMMENT.test(row)) comment = { row: row.replace(COMMENT, ''), line };
     else rows.push({ row, line });
     return rows.length < SAMPLE;
   });
   if (!rows.length && comment) rows.push({ row: comment.row, line: comment.line });
-  if (!rows.length) throw new Refusal('NoPoint');
+  if (!rows.length) throw new InputError('NoPoint');
   return { rows, separator: separator || separatorOf(rows[0].row), comment };
 }
 
-// The table's fields, row by row. A comment before them whose fields are as many, and no numbers, names the columns.
+// The fields of a table, row by row. A comment above them names the columns if it has as many fields and no number.
 class Table {
   constructor({ rows, separator, comment }) {
     const [first] = rows;
@@ -181,7 +182,7 @@ class Table {
     return fieldsOf(row, this.separator, 0).length === this.count;
   }
 
-  // Whether a row is data. A comment between rows is none, unless it has as many fields as they have.
+  // Whether a row is data. A line that begins with # is data if it has as many fields as the other rows.
   isData(row, line, hasHeader) {
     if (line < this.first || (line === this.first && hasHeader && !this.named)) return false;
     if (line === this.first || !COMMENT.test(row)) return true;
@@ -191,7 +192,7 @@ class Table {
     return isRow;
   }
 
-  // Whether a row lacks what it is read for. Such rows are counted.
+  // Whether a row has no value in a column that is used. Such rows are counted.
   lacks(fields, line, { roles }) {
     const isName = role => role === 'from' || role === 'to';
     const isEmpty = (role, field) => isName(role) ? !field : isMissing(field);
@@ -202,32 +203,31 @@ class Table {
     return true;
   }
 
-  // What a reader of the rows skips: comments, one of which may name the columns.
+  // What a program that reads the table has to skip.
   skips() {
     if (this.named) return 'header';
     return this.hasComment || this.comments ? 'comments' : '';
   }
 
   notes(rows, cut) {
-    const told = this.reader.notes(), { left } = this;
-    if (left?.count === 1) told.push(`1 of ${rows} rows is left out: line ${left.line} lacks a value.`);
+    const notes = this.reader.notes(), { left } = this;
+    if (left?.count === 1) notes.push(`1 of ${rows} rows is left out: line ${left.line} has no value.`);
     else if (left) {
-      told.push(`${left.count} of ${rows} rows are left out: they lack a value. The first is in line ${left.line}.`);
+      notes.push(`${left.count} of ${rows} rows are left out: they have no value. The first is in line ${left.line}.`);
     }
-    if (this.comments) told.push(`Comments (#) between the rows are left out: ${this.comments}.`);
-    if (this.marked) told.push(`Rows that begin with # are read as the others: ${this.marked}.`);
-    if (cut) told.push(`Letters are read as Windows-1252: ‘${cut}’.`);
-    return told;
+    if (this.comments) notes.push(`Comments (#) between the rows are left out: ${this.comments}.`);
+    if (this.marked) notes.push(`Rows that begin with # are read like the others: ${this.marked}.`);
+    if (cut) notes.push(`The file is read as Windows-1252: ‘${cut}’.`);
+    return notes;
   }
 }
 
-// The points or links of a table; or { ask } where its columns have to be chosen, or rows that lack a value be left
-// out.
+// The points or edges of a table, or { ask } if somebody has to choose columns or leave out rows without a value.
 async function read(source, choice) {
   const table = new Table(await sampleOf(source)), { reader, sample, count, separator } = table;
   if (!choice) {
     const { choice: plain, guess } = chosenBy(sample, reader.commas);
-    if (!plain && count < 2) throw new Refusal('OneColumn', table.first, `‘${sample[0][0].slice(0, 40)}’`);
+    if (!plain && count < 2) throw new InputError('OneColumn', table.first, `‘${sample[0][0].slice(0, 40)}’`);
     if (!plain) return { ask: { rows: sample, guess } };
     choice = plain;
   }
@@ -241,8 +241,8 @@ async function read(source, choice) {
   });
   if (table.left && table.left.count === rows) throw lacking(table.left);
   if (table.left && !choice.leavesOut) return { ask: { missing: { ...table.left, rows }, choice } };
-  const head = choice.hasHeader ? headerTold(sample[0], choice) : [];
-  const degrees = degreesTold(sample.slice(choice.hasHeader ? 1 : 0), choice, reader.commas);
+  const head = choice.hasHeader ? headerNotes(sample[0], choice) : [];
+  const degrees = degreesNotes(sample.slice(choice.hasHeader ? 1 : 0), choice, reader.commas);
   const more = {
     separator, commas: Boolean(reader.comma), encoding: source.encoding, skips: table.skips(),
   };
@@ -250,18 +250,18 @@ async function read(source, choice) {
 }
 
 const lacking = ({ line, field, isName }) =>
-  isName ? new Refusal('NoName', line) : new Refusal('NoNumber', line, `‘${field}’`);
+  isName ? new InputError('NoName', line) : new InputError('NoNumber', line, `‘${field}’`);
 
 export async function readTable(source, choice) {
   try {
     return await read(source, choice);
   } catch (error) {
-    if (!(error instanceof Refusal) || error.kind !== 'NoUtf8' || !source.turnsToWindows()) throw error;
+    if (!(error instanceof InputError) || error.kind !== 'NoUtf8' || !source.turnsToWindows()) throw error;
     return read(source, choice);
   }
 }
 
-// The table again, each row with one more field, as a file. `cell` returns that of each row of data that was read.
+// The table with one more column, as a file. `cell` returns the new field of each row that was read.
 export async function widened(source, choice, title, cell) {
   source.encoding = choice.encoding;
   const table = new Table(await sampleOf(source)), { separator, reader, count } = table, parts = [];

@@ -1,16 +1,17 @@
-// Links among which the shortest net of points is: those that Borůvka's rounds take, by a k-d tree over the points.
+// Candidate edges that contain a minimum spanning tree of points: the edges that Borůvka's rounds choose, with a k-d
+// tree over the points.
 //
 // 1. Each point is a component.
-// 2. Each component finds the nearest point outside. A part of the tree that lies in one component is passed over.
-// 3. These links join components; while there are two, go on with 2.
+// 2. Each component finds the nearest point outside. A node of the tree that lies in one component is skipped.
+// 3. These edges join components. As long as there is more than one, go to 2.
 //
-// It looks at about n log n distances, if points don't lie as if to hinder it.
+// It computes about n log n distances, unless the points are arranged to prevent that.
 
-const LEAF = 8; // so few points are looked through one by one
+const LEAF = 8; // points of a leaf, which are searched one by one
 
-// The points of a space in an order, as places, where each node has those from `low` to `high`. Its first child
-// follows it, and `second` is the other one, or 0 for a leaf. Its `box` has the least and the greatest of each
-// coordinate.
+// A k-d tree. It orders the points; an index in this order is a place. A node has the places from `low` to `high`. Its
+// first child follows it, and `second` is the other child, or 0 for a leaf. Its `box` has the least and the greatest
+// value of each coordinate.
 class Tree {
   constructor(space) {
     const n = space.coordinates.length / space.width, nodes = Math.max(1, Math.ceil(4 * n / LEAF));
@@ -28,13 +29,13 @@ class Tree {
     this.space = space.inOrder(this.ids);
   }
 
-  // A box is parted across its longest side, so that equal coordinates part nothing.
+  // A box is split across its longest side, so that equal coordinates don't lead to empty splits.
   build(low, high) {
     const node = this.count++, longest = this.measure(node, low, high);
     [this.low[node], this.high[node]] = [low, high];
     if (high - low <= LEAF) this.leaf.fill(node, low, high);
     else {
-      const middle = this.partAtMiddle(longest, low, high), first = this.build(low, middle);
+      const middle = this.splitAtMiddle(longest, low, high), first = this.build(low, middle);
       const second = this.build(middle, high);
       this.second[node] = second;
       this.parent[first] = this.parent[second] = node;
@@ -42,7 +43,7 @@ class Tree {
     return node;
   }
 
-  // Puts a box around these places, and answers which of its sides is the longest.
+  // Computes the box around these places, and returns the axis of its longest side.
   measure(node, low, high) {
     const { coordinates, width, box } = this;
     let longest = 0, most = -1;
@@ -60,8 +61,8 @@ class Tree {
     return longest;
   }
 
-  // Moves these places until the one in the middle parts them along an axis.
-  partAtMiddle(axis, low, high) {
+  // Reorders these places so that the one in the middle splits them along an axis (quickselect).
+  splitAtMiddle(axis, low, high) {
     const { coordinates, width } = this, middle = (low + high) >> 1;
     for (let from = low, to = high - 1; from < to;) {
       const pivot = coordinates[((from + to) >> 1) * width + axis];
@@ -112,8 +113,7 @@ class Tree {
     return sum;
   }
 
-  // Whether all that is nearer to a place than this square lies between the sides of a node's box, and so in the
-  // node.
+  // Whether every place that is nearer than this square lies inside the node's box, and so in the node.
   holds(node, place, square) {
     const { coordinates, box, width } = this;
     for (let i = 0, at = 2 * node * width, from = place * width; i < width; i++, at += 2) {
@@ -130,7 +130,7 @@ class Tree {
   }
 }
 
-// The components of places, and of each the shortest link that leaves it, of those that this round has found.
+// The components, and the shortest edge found in this round that leaves each of them.
 class Rounds {
   constructor(tree) {
     const n = tree.ids.length;
@@ -142,10 +142,10 @@ class Rounds {
     this.from = new Int32Array(n);
     this.to = new Int32Array(n);
     this.best = new Float64Array(n);
-    // of each place the nearest outside that it found last, or -1; what lies outside now is as far as that at least
+    // for each place, the nearest one that it found outside its component, or -1; whatever is outside now isn't nearer
     this.seen = new Int32Array(n).fill(-1);
     this.far = new Float64Array(n);
-    // the search that goes on: for a place, what it has found, its square, and that of the gaps that are worth a look
+    // the current search: its place and component, the place found, its square, and the squares of gaps to visit
     this.place = 0;
     this.own = 0;
     this.hit = -1;
@@ -159,7 +159,7 @@ class Rounds {
     return place;
   }
 
-  // Tells of each node in which component it lies whole, or -1.
+  // Computes for each node the component that contains all of it, or -1.
   mark() {
     const { inside, tree: { second, count } } = this;
     for (let node = count - 1; node >= 0; node--) {
@@ -168,19 +168,19 @@ class Rounds {
     }
   }
 
-  // The component in which all of a leaf's places lie, or -1.
+  // The component that contains a whole leaf, or -1.
   componentOf(leaf) {
     const { component, tree: { low, high } } = this, first = component[low[leaf]];
     for (let at = low[leaf]; at < high[leaf]; at++) if (component[at] !== first) return -1;
     return first;
   }
 
-  // Whether what a place found last still lies outside of its component: then nothing outside is nearer.
+  // Whether the place found last is still outside the component. If so, nothing outside is nearer.
   isOut(place) {
     return this.seen[place] >= 0 && this.component[this.seen[place]] !== this.component[place];
   }
 
-  // Both components of a link may take it.
+  // Offers an edge to the components of both endpoints.
   keep(place, other, square) {
     this.offer(place, other, square);
     this.offer(other, place, square);
@@ -194,7 +194,7 @@ class Rounds {
     this.to[own] = other;
   }
 
-  // Finds for the places of a node. `top` is the highest node around it that lies in one component, or the node
+  // Searches for all places of a node. `top` is the highest node around it that lies in one component, or the node
   // itself.
   visit(node, top) {
     const { tree, inside, best } = this, own = inside[node], second = tree.second[node];
@@ -205,7 +205,7 @@ class Rounds {
     } else for (let place = tree.low[node]; place < tree.high[node]; place++) this.find(place, top);
   }
 
-  // Whether a place outside of a node's component may be nearer to the node than the component's best.
+  // Whether a place outside a node's component may be nearer to the node than the component's best edge is long.
   reaches(node, top) {
     const { tree, inside } = this, within = tree.space.within(this.best[inside[node]]);
     for (let above = top; above > 0; above = tree.parent[above]) {
@@ -229,8 +229,8 @@ class Rounds {
     return false;
   }
 
-  // The nearest place outside the component of a place, if it is nearer than the component's best. `top` is a node
-  // around the place: a leaf, or one that lies in the component.
+  // Finds the nearest place outside the component of a place, if that is nearer than the component's best. `top` is a
+  // node around the place: a leaf, or a node inside the component.
   find(place, top) {
     const { tree, far, seen } = this, own = this.component[place], best = this.best[own];
     if (far[place] >= best || this.isOut(place)) return;
@@ -249,7 +249,7 @@ class Rounds {
     if (this.hit >= 0) this.keep(place, this.hit, this.least);
   }
 
-  // How far it is to a node that may have what is looked for.
+  // The square of the gap to a node, or Infinity if the node lies inside the component.
   gap(node) {
     return this.inside[node] === this.own ? Infinity : this.tree.gap(node, this.place);
   }
@@ -277,7 +277,7 @@ class Rounds {
     }
   }
 
-  // One round: the links that it takes go to `links` as two ids each.
+  // One round. Adds the chosen edges to `links`: two ids and the square of the distance each.
   run(links) {
     const { component, best, seen, far } = this, n = component.length;
     for (let place = 0; place < n; place++) component[place] = this.root(place);
@@ -297,13 +297,13 @@ class Rounds {
   }
 }
 
-// The candidates of a space's points: two ids and the square of their distance, one after the other. `tell` hears
-// which part of the work is done.
-export function candidates(space, tell = _part => {}) {
+// The candidates: two ids and the square of their distance, one edge after the other. `report` is called with the part
+// of the work that is done.
+export function candidates(space, report = _part => {}) {
   const tree = new Tree(space), rounds = new Rounds(tree), links = [];
   while (rounds.left > 1) {
     rounds.run(links);
-    tell(1 - Math.log(rounds.left) / Math.log(tree.ids.length));
+    report(1 - Math.log(rounds.left) / Math.log(tree.ids.length));
   }
   return links;
 }

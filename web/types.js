@@ -1,4 +1,4 @@
-// What goes from the worker to the page, and what the page keeps: the types that several scripts name.
+// Types that several scripts use.
 
 /**
  * @typedef {object} Merges - see merges.js
@@ -12,24 +12,24 @@
  *
  * @typedef {object} Rounds - see rounds.js
  * @property {Uint8Array} round
- * @property {Uint8Array} ends
+ * @property {Uint8Array} endpoints
  * @property {Uint32Array[]} labels
  * @property {number[]} counts
  * @property {Uint8Array} born
  *
- * @typedef {object} Choice - see columns.js; then how the table was read
+ * @typedef {object} Choice - see columns.js; the optional fields are set when the table is read
  * @property {string} kind
  * @property {Record<string, number>} roles
  * @property {boolean} hasHeader
- * @property {boolean} [leavesOut] - rows that lack a value
+ * @property {boolean} [leavesOut] - whether rows without a value are left out
  * @property {string} [separator]
- * @property {boolean} [commas] - one is the decimal point
+ * @property {boolean} [commas] - whether a comma is the decimal mark
  * @property {string} [encoding]
- * @property {string} [skips] - `comments`, or `header` where one of them names the columns
+ * @property {string} [skips] - `comments`, or `header` if a comment names the columns
  *
  * @typedef {{ bytes: Uint8Array, ends: Uint32Array }} Names - see names.js
  *
- * @typedef {object} Shown - what the worker returns of a file or of points; see worker.js
+ * @typedef {object} Shown - a result of the worker; see worker.js
  * @property {string} kind
  * @property {number} n
  * @property {Names | null} names
@@ -59,9 +59,9 @@
  *
  * @typedef {{ x: number, y: number, zoom: number }} View
  *
- * @typedef {{ name: string, content: Uint8Array }} Bytes - a file where a worker may read none
+ * @typedef {{ name: string, content: Uint8Array }} Bytes - a file, if a worker may not read files
  *
- * @typedef {object} Snapshot - what undo brings back
+ * @typedef {object} Snapshot - what undo restores
  * @property {Shown | null} shown
  * @property {File | Bytes | null} file
  * @property {File | Bytes | null} placesFile
@@ -91,10 +91,11 @@
  * @property {{ left: number, top: number, width: number, height: number }} free
  * @property {number} turn
  * @property {number} draws
- * @property {Promise<unknown>} penning
- * @property {Record<string, unknown>} told
+ * @property {Promise<unknown>} adding
+ * @property {Record<string, unknown>} drawn
  * @property {{ isAwaited: boolean, free: number }} tree
  * @property {boolean} isPrinted
+ * @property {boolean} canFilm
  */
 
 export {};

@@ -1,7 +1,7 @@
-// A WebM file (a kind of Matroska) of one video track: frames of VP8 with their times, in clusters that begin with
-// key frames.
+// Writes a WebM file (a kind of Matroska) with one video track: frames of VP8 and their times, in clusters that begin
+// with key frames.
 
-const SECOND = 1000; // ticks of the file, each a millisecond
+const SECOND = 1000; // the unit of times in the file is a millisecond
 const UNKNOWN = Uint8Array.of(0x01, 0xff, 0xff, 0xff, 0xff, 0xff, 0xff, 0xff);
 
 function joined(parts) {
@@ -14,7 +14,7 @@ function joined(parts) {
   return all;
 }
 
-// A whole number in as few bytes as hold it, the greatest first.
+// A whole number in as few bytes as possible, the highest byte first.
 function bytesOf(number) {
   const bytes = [];
   for (let left = number; left > 0 || !bytes.length; left = Math.floor(left / 256)) bytes.unshift(left % 256);
@@ -28,7 +28,7 @@ const float = number => {
 };
 const text = letters => new TextEncoder().encode(letters);
 
-// The length of an element in eight bytes, which every reader takes.
+// The length of an element, in eight bytes.
 function lengthOf(content) {
   const bytes = new DataView(new ArrayBuffer(8));
   bytes.setUint32(0, 0x01000000 + Math.floor(content.length / 2 ** 32));
@@ -36,7 +36,7 @@ function lengthOf(content) {
   return new Uint8Array(bytes.buffer);
 }
 
-// An element: what it is, how long, and what it has.
+// An element: its identity, its length and its content.
 const element = (id, ...parts) => {
   const content = joined(parts);
   return joined([bytesOf(id), lengthOf(content), content]);
@@ -55,7 +55,7 @@ const trackOf = (width, height) => element(0x1654ae6b, element(0xae,
   element(0xd7, bytesOf(1)), element(0x73c5, bytesOf(1)), element(0x83, bytesOf(1)), element(0x86, text('V_VP8')),
   element(0xe0, element(0xb0, bytesOf(width)), element(0xba, bytesOf(height)))));
 
-// A frame in a cluster that began at this time.
+// A frame of a cluster that begins at this time.
 function blockOf({ bytes, time, isKey }, begun) {
   const head = new DataView(new ArrayBuffer(4));
   head.setUint8(0, 0x81);

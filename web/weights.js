@@ -1,13 +1,13 @@
-// Weights that are doubles, as whole numbers of 64 bits in the same order: the module's links have those.
+// Converts doubles to whole numbers of 64 bits in the same order, because the module needs whole weights.
 //
-// These are the bits of the double; if its sign is set, the others are turned over. -0 counts as 0.
+// The number has the bits of the double. If the sign is set, all other bits are inverted. -0 counts as 0.
 
 const MOST = 2n ** 63n - 1n;
 
-// The weights of links as whole numbers, at the even places.
+// The weights of links as whole numbers, at the even indices.
 export const bitsOf = links => new BigInt64Array(links.buffer, links.byteOffset, links.length / 2);
 
-// Puts the links' weights, doubles, as whole numbers into the words of links.
+// Writes doubles into the weights of links.
 export function putWeights(links, weights) {
   const doubles = new Float64Array(links.buffer, links.byteOffset, links.length / 2), bits = bitsOf(links);
   for (let i = 0; i < weights.length; i++) {
@@ -16,7 +16,7 @@ export function putWeights(links, weights) {
   }
 }
 
-// The weights of links as doubles: of `exact` ones, whole numbers that they are; of others those that were put.
+// The weights of links as doubles: whole numbers if they are exact, or else the doubles that were written.
 export function weightsOf(links, isExact) {
   const bits = bitsOf(links), weights = new Float64Array(links.length / 4), word = new BigInt64Array(weights.buffer);
   for (let i = 0; i < weights.length; i++) {
@@ -26,7 +26,8 @@ export function weightsOf(links, isExact) {
   return weights;
 }
 
-// The sum of doubles, rounded once: partial sums that don't overlap keep what each addition loses (Shewchuk 1997).
+// The sum of doubles, rounded only once: partial sums that don't overlap keep what each addition rounds off
+// (Shewchuk 1997).
 function sumOf(values) {
   const parts = [];
   for (const value of values) {
@@ -41,10 +42,10 @@ function sumOf(values) {
     parts.push(sum);
   }
   const sum = parts.reduceRight((all, part) => all + part, 0);
-  return Number.isNaN(sum) ? values.reduce((all, value) => all + value, 0) : sum; // past what doubles hold
+  return Number.isNaN(sum) ? values.reduce((all, value) => all + value, 0) : sum; // it overflows
 }
 
-// The sum of a forest's weights; of whole numbers it is exact, a BigInt.
+// The sum of a forest's weights. For whole numbers it is an exact BigInt.
 export function totalOf(links, isExact) {
   if (!isExact) return sumOf(weightsOf(links, false));
   const bits = bitsOf(links);

@@ -1,25 +1,25 @@
-// The page's worker: it reads files, joins points, finds forests, and makes the longer files. The page asks by
-// messages.
+// The page's worker: it reads files, computes forests, and writes the longer files. The page sends it messages.
 //
-// The first message is { module }, compiled, or null where the browser can't run it. Each later one is a task,
-// answered by { progress } any number of times, then by { answer }, or by { refusal }. A worker keeps nothing
-// between tasks.
+// The first message is { module }, compiled, or null if the browser can't run it. Each later message is a task. For a
+// task, the worker posts { progress } any number of times, and then { result } or { error }. Nothing is kept between
+// tasks.
 //
-// What a forest is shown by, in an answer:
-// - `kind`: `plane`, `globe`, `links` (between names) or `graph` (from a .gr); `n` vertices, `names` or null
-// - `points`: x and y of each as they came; `places`: where they are drawn, y upwards; both empty for too large a graph
-// - `turn`: how wide all degrees east are in a map of the globe, or 0; `cut`: where that map is cut open, in degrees
-// - `forest`: links as boruvka.js has them; `heights`: their weights; `total`: the sum
-// - `isExact`: the weights were whole numbers
-// - `others`: both ends, from 0 on, of a small graph's links that aren't in the forest, or null
-// - `links`: how many were looked at; `merges`: see merges.js
+// A result with a forest has these fields:
+// - `kind`: `plane`, `globe`, `links` (edges between names) or `graph` (from a .gr); `n` vertices; `names` or null
+// - `points`: the coordinates that were given; `places`: those of the picture, with y upwards. Both are empty for too
+//   large a graph
+// - `turn`: the width of 360 degrees on a map of the globe, or 0; `cut`: the degree at which the map is cut open
+// - `forest`: its links, see boruvka.js; `heights`: their weights; `total`: the sum of their weights
+// - `isExact`: whether the weights were whole numbers
+// - `others`: the endpoints, from 0, of a small graph's edges that aren't in the forest, or null
+// - `links`: the number of candidate edges; `merges`: see merges.js
 // - `rounds`: see rounds.js, or null for more than MOST_PLAYED vertices
-// - `isProved`: the module chose the links, in `milliseconds`, and merged clusters
-// - `notes`: what is to be said of the file
+// - `isProved`: whether the module chose the edges, in `milliseconds`, and merged the clusters
+// - `notes`: sentences about the file
 //
 // A worker that draws pictures gets { task: 'see', shown } first, and then { task: 'draw', job }; see pixels.js.
 
-import { Refusal, forestOfLinks, forestOfText, mergesOfLinks } from './boruvka.js';
+import { InputError, forestOfLinks, forestOfText, mergesOfLinks } from './boruvka.js';
 import { propertiesOf, readGeoJson } from './geojson.js';
 import { readGeoXml } from './geoxml.js';
 import { linksOfForest, linksOfGraph, pointsOfPlaces } from './graphs.js';
@@ -35,25 +35,25 @@ import { MOST_POINTS, readTable, widened } from './tables.js';
 import { candidates } from './tree.js';
 import { putWeights, totalOf, weightsOf } from './weights.js';
 
-const LEAST_SQUARE = 2 ** -1000; // of a distance, where the longest side of the box around all points is 1 to 2
-const MOST_CUT = 2 ** 22; // vertices of a graph that is cut into clusters
+const LEAST_SQUARE = 2 ** -1000; // of a distance; the longest side of the box around all points is 1 to 2
+const MOST_CUT = 2 ** 22; // vertices of a graph that is clustered
 const MOST_PLAYED = 1_000_000;
-const MOST_OTHERS = 4000; // links of a graph; of one with more only the forest is drawn
+const MOST_OTHERS = 4000; // edges of a graph; with more of them, only the forest is drawn
 
 let module;
-const told = part => postMessage({ progress: part });
+const report = part => postMessage({ progress: part });
 const isApart = (points, u, v) => points[2 * u] !== points[2 * v] || points[2 * u + 1] !== points[2 * v + 1];
 
-// The links among which the shortest net of points is, by their lengths.
+// Candidate edges that contain a minimum spanning tree of points, with their lengths as weights.
 function linksOfPoints(kind, points) {
   const space = (kind === 'globe' ? Globe : Plane).of(points);
-  if (!space) throw new Refusal('TooFarApart');
+  if (!space) throw new InputError('TooFarApart');
   const single = kind === 'globe' ? namedOnce(points) : points;
-  const found = candidates(space, told), links = new Uint32Array(4 * found.length / 3);
+  const found = candidates(space, report), links = new Uint32Array(4 * found.length / 3);
   const lengths = new Float64Array(found.length / 3);
   for (let i = 0; i < lengths.length; i++) {
     const u = found[3 * i], v = found[3 * i + 1];
-    if (found[3 * i + 2] < LEAST_SQUARE && isApart(single, u, v)) throw new Refusal('TooNear');
+    if (found[3 * i + 2] < LEAST_SQUARE && isApart(single, u, v)) throw new InputError('TooNear');
     lengths[i] = space.length(found[3 * i + 2]);
     links[4 * i + 2] = Math.min(u, v) + 1;
     links[4 * i + 3] = Math.max(u, v) + 1;
@@ -62,11 +62,11 @@ function linksOfPoints(kind, points) {
   return links;
 }
 
-function linksOfEnds(ends, weights) {
+function linksOfEndpoints(endpoints, weights) {
   const links = new Uint32Array(4 * weights.length);
   for (let i = 0; i < weights.length; i++) {
-    links[4 * i + 2] = Math.min(ends[2 * i], ends[2 * i + 1]) + 1;
-    links[4 * i + 3] = Math.max(ends[2 * i], ends[2 * i + 1]) + 1;
+    links[4 * i + 2] = Math.min(endpoints[2 * i], endpoints[2 * i + 1]) + 1;
+    links[4 * i + 3] = Math.max(endpoints[2 * i], endpoints[2 * i + 1]) + 1;
   }
   putWeights(links, weights);
   return links;
@@ -74,20 +74,20 @@ function linksOfEnds(ends, weights) {
 
 const treeOf = (n, forest) => mergesOf(n, module ? mergesOfLinks(module, n, forest) : mergesByKruskal(n, forest));
 
-// The links that aren't in the forest, both ends of each from 0 on; null if they are too many.
+// The edges that aren't in the forest, as pairs of endpoints from 0, or null if there are too many.
 function othersOf(forest, links) {
   if (links.length > 4 * MOST_OTHERS) return null;
   const key = (all, i) => `${all[i + 2]} ${all[i + 3]}`, taken = new Set();
   for (let i = 0; i < forest.length; i += 4) taken.add(key(forest, i));
-  const ends = new Map();
+  const endpoints = new Map();
   for (let i = 0; i < links.length; i += 4) {
     const isLoop = links[i + 2] === links[i + 3];
-    if (!isLoop && !taken.has(key(links, i))) ends.set(key(links, i), [links[i + 2] - 1, links[i + 3] - 1]);
+    if (!isLoop && !taken.has(key(links, i))) endpoints.set(key(links, i), [links[i + 2] - 1, links[i + 3] - 1]);
   }
-  return Uint32Array.from([...ends.values()].flat());
+  return Uint32Array.from([...endpoints.values()].flat());
 }
 
-// What is shown by a forest, with `more` of where it came from.
+// The result for a forest. `more` has the fields that depend on its source.
 function shown(n, forest, begun, more) {
   const milliseconds = performance.now() - begun, { isExact = false, kind, points } = more;
   const merges = n <= MOST_CUT ? treeOf(n, forest) : null, isDrawn = n <= MOST_POINTS;
@@ -102,14 +102,14 @@ function shown(n, forest, begun, more) {
 }
 
 function solved(n, links, more) {
-  told(null);
+  report(null);
   const begun = performance.now(), forest = module ? forestOfLinks(module, n, links) : forestByKruskal(n, links);
   const others = more.kind === 'links' ? othersOf(forest, links) : null;
   return shown(n, forest, begun, { links: links.length / 4, others, ...more });
 }
 
 function solvedGraph(text) {
-  told(null);
+  report(null);
   const begun = performance.now(), more = { kind: 'graph', isExact: true };
   if (!module) {
     const { n, links } = linksOfGraph(text), forest = forestByKruskal(n, links);
@@ -131,15 +131,16 @@ async function opened(file, choice) {
   if (kind === 'co') return { kind: 'places', points: pointsOfPlaces(await source.whole()) };
   const read = await readers[kind](source, choice);
   if (read.ask) return read;
-  const { ends, weights, ...more } = read;
-  return ends ? solved(more.names.ends.length - 1, linksOfEnds(ends, weights), more) : solvedPoints(more);
+  const { endpoints, weights, ...more } = read;
+  if (!endpoints) return solvedPoints(more);
+  return solved(more.names.ends.length - 1, linksOfEndpoints(endpoints, weights), more);
 }
 
 // The properties of a GeoJSON's points, or null.
 const properties = async ({ format }, file) =>
   format === 'geojson' && file ? propertiesOf(await Source.of(file)) : null;
 
-// Texts of what is shown, by the names that the page asks for.
+// The files that the page can ask for.
 const texts = {
   'forest.gr': ({ n, forest }) => grOf(n, forest),
   'links.gr': ({ n, kind, points }) => grOf(n, linksOfPoints(kind, points)),
@@ -155,7 +156,7 @@ const texts = {
   'clusters.geojson': async (of, { file, numbers }) => clustersGeoJson(of, numbers, await properties(of, file)),
 };
 
-let seen; // what pictures are drawn of
+let seen; // the result that pictures show
 
 const tasks = {
   points: given => solvedPoints({ kind: 'plane', ...given }),
@@ -164,14 +165,14 @@ const tasks = {
   draw: ({ job }) => ({ words: drawn(seen, job) }),
 };
 
-// The memory of all arrays in an answer, which goes to the page with it.
-function memoryOf(answer) {
-  const values = Object.values(answer).filter(value => value instanceof Object && !(value instanceof Blob));
+// The buffers of all arrays in a result. They are moved to the page instead of copied.
+function memoryOf(result) {
+  const values = Object.values(result).filter(value => value instanceof Object && !(value instanceof Blob));
   return [...new Set(values.flatMap(value => ArrayBuffer.isView(value) ? value.buffer : memoryOf(value)))];
 }
 
-function refused(error) {
-  if (error instanceof Refusal) return { kind: error.kind, line: error.line, what: error.what };
+function errorOf(error) {
+  if (error instanceof InputError) return { kind: error.kind, line: error.line, what: error.what };
   if (error instanceof DOMException) return { kind: 'Unreadable', line: 0, what: '' };
   return error instanceof RangeError ? { kind: 'no memory', line: 0, what: '' } : null;
 }
@@ -186,9 +187,9 @@ onmessage = async ({ data }) => {
     return;
   }
   try {
-    const answer = await tasks[data.task](data);
-    postMessage({ answer }, memoryOf(answer));
+    const result = await tasks[data.task](data);
+    postMessage({ result }, memoryOf(result));
   } catch (error) {
-    postMessage({ refusal: refused(error) ?? { kind: 'Broken', line: 0, what: String(error) } });
+    postMessage({ error: errorOf(error) ?? { kind: 'Broken', line: 0, what: String(error) } });
   }
 };

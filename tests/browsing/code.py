@@ -1,4 +1,4 @@
-"""The page's scripts: types, a linter, lines, names, and that colours are written once."""
+"""The code of the page: types, a linter, lengths of lines and files, unused exports, colours and state."""
 import os
 import re
 import shutil
@@ -9,7 +9,7 @@ from cases.running import Skipped, case
 
 MOST_IN_LINE = 120
 MOST_IN_FILE = 400
-# where Debian has the modules of its programs, which a node of another make doesn't look for
+# Debian's modules, which another build of Node doesn't look for
 MODULES = "/usr/share/nodejs:/usr/lib/nodejs"
 
 
@@ -23,7 +23,7 @@ def text_of(name):
 
 
 def checker():
-    """TypeScript's checker, in a version that knows what browsers had when the page was written."""
+    """TypeScript's checker, in the version that the page was written for."""
     program = shutil.which("tsc")
     if not program:
         raise Skipped("there is no tsc")
@@ -40,24 +40,24 @@ def ran(words, folder):
 
 @case
 def the_scripts_keep_their_types_and_pass_the_linter(room):
-    """As JSDoc and web/types.js have them. ESLint reads what the checker makes of them for older browsers. Both find what is
-    wrong."""
+    """The types are in JSDoc and web/types.js. ESLint reads the checker's output for older browsers. Both tools are first shown
+    to find a mistake."""
     tsc, program = checker(), shutil.which("eslint")
-    told, _ = ran([tsc, "-p", f"{WEB}/tsconfig.json", "--noEmit", "false", "--target", "es2019", "--outDir", f"{room}/es"], room)
-    # (which had no numbers like 1n: they stay as they are)
-    is_so([it for it in told.splitlines() if "error TS2737" not in it], [])
+    output, _ = ran([tsc, "-p", f"{WEB}/tsconfig.json", "--noEmit", "false", "--target", "es2019", "--outDir", f"{room}/es"], room)
+    # (those had no numbers like 1n, which the checker leaves unchanged)
+    is_so([it for it in output.splitlines() if "error TS2737" not in it], [])
     shutil.copytree(WEB, f"{room}/web")
     with open(f"{room}/web/wrong.js", "w", encoding="utf-8") as it:
         it.write("import { state } from './state.js';\nstate.zoom = 3;\n")
-    told, _ = ran([tsc, "--noEmit", "--allowJs", "--checkJs", "--target", "es2022", "--moduleResolution", "node", "--lib", "es2022,dom,dom.iterable", it.name], room)
-    is_so("'zoom' does not exist on type 'State'" in told, True)
+    output, _ = ran([tsc, "--noEmit", "--allowJs", "--checkJs", "--target", "es2022", "--moduleResolution", "node", "--lib", "es2022,dom,dom.iterable", it.name], room)
+    is_so("'zoom' does not exist on type 'State'" in output, True)
     if not program:
         raise Skipped("there is no eslint; the types are right")
     with open(f"{room}/es/wrong.js", "w", encoding="utf-8") as it:
         it.write("export const double = it => it * lost;\n")
     lint = [program, "--format", "unix", "--no-eslintrc", "--config", f"{WEB}/eslintrc.json"]
-    told, _ = ran([*lint, "wrong.js"], f"{room}/es")
-    is_so(("id-blacklist" in told, "no-undef" in told), (True, True))
+    output, _ = ran([*lint, "wrong.js"], f"{room}/es")
+    is_so(("id-blacklist" in output, "no-undef" in output), (True, True))
     os.unlink(f"{room}/es/wrong.js")
     is_so(ran([*lint, *sorted(os.listdir(f"{room}/es"))], f"{room}/es"), ("", 0))
 
@@ -72,7 +72,7 @@ def lines_and_files_are_short(_room):
 
 @case
 def each_script_is_used(_room):
-    """Whatever is exported is imported by another script, or by a test."""
+    """Every export is used by another script or by a test."""
     here = os.path.dirname(os.path.realpath(__file__))
     tests = "".join(open(f"{here}/{it}", encoding="utf-8").read() for it in os.listdir(here) if it.endswith((".py", ".js")))
     unused = []
@@ -86,7 +86,7 @@ def each_script_is_used(_room):
 
 @case
 def colours_are_written_once(_room):
-    """In page.css, each once; scripts read them there, and compute the others."""
+    """Each colour is written once, in page.css. The scripts read it there, or compute it."""
     found = {name: re.findall(r"#[0-9a-f]{6}\b", text_of(name)) for name in [*scripts(), "index.html"]}
     is_so({name: it for name, it in found.items() if it}, {})
     colours = re.findall(r"(--[\w-]+): #[0-9a-f]{6}\b", text_of("page.css"))
@@ -95,6 +95,6 @@ def colours_are_written_once(_room):
 
 @case
 def state_is_in_one_place(_room):
-    """No script but state.js keeps what changes: a variable of a module is a constant. (solver.js counts what is underway.)"""
+    """Only state.js has changing state; the other modules have only constants. Three variables are exceptions."""
     found = [(name, line) for name in scripts() for line in text_of(name).splitlines() if re.match(r"(export )?(let|var) ", line)]
     is_so(found, [("solver.js", "let underway = 1;"), ("worker.js", "let module;"), ("worker.js", "let seen; // what pictures are drawn of")])

@@ -1,4 +1,4 @@
-"""Chromium without a screen, driven by the WebDriver protocol."""
+"""Chromium without a screen, controlled by the WebDriver protocol."""
 import base64
 import json
 import os
@@ -12,7 +12,7 @@ import urllib.request
 from cases.running import Skipped
 
 SECONDS = 60
-# (a user who is root has no sandbox)
+# (Chromium has no sandbox for root)
 ARGUMENTS = ["--headless=new", "--disable-gpu", "--disable-dev-shm-usage", "--window-size=1400,900", "--no-first-run"]
 ELEMENT = "element-6066-11e4-a52e-4f735466cecf"
 
@@ -25,7 +25,7 @@ def found(*names):
 
 
 class Browser:
-    """One window. What it downloads goes to a folder."""
+    """One window, with a folder for downloads."""
 
     def __init__(self, downloads):
         program, driver = found("chromium", "chromium-browser", "google-chrome"), found("chromedriver")
@@ -53,7 +53,7 @@ class Browser:
             self.driver.stdout.close()
 
     def call(self, method, path, body=None):
-        """The value of an answer of the driver."""
+        """Sends a command to the driver, and returns its value."""
         within = f"/session/{self.session}" if self.session else ""
         data = json.dumps(body or {}).encode() if method == "POST" else None
         request = urllib.request.Request(self.address + within + path, data, {"Content-Type": "application/json"}, method=method)
@@ -70,15 +70,15 @@ class Browser:
         self.call("POST", "/url", {"url": address})
 
     def run(self, script, *arguments):
-        """What a function's body returns in the page, its promise awaited."""
+        """Runs the body of a function in the page, and returns its value or that of its promise."""
         return self.call("POST", "/execute/sync", {"script": script, "args": list(arguments)})
 
     def wait(self, script, *arguments, seconds=SECONDS):
-        """Waits until this is so in the page."""
+        """Waits until this expression is true in the page."""
         end = time.monotonic() + seconds
         while not self.run(f"return {script}", *arguments):
             if time.monotonic() > end:
-                raise AssertionError(f"it isn't so after {seconds} s: {script}")
+                raise AssertionError(f"after {seconds} s this is still false: {script}")
             time.sleep(0.02)
 
     def element(self, name):
@@ -88,11 +88,11 @@ class Browser:
         self.call("POST", f"/element/{self.element(name)}/click")
 
     def write(self, name, text):
-        """Types into an element, or gives an input of files their paths."""
+        """Types into an element, or passes paths to an input of files."""
         self.call("POST", f"/element/{self.element(name)}/value", {"text": text})
 
     def press(self, *keys):
-        """Presses and releases keys where the focus is; a tuple is pressed together."""
+        """Presses and releases keys. The keys of a tuple are pressed together."""
         actions = []
         for key in keys:
             chord = key if isinstance(key, tuple) else (key,)
@@ -100,7 +100,7 @@ class Browser:
         self.call("POST", "/actions", {"actions": [{"type": "key", "id": "keys", "actions": actions}]})
 
     def click_at(self, name, x, y):
-        """Clicks in an element, at pixels from its left upper corner."""
+        """Clicks at this offset from the upper left corner of an element, in pixels."""
         left, top = self.run("const it = document.getElementById(arguments[0]).getBoundingClientRect(); return [it.left, it.top]", name)
         move = {"type": "pointerMove", "x": round(left + x), "y": round(top + y), "duration": 0}
         actions = [move, {"type": "pointerDown", "button": 0}, {"type": "pointerUp", "button": 0}]
@@ -111,11 +111,11 @@ class Browser:
             it.write(base64.b64decode(self.call("GET", "/screenshot")))
 
     def complaints(self):
-        """What the page has told of errors since the last call."""
+        """The errors that the page has logged since the last call."""
         return [it["message"] for it in self.call("POST", "/se/log", {"type": "browser"}) if it["level"] == "SEVERE"]
 
     def downloaded(self, name, seconds=SECONDS):
-        """The bytes of a file that the page saved; it is taken away."""
+        """The bytes of a file that the page saved. The file is removed."""
         path, end = f"{self.downloads}/{name}", time.monotonic() + seconds
         while not os.path.exists(path) or os.path.exists(f"{path}.crdownload"):
             if time.monotonic() > end:

@@ -1,4 +1,4 @@
-"""The packed page from a file in Chromium, Firefox and WebKit: it opens what people have, and saves what they send on."""
+"""The packed page, opened from a file in Chromium, Firefox and WebKit: it opens files, and saves pages to share."""
 import base64
 import gzip
 import json
@@ -23,7 +23,7 @@ PREFERENCES = {
 
 
 class Firefox:
-    """One window of Firefox without a screen, by its Marionette protocol: each message is a length, a colon, and JSON."""
+    """One window of Firefox without a screen, controlled by the Marionette protocol. A message is a length, a colon, and JSON."""
 
     def __init__(self, folder):
         program = found("firefox-esr", "firefox")
@@ -94,7 +94,7 @@ class Firefox:
 
 
 class WebKit(Browser):
-    """One window of WebKit's MiniBrowser, on a screen that nobody sees."""
+    """One window of WebKit's MiniBrowser, on a virtual screen."""
 
     def __init__(self, folder):  # pylint: disable=super-init-not-called
         driver, screen = found("WebKitWebDriver"), found("Xvfb")
@@ -134,7 +134,7 @@ class WebKit(Browser):
                 time.sleep(0.2)
 
     def run(self, script, *arguments):
-        """(its driver awaits no promise by itself)"""
+        """Runs a script as Browser does. (This driver doesn't wait for promises.)"""
         waiting = f"const done = arguments[arguments.length - 1]; (async function () {{ {script} }}).apply(null, arguments).then(it => done(it === undefined ? null : it), it => done(`failed: ${{it}}`))"
         return self.call("POST", "/execute/async", {"script": waiting, "args": list(arguments)})
 
@@ -149,7 +149,7 @@ class WebKit(Browser):
 
 
 class Engine:
-    """A browser that opens packed pages from files, and what they show."""
+    """A browser with a packed page from a file."""
 
     def __init__(self, browser, room):
         self.browser, self.room = browser, room
@@ -164,7 +164,7 @@ class Engine:
         self.browser.run("return new Promise(done => requestAnimationFrame(() => requestAnimationFrame(() => done(true))))")
 
     def shown(self):
-        return [self.browser.run("return document.getElementById(arguments[0]).textContent", it) for it in ("fault", "points", "total")]
+        return [self.browser.run("return document.getElementById(arguments[0]).textContent", it) for it in ("error", "points", "total")]
 
     def expect(self, points, total):
         self.settle()
@@ -175,17 +175,17 @@ class Engine:
         self.settle()
 
     def saved(self, name):
-        """The bytes of what a button saves."""
+        """The bytes of the file that a button saves."""
         self.browser.run("window.kept = null; const real = URL.createObjectURL; URL.createObjectURL = it => { window.kept = it; return real.call(URL, it); };"
                          "document.getElementById(arguments[0]).click()", f"save-{name.replace('.', '-')}")
-        self.browser.wait("window.kept !== null || document.getElementById('fault').textContent")
+        self.browser.wait("window.kept !== null || document.getElementById('error').textContent")
         is_so(self.shown()[0], "")
         script = "return new Promise(done => { const it = new FileReader(); it.onload = () => done(it.result.split(',')[1]); it.readAsDataURL(window.kept); })"
         return base64.b64decode(self.browser.run(script))
 
 
 def opens_what_people_have(engine):
-    """Files that are dropped, a table that is pasted, a link, and data inside of the page."""
+    """The page opens dropped files, a pasted table, an address with points, and data inside the page."""
     with open(TOWNS, "rb") as it:
         towns = it.read()
     page = packed_page(engine.room)
@@ -205,11 +205,11 @@ def opens_what_people_have(engine):
     engine.expect("22", "4,501.454 km")
     # each figure has its label
     labels = "return [...document.querySelectorAll('#side dt')].map(it => [it.textContent, getComputedStyle(it).display !== 'none', getComputedStyle(it.nextElementSibling).display !== 'none'])"
-    is_so([it[0] for it in engine.browser.run(labels) if it[1] and it[2]], ["Points", "Links", "Total", "Longest", "Longest kept", "Chosen in ms", "Chosen by"])
+    is_so([it[0] for it in engine.browser.run(labels) if it[1] and it[2]], ["Points", "Edges", "Total", "Longest", "Longest kept", "Time in ms", "Computed by"])
 
 
 def sends_pages_on(engine):
-    """What it saves opens as it was left, from a file, again and again."""
+    """A page that was saved opens with the same points and clusters, and can be saved again."""
     engine.open(f"file://{packed_page(engine.room)}")
     engine.drop("named.csv", b"name,x,y\n</script>,0,0\nb,3,4\nc,30,40\nd,31,40\n")
     engine.browser.run("const it = document.getElementById('clusters'); it.value = 3; it.dispatchEvent(new Event('change'))")
@@ -227,32 +227,32 @@ def sends_pages_on(engine):
 
 
 def says_whether_it_makes_films(engine):
-    """Either there is a film, or it is said before the click that there is none."""
+    """Either the page saves a film, or it says before the click that it can't."""
     engine.open(f"file://{packed_page(engine.room)}")
-    told, is_off = engine.browser.run("return [document.getElementById('nofilm').textContent, document.getElementById('save-rounds-webm').disabled]")
-    is_so(is_off, told != "")
-    if not told:
+    note, is_off = engine.browser.run("return [document.getElementById('nofilm').textContent, document.getElementById('save-rounds-webm').disabled]")
+    is_so(is_off, note != "")
+    if not note:
         content = engine.saved("rounds.webm")
         is_so((content[:4], len(content) > 10_000), (b"\x1a\x45\xdf\xa3", True))
-    return told or "a film"
+    return note or "a film"
 
 
-DOES = [opens_what_people_have, sends_pages_on, says_whether_it_makes_films]
+CHECKS = [opens_what_people_have, sends_pages_on, says_whether_it_makes_films]
 
 
 def tried(make, room):
-    """Tries all of this in a browser of its own."""
+    """Runs all of these checks in a new browser."""
     if not os.path.exists(Page.module):
         raise Skipped("the module isn't built: `make wasm` builds it")
     folder = tempfile.mkdtemp(prefix="boruvka-engine-")
     try:
         browser = make(folder)
         try:
-            told = [it(Engine(browser, room)) for it in DOES]
+            notes = [it(Engine(browser, room)) for it in CHECKS]
             by = browser.run("return document.getElementById('by').textContent")
             if Page.pictures:
                 browser.picture(f"{Page.pictures}/engine_{make.__name__.lower()}.png")
-            return ", ".join([by, *filter(None, told)])
+            return ", ".join([by, *filter(None, notes)])
         finally:
             browser.close()
     finally:
@@ -260,7 +260,7 @@ def tried(make, room):
 
 
 def Chromium(folder):
-    """As the other cases have it."""
+    """The browser of the other cases."""
     os.mkdir(f"{folder}/saved")
     browser = Browser(f"{folder}/saved")
     browser.devtools("Emulation.setEmulatedMedia", features=[{"name": "prefers-reduced-motion", "value": "reduce"}])

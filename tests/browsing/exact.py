@@ -1,4 +1,4 @@
-"""The shortest net of points: its lengths are those that Prim's algorithm finds over all pairs, whatever lies how."""
+"""Minimum spanning trees of points: their lengths are exactly those of Prim's algorithm over all pairs."""
 import array
 import json
 import math
@@ -11,7 +11,7 @@ import subprocess
 from browsing.page import HERE, WEB, Page, arcs_of, forest_by_program, is_so
 from cases.running import Skipped, case
 
-# It reads x and y of each point as doubles, and answers the candidates' ends and their lengths.
+# This script reads points as doubles, and writes the candidate edges: endpoints and length.
 CANDIDATES = """
 import { readFileSync, writeSync } from 'node:fs';
 import { candidates } from './tree.js';
@@ -24,7 +24,7 @@ writeSync(1, new Uint8Array(Float64Array.from(links).buffer));
 
 
 def by_node(room, script, space, points):
-    """The doubles that a script answers for these points."""
+    """The doubles that a script writes for these points."""
     node = shutil.which("node")
     if not node:
         raise Skipped("there is no node")
@@ -37,7 +37,7 @@ def by_node(room, script, space, points):
 
 
 def modules(room):
-    """A folder with the page's scripts as Node takes them, and a script that answers candidates."""
+    """A folder with the page's scripts for Node, and the script above."""
     if not os.path.exists(f"{room}/web"):
         shutil.copytree(WEB, f"{room}/web")
         shutil.copy(f"{HERE}/prim.js", f"{room}/web")
@@ -49,7 +49,7 @@ def modules(room):
 
 
 def lengths_by_prim(room, points, space="plane"):
-    """The lengths of the tree's links, the shortest first."""
+    """The lengths of the edges of the tree, the shortest first."""
     far = space == "plane" and max(abs(value) for point in points for value in point) > 1e150
     scale = 2.0**-600 if far else 1.0
     found = by_node(room, f"{modules(room)}/prim.js", space, [(x * scale, y * scale) for x, y in points])
@@ -57,7 +57,7 @@ def lengths_by_prim(room, points, space="plane"):
 
 
 def lengths_of(links, n):
-    """The lengths of the tree among these links (u, v, length), by Kruskal's algorithm."""
+    """The lengths of the tree's edges by Kruskal's algorithm, from edges (u, v, length)."""
     parent, found = list(range(n)), []
 
     def root(v):
@@ -97,12 +97,12 @@ def in_a_line(draw, n):
 
 
 def far_and_near(draw, n):
-    """Each a tenth as far from the corner as the one before, and again: boxes of all sizes."""
+    """Points at 90 distances from the corner, each a tenth of the one before, so that boxes have all sizes."""
     return [(10.0 ** -(i % 90) * draw.choice([1, -1]), 10.0 ** -(i % 90) * draw.random()) for i in range(n)]
 
 
 def at_the_ends(draw, n):
-    """As large as doubles are."""
+    """Coordinates near the largest double."""
     return [(1e307 * draw.random(), 1e307 * draw.random()) for _ in range(n)]
 
 
@@ -110,7 +110,7 @@ SHAPES = [uniform, clustered, gridded, repeated, in_a_line, far_and_near, at_the
 
 
 def towns(draw, n):
-    """All over the globe, some beside a pole or where 180 degrees meet, many within a metre."""
+    """Points all over the globe, some of them near 180 degrees, and many within a metre near a pole."""
     places = [(draw.uniform(-180, 180), draw.uniform(-90, 90)) for _ in range(n // 2)]
     near = [(draw.choice([-1, 1]) * (180 - draw.random() / 9), draw.uniform(-80, 80)) for _ in range(n // 4)]
     close = [(13.4 + draw.random() / 1e5, 89.999 + draw.random() / 1e5) for _ in range(n - len(places) - len(near))]
@@ -118,7 +118,7 @@ def towns(draw, n):
 
 
 @case
-def candidates_hold_the_shortest_net(room):
+def candidates_contain_a_minimum_spanning_tree(room):
     draw = random.Random(84)
     for n in (1, 2, 9, 10, 300, 2000):
         for shape in SHAPES:
@@ -129,8 +129,8 @@ def candidates_hold_the_shortest_net(room):
 
 
 @case
-def candidates_beside_a_coordinate_that_all_share(room):
-    """However large that is beside the others."""
+def candidates_of_points_that_share_a_coordinate(room):
+    """The shared coordinate may be much larger than the others."""
     for shared, step in [(5, 1e-310), (1e308, 0.001), (-1.7976931348623157e308, 0.25), (1e10, 1e-300)]:
         for turn in (1, -1):
             points = [(shared, y * step)[::turn] for y in (0, 4, 1)]
@@ -147,13 +147,13 @@ def candidates_on_the_globe(room):
         links = by_node(room, f"{modules(room)}/candidates.js", "globe", points)
         found, wanted = lengths_of(zip(links[::3], links[1::3], links[2::3]), n), lengths_by_prim(room, points, "globe")
         is_so(len(found), n - 1)
-        # (sines are rounded, and by another order of steps to another last digit)
+        # (sines are rounded, so the last digit depends on the order of the steps)
         is_so([(a, b) for a, b in zip(found, wanted) if abs(a - b) > 1e-12 * b + 1e-9], [])
 
 
 @case
-def a_place_of_the_globe_with_several_pairs(room):
-    """At a pole all degrees east are one place, and so are 180 and -180, 0 and 360, however many points lie there."""
+def a_point_of_the_globe_with_several_coordinates(room):
+    """At a pole all degrees east are one point, and so are 180 and -180, or 0 and 360. Many points may lie there."""
     for points in ([(13.4, 52.5)] * 50000, [(x / 100, 90) for x in range(20000)], [(180 - 360 * (i % 2), 10) for i in range(50000)], [(360 * (i % 2), -89.5) for i in range(50000)]):
         links = by_node(room, f"{modules(room)}/candidates.js", "globe", points)
         is_so(set(links[2::3]), {0.0})
@@ -167,8 +167,8 @@ def text_of(points):
 
 
 @case
-def the_page_finds_the_shortest_net(room):
-    """The page's forest has those lengths too, and is the program's of the links that it looked at."""
+def the_page_finds_a_minimum_spanning_tree(room):
+    """The page's forest has the lengths of Prim's, and is the program's forest of the candidate edges."""
     page, draw = Page.opened(), random.Random(86)
     for n, shapes in [(2000, SHAPES), (20000, SHAPES[:5])]:
         for shape in shapes:
@@ -187,9 +187,9 @@ def the_page_finds_the_shortest_net(room):
 @case
 def points_that_cannot_be_measured(_room):
     page = Page.opened()
-    for text, told in [(b"-1e308,0\n1e308,1e308\n", "TooFarApart"), (b"0,0\n1e-200,0\n1,1\n", "TooNear"), (b"1e-320,0\n0,0\n1,1\n", "TooNear")]:
+    for text, error in [(b"-1e308,0\n1e308,1e308\n", "TooFarApart"), (b"0,0\n1e-200,0\n1,1\n", "TooNear"), (b"1e-320,0\n0,0\n1,1\n", "TooNear")]:
         page.drop(("points.csv", text))
-        is_so(page.refusal(), told)
+        is_so(page.error(), error)
     page.drop(("points.csv", b"0,0\n0,3e-300\n4e-300,0\n"))
     page.expect(size="2")
     page.drop(("points.csv", b"0,1e308\n1e308,1e308\n"))

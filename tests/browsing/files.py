@@ -1,4 +1,4 @@
-"""Graphs and places from files, and files that are refused."""
+"""Files that the page opens: graphs, coordinates, tables, GeoJSON; and files that it rejects."""
 import base64
 import gzip
 import random
@@ -19,7 +19,7 @@ def a_dropped_graph(_room):
     is_so(page.saved("forest.gr"), SMALL_FOREST)
     is_so(page.text("pointsword"), "Vertices")
     page.set("cut", 3)
-    page.expect(kept="0", say="3 clusters, of 4, 1, 1; 2 of fewer than 2 are grey.")
+    page.expect(kept="0", say="3 clusters. Sizes: 4, 1, 1. 2 clusters smaller than 2 are grey.")
     is_so(page.saved("clusters.csv"), b"vertex,cluster\n1,2\n2,1\n3,1\n4,1\n5,1\n6,3\n")
     with open(f"{ROOT}/examples/roads.gr", "rb") as it:
         roads = it.read()
@@ -30,7 +30,7 @@ def a_dropped_graph(_room):
     page.click("pen")
     page.browser.click_at("picture", 300, 300)
     page.frames()
-    is_so((page.text("fault"), page.text("points")), ("What is shown comes from a file. Clear it to set points.", "10"))
+    is_so((page.text("error"), page.text("points")), ("These points come from a file. Clear them to add points with the pen.", "10"))
 
 
 @case
@@ -80,7 +80,7 @@ def a_graph_that_is_too_large_to_be_drawn(_room):
     page = Page.opened()
     page.drop(("large.gr", b"p sp 1500000 2\na 1 1500000 7\na 7 1 -3\n"))
     page.set("clusters", 1)
-    page.expect(points="1,500,000", size="2", total="4", heaviest="7", say="1,499,998 clusters, of 3, 1, 1, 1, 1, 1 and 1,499,992 more; 1,499,998 of fewer than 15,000 are grey.")
+    page.expect(points="1,500,000", size="2", total="4", heaviest="7", say="1,499,998 clusters. Sizes: 3, 1, 1, 1, 1, 1 and 1,499,992 more. 1,499,998 clusters smaller than 15,000 are grey.")
     is_so(page.saved("forest.gr"), b"p sp 1500000 2\na 1 7 -3\na 1 1500000 7\n")
 
 
@@ -96,18 +96,18 @@ def places_of_a_graph(_room):
     page.expect(points="6", total="13", size="5")
     page.keep("places")
     is_so(page.saved("picture.svg"), together)
-    # y goes upwards: the vertex 6 is the last, right above
+    # y grows upwards, so vertex 6 is the uppermost and the rightmost
     numbers = re.findall(r'<text x="([0-9.]+)" y="([0-9.]+)"', together.decode())
     x, y = zip(*((float(one), float(other)) for one, other in numbers))
     is_so((len(x), sorted(x), sorted(y, reverse=True)), (6, list(x), list(y)))
-    # without a graph they are points
+    # without a graph, coordinates are points
     page.click("clear")
     page.drop(("places.co", PLACES))
     page.expect(points="6", size="5")
 
 
 def points_of(text):
-    """The points of a saved table without names: x and y, and the cluster of each."""
+    """The x and y of each point of a saved table without names."""
     return [tuple(map(float, it.split(",")[:2])) for it in text.decode().splitlines()[1:]]
 
 
@@ -116,7 +116,7 @@ FEATURES = b"""{"type": "FeatureCollection", "features": [
  {"type": "Feature", "properties": {"name": "Horta"}, "geometry": {"type": "Point", "coordinates": [-28.63, 38.53]}},
  {"type": "Feature", "properties": {}, "geometry": {"type": "MultiPoint", "coordinates": [[-25.67, 37.74], [-27.22, 38.66]]}}]}"""
 
-# what is in a file, and what the page shows of it: how many points, and their total
+# a file's name and content; the number of points and the total that the page shows for it
 TAKEN = [
     ("crlf.csv", b"x,y\r\n0,0\r\n3,4\r\n\r\n", "2", "5"),
     ("cr.csv", b"0,0\r3,4\r3,5", "3", "6"),
@@ -124,7 +124,7 @@ TAKEN = [
     ("id.csv", b"id,x,y\n100,0,0\n900,3,4\n", "2", "5"),
     ("turned.csv", b"Y,name,X\n4,a,3\n0,b,0\n", "2", "5"),
     ("quotes.csv", b'name,x,y\n"a, ""b""\nc",0,0\n"",3,4\n', "2", "5"),
-    # marks that hide no separator are letters, as Python's csv reads them
+    # quotation marks that hide no separator are letters, as in Python's csv
     ("marks.csv", b'name,x,y\na "b" c,0,0\n5" by 6",3,4\n', "2", "5"),
     ("semicolons.csv", b"1,5;2,5\n4,5;6,5\n", "2", "5"),
     ("semicolons.csv", b"x;y\n1.5;2.5\n4.5;6.5\n", "2", "5"),
@@ -139,10 +139,10 @@ TAKEN = [
     ("unnamed", SMALL_NET, "6", "13"),
     ("links.csv", b"source,target,weight\na,b,1.5\nb,c,2\nc,a,-1\nc,c,5\n", "3", "0.5"),
     ("links.csv", b"From;To\na;b\nb;c\n", "3", "2"),
-    # a whole number to its last digit
+    # a whole number is exact to its last digit
     ("links.csv", b"source,target,weight\na,b,123456789\nb,c,9007199130284201\n", "3", "9,007,199,253,740,990"),
     ("links.csv", b"source,target,weight\na,b,12345678.25\nb,c,0.5\n", "3", "12,345,679"),
-    # as math.fsum has it
+    # as math.fsum computes it
     ("links.csv", b"source,target,weight\na,b,1e16\nb,c,1\nc,d,-1e16\n", "4", "1"),
     # by the haversine formula in Python's floats, with 6371 km
     ("globe.csv", b"Longitude,LATITUDE\n0,0\n90,0\n0,90\n", "3", "20,015.09 km"),
@@ -153,32 +153,32 @@ TAKEN = [
 
 
 @case
-def files_that_are_taken(_room):
+def files_that_are_accepted(_room):
     page = Page.opened()
     for name, text, points, total in TAKEN:
         page.drop((name, text))
-        is_so((name, text[:60], page.text("fault"), page.text("points"), page.text("total")), (name, text[:60], "", points, total))
+        is_so((name, text[:60], page.text("error"), page.text("points"), page.text("total")), (name, text[:60], "", points, total))
     page.drop(("semicolons.csv", b"1,5;2,5\n4,5;6,5\n"))
     is_so(page.text("notes"), "A comma is read as the decimal point: 1,5 is 1.5.")
-    # they go with what is shown
+    # notes stay as long as their points are shown
     page.drop(("bad.csv", b"1\n"))
     is_so((page.text("points"), page.text("notes")), ("2", "A comma is read as the decimal point: 1,5 is 1.5."))
     page.drop(("links.csv", b"source,target\nc,c\na,b\n"), ("places.co", b"p aux sp co 3\nv 1 0 0\nv 2 3 4\nv 3 5 5\n"))
-    is_so(page.text("notes"), "1 of the links join a name with itself, and are left out. No column is a weight: each link weighs 1.")
+    is_so(page.text("notes"), "Edges from a name to itself are left out: 1. No column is a weight, so each edge has the weight 1.")
     page.click("clear")
     is_so(page.text("notes"), "")
     page.drop(("none.gr", b"p sp 0 0\n"))
     page.expect(points="0", size="0", say="0 clusters.")
     page.drop(("long.csv", b"name,x,y\n%s,0,0\n%s,3,4\nc,3,4\n" % (b"a" * 200, b"b" * 201)))
-    is_so(page.text("notes"), "1 of the names are cut to 200 characters.")
+    is_so(page.text("notes"), "Names longer than 200 characters were shortened: 1.")
     page.expect(points="3", total="5")
 
 
-# what is said of a first row that may be data, and of a column that changes nothing
+# notes on a first row that may be data, and on a column that is ignored
 HEADS = [
-    ("−5,−3\n0,0\n3,4\n", "The first row is read as names of columns: ‘−5’, ‘−3’. If it is a row of data, put one of names before it."),
-    ("NA;NA\n0;0\n3;4\n", "The first row is read as names of columns: ‘NA’, ‘NA’. If it is a row of data, put one of names before it."),
-    ("x,y,z\n0,0,0\n3,4,9\n", "The column z is left out: points lie on paper here."),
+    ("−5,−3\n0,0\n3,4\n", "The first row is read as column names: ‘−5’, ‘−3’. If it is data, add a row of names above it."),
+    ("NA;NA\n0;0\n3;4\n", "The first row is read as column names: ‘NA’, ‘NA’. If it is data, add a row of names above it."),
+    ("x,y,z\n0,0,0\n3,4,9\n", "The column z is ignored, because the points are in a plane."),
     ("x,y,note\n0,0,0\n3,4,9\n", ""),
     ("0,0\n3,4\n", ""),
 ]
@@ -186,7 +186,7 @@ HEADS = [
 
 @case
 def a_saved_table_is_read_again(_room):
-    """Its clusters stand behind the separator that it has, spaces too."""
+    """The new column has the separator of the table, even if that is a space."""
     page = Page.opened()
     for text, saved in [(b"x y\n 0   0\n3 4\n", b"x y cluster\n 0   0 1\n3 4 1\n"), (b"x\ty\n0\t0\n3\t4\n", b"x\ty\tcluster\n0\t0\t1\n3\t4\t1\n")]:
         page.drop(("points.txt", text))
@@ -196,8 +196,8 @@ def a_saved_table_is_read_again(_room):
 
 
 @case
-def no_point_lies_below_what_is_said(_room):
-    """The picture begins under the last line, however many there are."""
+def notes_cover_no_points(_room):
+    """The picture begins below the last line of the notes."""
     tall = "x;y\n" + "".join(f"{i * 37 % 11},5;{10 * i}\n" for i in range(60))
     script = "return Promise.all([import('./state.js'), import('./view.js')]).then(([{ state: { shown } }, { lens }]) => [document.getElementById('notes').getBoundingClientRect().bottom, lens().down(shown.points[119])])"
     for width, height in [(1280, 800), (390, 844)]:
@@ -211,30 +211,29 @@ def no_point_lies_below_what_is_said(_room):
 @case
 def first_rows_that_are_guessed(_room):
     page = Page.opened()
-    for text, told in HEADS:
-        if told.startswith("The first row"):
+    for text, note in HEADS:
+        if note.startswith("The first row"):
             page.ask(("points.csv", text.encode()))
             page.answer("columns")
         else:
             page.drop(("points.csv", text.encode()))
-        is_so((text, page.text("notes")), (text, told))
+        is_so((text, page.text("notes")), (text, note))
         page.expect(points="2", total="5")
-    # degrees that aren't called so
-    for text, is_told in [("X,Y\n7.4474,46.9480\n8.5417,47.3769\n", True), ("7.4474,46.9480\n8.5417,47.3769\n", True), ("x;y\n7,4474;46,9480\n8,5417;47,3769\n", True),
+    # degrees in columns with other names
+    for text, is_note in [("X,Y\n7.4474,46.9480\n8.5417,47.3769\n", True), ("7.4474,46.9480\n8.5417,47.3769\n", True), ("x;y\n7,4474;46,9480\n8,5417;47,3769\n", True),
                           ("x,y\n0.4474,0.9480\n0.5417,0.3769\n", False), ("x,y\n7.44,46.94\n8.54,47.37\n", False), ("x,y\n7.4474,460.9480\n8.5417,47.3769\n", False)]:
         page.drop(("points.csv", text.encode()))
-        is_so((text, "If these are degrees, call the columns lon and lat." in page.text("notes")), (text, is_told))
-    # links between names: nothing tells the first from a header
+        is_so((text, "If these are degrees, name the columns lon and lat." in page.text("notes")), (text, is_note))
+    # edges between names, where the first row may be a header
     page.browser.run(DROP_SOON, [("links.csv", base64.b64encode(b"Bern,Rome\nRome,Oslo\n").decode())])
     page.browser.wait("document.getElementById('columns').open")
-    page.browser.run("document.querySelector('#columns button[value=take]').click()")
-    page.settle()
-    is_so(page.text("notes").split(" If ")[0], "The first row is read as names of columns: ‘Bern’, ‘Rome’.")
+    page.answer("columns")
+    is_so(page.text("notes").split(" If ")[0], "The first row is read as column names: ‘Bern’, ‘Rome’.")
 
 
 @case
 def the_towns_of_the_repository(_room):
-    """Its columns by the header, kilometres on great circles, and their archipelagos as the Python example has them."""
+    """The header decides the columns, lengths are kilometres, and the clusters are those of the Python example."""
     page = Page.opened()
     with open(TOWNS, "rb") as it:
         towns = it.read()
@@ -250,7 +249,7 @@ def the_towns_of_the_repository(_room):
 
 @case
 def columns_that_are_chosen(_room):
-    """A table whose header leaves them open is asked about, by keys too."""
+    """The dialog asks about a table whose header doesn't decide its columns. It works by keys too."""
     page = Page.opened()
     page.browser.run(DROP_SOON, [("table.csv", base64.b64encode(b"a,b,c\n7,0,0\n8,3,4\n").decode())])
     page.browser.wait("document.getElementById('columns').open")
@@ -259,42 +258,40 @@ def columns_that_are_chosen(_room):
     page.set("role-up", 2)
     page.browser.run("document.querySelector('#columns button[value=take]').focus()")
     page.browser.press(ENTER)
-    page.settle()
+    page.browser.wait("!document.getElementById('columns').open")
+    page.frames()
     page.expect(points="2", total="5")
     page.browser.run(DROP_SOON, [("table.csv", base64.b64encode(b"a b 2\nb c 3\n").decode())])
     page.browser.wait("document.getElementById('columns').open")
-    page.browser.run("document.querySelector('#columns button[value=take]').click()")
-    page.settle()
+    page.answer("columns")
     page.expect(points="3", size="2", total="5")
-    # a header that allows two kinds, or two columns for a role, is asked about too
+    # a header that fits two kinds, or two columns of one role
     for text, points, total in [(b"x,y,lon,lat\n0,0,0,0\n3,4,1,0\n", "2", "111.1949 km"), (b"x,y,X\n0,0,9\n3,4,9\n9,4,1\n", "3", "11")]:
         page.browser.run(DROP_SOON, [("table.csv", base64.b64encode(text).decode())])
         page.browser.wait("document.getElementById('columns').open")
-        page.browser.run("document.querySelector('#columns button[value=take]').click()")
-        page.settle()
+        page.answer("columns")
         page.expect(points=points, total=total)
-    # links with numbers that no word says are weights: two links of 1 were the net
+    # edges with a column of numbers whose name is unknown
     page.browser.run(DROP_SOON, [("table.csv", base64.b64encode(b"from,to,cost\na,b,5\nb,c,6\na,c,1\n").decode())])
     page.browser.wait("document.getElementById('columns').open", seconds=5)
     page.set("role-weight", 2)
-    page.browser.run("document.querySelector('#columns button[value=take]').click()")
-    page.settle()
+    page.answer("columns")
     page.expect(points="3", total="6")
-    # years over columns are no point, and a row of names alone may be a link
+    # a header of years isn't a point, and a row of names may be an edge
     for text, is_header, points, total in [(b"town,2020,2021\na,0,0\nb,3,4\n", True, "2", "5"), (b"Bern,Rome\nRome,Oslo\n", False, "3", "2")]:
         page.browser.run(DROP_SOON, [("table.csv", base64.b64encode(text).decode())])
         page.browser.wait("document.getElementById('columns').open")
         is_so(page.browser.run("return document.getElementById('header').checked"), not is_header)
         page.browser.run("document.getElementById('header').click()")
         page.keep("header")
-        page.browser.run("document.querySelector('#columns button[value=take]').click()")
-        page.settle()
+        page.answer("columns")
         page.expect(points=points, total=total)
     page.browser.run(DROP_SOON, [("table.csv", base64.b64encode(b"1,2,3\n").decode())])
     page.browser.wait("document.getElementById('columns').open")
     page.browser.press(ESCAPE)
-    page.settle()
-    is_so((page.text("fault"), page.text("points")), ("table.csv: No columns were chosen.", "3"))
+    page.browser.wait("!document.getElementById('columns').open")
+    page.frames()
+    is_so((page.text("error"), page.text("points")), ("table.csv: No columns were chosen.", "3"))
 
 
 @case
@@ -310,12 +307,12 @@ def a_table_that_is_pasted(_room):
     page.browser.click("take")
     page.settle()
     page.expect(points="3", total="2")
-    # and one that is dropped
+    # a dropped text
     drop = "const data = new DataTransfer(); data.setData('text/plain', arguments[0]); document.body.dispatchEvent(new DragEvent('drop', { dataTransfer: data, bubbles: true, cancelable: true }))"
     page.browser.run(drop, "0 0\n5 12\n")
     page.settle()
     page.expect(points="2", total="13")
-    # cells of a spreadsheet have their picture with them; a picture alone is refused
+    # cells of a spreadsheet come with a picture of them; a picture alone is rejected
     picture = "data.items.add(new File([Uint8Array.of(137, 80, 78, 71)], 'image.png', { type: 'image/png' }))"
     cells = paste.replace("document.body.", f"{picture}; document.body.")
     page.browser.run(cells, "x\ty\n0\t0\n8\t6")
@@ -323,13 +320,13 @@ def a_table_that_is_pasted(_room):
     page.expect(points="2", total="10")
     page.browser.run(cells.replace("data.setData('text/plain', arguments[0]);", ""))
     page.settle()
-    is_so(page.refusal(), "NoText (a PNG picture)")
+    is_so(page.error(), "NoText (a PNG picture)")
     page.browser.run(paste, "nothing")
     page.settle()
-    is_so(page.refusal(), "line 1: OneColumn (‘nothing’)")
+    is_so(page.error(), "line 1: OneColumn (‘nothing’)")
 
 
-FAULTS = [
+REJECTED = [
     ("bad.gr", b"p sp 2 1\nx\n", "line 2: UnknownLine"),
     ("bad.gr", b"a 1 2 3\n", "line 1: NoProblemYet"),
     ("bad.gr", b"p sp 2 0\np sp 2 0\n", "line 2: SecondProblem"),
@@ -403,23 +400,23 @@ FAULTS = [
 
 
 @case
-def refused_files(_room):
-    """Each is told of by its line and kind, and changes nothing."""
+def files_that_are_rejected(_room):
+    """The error has the line and the kind, and the page shows the same points as before."""
     page = Page.opened()
     page.drop(("small.gr", SMALL_NET))
     page.set("cut", 2)
     before, picture = page.shown(), page.saved("picture.svg")
-    for name, text, told in FAULTS:
+    for name, text, note in REJECTED:
         page.drop((name, text))
-        found = page.text("fault")
-        is_so((name, text[:60], page.refusal()[: len(told)]), (name, text[:60], told))
+        found = page.text("error")
+        is_so((name, text[:60], page.error()[: len(note)]), (name, text[:60], note))
         is_so((found[: len(name) + 2], found.endswith((".", "?")), "{}" in found), (f"{name}: ", True, False))
         is_so(page.shown(), before)
-    # (what is said of a file that is refused moves the picture, and goes with what is done next)
+    # (the error moves the picture, and disappears with the next action)
     page.saved("forest.gr")
     page.frames()
     is_so(page.saved("picture.svg"), picture)
-    page.keep("refused")
+    page.keep("rejected")
     is_so(page.browser.complaints(), [])
     page.drop(("small.gr", SMALL_NET))
     page.expect(points="6", total="13")
@@ -427,24 +424,24 @@ def refused_files(_room):
 
 @case
 def several_files(_room):
-    """The last one was shown alone, as if it were all."""
+    """Several graphs or tables at once are rejected."""
     page = Page.opened()
     before = page.shown()
     for names in (["a.csv", "b.csv"], ["a.gr", "b.gr", "b.co"], ["a.co", "b.co"]):
         page.drop(*((name, SMALL_NET if name.endswith(".gr") else PLACES if name.endswith(".co") else b"0,0\n3,4\n") for name in names))
-        is_so((page.refusal(), page.shown()), (f"SeveralFiles ({len(names)})", before))
-    # points have their places already: they stay
+        is_so((page.error(), page.shown()), (f"SeveralFiles ({len(names)})", before))
+    # points already have coordinates, so the points stay and the other file is rejected
     page.drop(("a.csv", b"0,0\n3,4\n"), ("a.co", b"p aux sp co 3\nv 1 0 0\nv 2 1 0\nv 3 2 0\n"))
-    is_so((page.refusal(), page.text("points"), page.text("total")), ("SeveralFiles (2)", "2", "5"))
+    is_so((page.error(), page.text("points"), page.text("total")), ("SeveralFiles (2)", "2", "5"))
 
 
 @case
-def a_file_that_is_refused_while_points_are_joined(_room):
-    """The points before them stay: a file ends what was begun."""
+def a_file_that_is_rejected_during_another_task(_room):
+    """The file ends the task that was going on, and the earlier points stay."""
     page = Page.opened()
     before = page.text("points")
     page.set("count", 40000)
     page.browser.run("document.getElementById('random').click()")
     page.drop(("bad.csv", b"1\n"))
-    is_so(page.refusal(), "line 1: OneColumn (‘1’)")
+    is_so(page.error(), "line 1: OneColumn (‘1’)")
     is_so(page.text("points"), before)

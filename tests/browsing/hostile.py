@@ -1,4 +1,4 @@
-"""Input made to hurt: it is answered in time, or refused with its reason, and the page's thread goes on."""
+"""Hostile input: the page shows it in time or rejects it with a reason, and its thread stays responsive."""
 import gzip
 import os
 import time
@@ -7,7 +7,7 @@ from browsing.page import Page, is_so, large
 from browsing.points import drawn_marks
 from cases.running import case
 
-# drops a file of a text so many times, without its going through the driver
+# drops a file that repeats a text, which needn't go through the driver
 LARGE = """
 const [name, head, text, times] = arguments, each = Math.max(1, Math.floor(2 ** 20 / text.length)), parts = [head];
 for (let left = times; left > 0; left -= each) parts.push(text.repeat(Math.min(left, each)));
@@ -20,27 +20,27 @@ setTimeout(() => window.watch.observe({ type: 'longtask' }));
 for (const kind of ['dragover', 'drop']) document.body.dispatchEvent(new DragEvent(kind, { dataTransfer: data, bubbles: true, cancelable: true }));
 """
 SECONDS = 240
-# milliseconds that a task of the page's thread may last, on a machine that has other work
+# the longest task of the page's thread in milliseconds, on a machine with other work
 MOST_STILL = 2500
 
 
 def dropped(page, name, head, text, times):
-    """Drops it, and answers how long it took."""
+    """Drops the file, and returns the seconds that it took."""
     begun = time.monotonic()
     page.browser.run(LARGE, name, head, text, times)
     page.settle(SECONDS)
     still = page.browser.run("return window.longest")
-    is_so((name, still if still > MOST_STILL else "went on"), (name, "went on"))
+    is_so((name, still if still > MOST_STILL else "responsive"), (name, "responsive"))
     return time.monotonic() - begun
 
 
 @case
 def large_files(_room):
-    """Each was read as empty, was not done after minutes, or ended the tab, before it was refused or shown."""
+    """Long files are rejected in time. They must not be read as empty, take minutes, or crash the tab."""
     large()
-    page, told = Page.opened(), []
+    page, spent = Page.opened(), []
     before = page.shown()
-    for name, head, text, times, fault in [
+    for name, head, text, times, error in [
         ("commas.csv", "", ",", 150_000_000, "line 1: LongRow"),
         ("letters.csv", "", "x", 100_000_000, "line 1: LongRow"),
         ("long.csv", "", "0,0\n", 5_000_000, "line 1000001: TooManyPoints"),
@@ -50,14 +50,14 @@ def large_files(_room):
         ("fields.csv", "x", ",y", 400_000, "line 1: TooManyColumns (400001)"),
         ("deep.json", "", "[", 30_000_000, "BadJson"),
     ]:
-        told.append(f"{name} {dropped(page, name, head, text, times):.0f} s")
-        is_so((name, page.refusal()[: len(fault)], page.shown()), (name, fault, before))
-    return ", ".join(told)
+        spent.append(f"{name} {dropped(page, name, head, text, times):.0f} s")
+        is_so((name, page.error()[: len(error)], page.shown()), (name, error, before))
+    return ", ".join(spent)
 
 
 @case
-def a_table_past_what_a_text_may_hold(room):
-    """536,870,888 letters are the most that the browser puts into one text."""
+def a_table_longer_than_one_text(room):
+    """A text of the browser has at most 536,870,888 letters."""
     large()
     path = f"{room}/long.csv"
     with open(path, "w", encoding="utf-8") as it:
@@ -76,8 +76,8 @@ def a_table_past_what_a_text_may_hold(room):
 
 
 @case
-def a_graph_past_what_a_text_may_hold(room):
-    """Its forest's text is as long: it was read as empty, and shown as a graph without vertices."""
+def a_graph_longer_than_one_text(room):
+    """The text of its forest is as long, and must not be read as empty."""
     large()
     path, n, step = f"{room}/path.gr", 14_500_000, 500_000
     with open(path, "w", encoding="utf-8") as it:
@@ -98,9 +98,9 @@ def a_graph_past_what_a_text_may_hold(room):
 def a_gzip_that_expands_without_end(_room):
     large()
     page = Page.opened()
-    for name, content, fault in [("bomb.csv.gz", b"0" * 300_000_000, "LongRow"), ("bomb.csv.gz", b"\n" * 300_000_000, "TooManyLines")]:
+    for name, content, error in [("bomb.csv.gz", b"0" * 300_000_000, "LongRow"), ("bomb.csv.gz", b"\n" * 300_000_000, "TooManyLines")]:
         page.drop((name, gzip.compress(content, 1)), seconds=SECONDS)
-        is_so(fault in page.refusal(), True)
+        is_so(error in page.error(), True)
 
 
 @case
@@ -108,7 +108,7 @@ def large_graphs(_room):
     large()
     page = Page.opened()
     seconds = [dropped(page, "empty.gr", "p sp 67108864 0", "\n", 1)]
-    page.expect(points="67,108,864", size="0", total="0", say="This graph is too large to be cut here. Its forest can be saved.")
+    page.expect(points="67,108,864", size="0", total="0", say="This graph is too large to be clustered here. You can save its forest.")
     star = "".join(f"a 1 {it} {it}\n" for it in range(2, 1_000_001))
     seconds.append(dropped(page, "star.gr", "p sp 1000000 999999\n", star, 1))
     page.expect(points="1,000,000", size="999,999", total="500,000,499,999")
@@ -124,12 +124,12 @@ def large_graphs(_room):
 
 @case
 def a_million_points(_room):
-    """In clouds, in a line, all at one place: each is shown, with a bar and a stop, and no frame takes long."""
+    """Points in clouds, in a line, or all equal are shown, with a progress bar and a stop, and no frame takes long."""
     large()
-    page, told = Page.opened(), []
+    page, spent = Page.opened(), []
     for name, line, total in [("line.csv", "{0},7\n", "999,999"), ("equal.csv", "3,3\n", "0"), ("hundred.csv", "{1},{2}\n", "99")]:
         text = "".join(line.format(it, it * 7919 % 10, it * 104729 // 10 % 10) for it in range(10**6))
-        told.append(f"{name} {dropped(page, name, '', text, 1):.0f} s")
+        spent.append(f"{name} {dropped(page, name, '', text, 1):.0f} s")
         page.expect(points="1,000,000", size="999,999", total=total)
     begun = time.monotonic()
     page.browser.run("document.getElementById('count').value = 1000000; document.getElementById('random').click()")
@@ -137,31 +137,31 @@ def a_million_points(_room):
     page.settle(SECONDS)
     page.expect(points="1,000,000", size="999,999")
     page.keep("million")
-    told.append(f"clouds {time.monotonic() - begun:.0f} s")
-    return ", ".join(told)
+    spent.append(f"clouds {time.monotonic() - begun:.0f} s")
+    return ", ".join(spent)
 
 
-HURTING = [b"<img src=x onerror=alert(1)>", b"<script>alert(1)</script>", b"]]>&amp;'\"", "\u202e\u0007"[:1].encode(), b"javascript:alert(1)"]
+MARKUP = [b"<img src=x onerror=alert(1)>", b"<script>alert(1)</script>", b"]]>&amp;'\"", "\u202e\u0007"[:1].encode(), b"javascript:alert(1)"]
 
 
 @case
 def names_with_markup(_room):
-    """They are text wherever they are shown, and in all that is saved."""
+    """Names are shown and saved as plain text."""
     page = Page.opened()
-    rows = b"".join(b'"%s",%d,%d\n' % (it.replace(b'"', b'""'), i, i * i) for i, it in enumerate(HURTING))
+    rows = b"".join(b'"%s",%d,%d\n' % (it.replace(b'"', b'""'), i, i * i) for i, it in enumerate(MARKUP))
     page.drop(("</script><b>.csv", b"name,x,y\n" + rows))
     page.expect(points="5")
     drawn_marks(page.saved("picture.svg"))
     drawn_marks(page.saved("dendrogram.svg"))
     saved = page.saved("clusters.csv").decode()
-    is_so(all(it.decode().replace('"', '""') in saved for it in HURTING), True)
+    is_so(all(it.decode().replace('"', '""') in saved for it in MARKUP), True)
     page.drop(("<b>.csv", b"<i>\n"))
-    is_so((page.text("fault")[:9], page.refusal()[:17], page.browser.run("return document.querySelectorAll('#fault *, #notes *, b, i, img').length")), ("<b>.csv: ", "line 1: OneColumn", 0))
+    is_so((page.text("error")[:9], page.error()[:17], page.browser.run("return document.querySelectorAll('#error *, #notes *, b, i, img').length")), ("<b>.csv: ", "line 1: OneColumn", 0))
     is_so(page.browser.complaints(), [])
 
 
-# points and links with numbers as small and as large as doubles are, or as whole numbers of 64 bits
-ENDS = [
+# points and edges with the smallest and the largest doubles, or with extreme whole numbers of 64 bits
+EXTREMES = [
     ("small.csv", b"0,0\n5e-324,0\n1e-323,0\n"),
     ("smaller.csv", b"1e-310,1e-310\n2e-310,1e-310\n1e-310,9e-310\n"),
     ("large.csv", b"1e308,0\n0.9e308,0\n0,0\n"),
@@ -198,12 +198,12 @@ return (async () => {
 
 
 @case
-def numbers_at_the_ends(_room):
-    """They are shown and looked at, by each scale and from near and far, or refused. Nothing fails."""
+def extreme_numbers(_room):
+    """They are shown without an error, on each scale and from near and far."""
     page = Page.opened()
-    for name, text in ENDS:
+    for name, text in EXTREMES:
         page.drop((name, text))
-        is_so((name, page.text("fault")), (name, ""))
+        is_so((name, page.text("error")), (name, ""))
         page.browser.run(LOOKED_AT)
         page.settle()
         is_so((name, page.browser.complaints()), (name, []))
@@ -213,7 +213,7 @@ def numbers_at_the_ends(_room):
 
 @case
 def bytes_at_random(_room):
-    """Whatever they are, they are refused or shown, and the page goes on."""
+    """Random bytes are rejected, and the page works afterwards."""
     page = Page.opened()
     for turn in range(40):
         content = os.urandom(1 + 37 * turn)
@@ -221,6 +221,6 @@ def bytes_at_random(_room):
             page.drop((name, (b"\x1f\x8b" if turn % 2 else b"") + content))
             page.browser.run("for (const it of document.querySelectorAll('dialog')) it.close()")
             page.settle()
-            is_so((page.text("fault").startswith(f"{name}: "), "Broken" in page.refusal()), (True, False))
+            is_so((page.text("error").startswith(f"{name}: "), "Broken" in page.error()), (True, False))
     page.drop(("points.csv", b"0,0\n3,4\n"))
     page.expect(total="5")

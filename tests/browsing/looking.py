@@ -1,4 +1,4 @@
-"""What one sees: in a window that is zoomed or low, while the film plays, beside points, and of very many points."""
+"""The look of the page: in small windows, while the rounds are played, with names, and with very many points."""
 import re
 import xml.etree.ElementTree
 
@@ -7,7 +7,7 @@ from browsing.points import drawn_marks
 from cases.running import case
 
 PARTS = "return ['dendrogram', 'bars', 'scale', 'smallest', 'weights', 'play', 'cut', 'clusters', 'pen', 'undo', 'redo', 'tree', 'open', 'save', 'about']"
-# whether each of these can be brought where nothing covers it, by scrolling
+# the elements that can't be scrolled to where nothing covers them
 REACHED = """
 const found = [];
 for (const id of arguments[0]) {
@@ -22,7 +22,7 @@ return found;
 
 @case
 def all_is_reached_in_a_low_window(_room):
-    """At 200 % zoom, and on a phone held sideways: the dendrogram, and each control."""
+    """The dendrogram and all controls can be reached at 200 % zoom, and on a phone held either way."""
     for width, height in [(640, 400), (844, 390), (390, 844), (320, 568)]:
         for scheme in ("light", "dark"):
             page = Page.opened(width=width, height=height, scheme=scheme)
@@ -45,31 +45,38 @@ return ['picture', 'dendrogram', 'bars'].map(it => light(document.getElementById
 
 @case
 def the_scheme_changes_during_the_film(_room):
-    """All of it turns dark: the dendrogram and the bars stayed white."""
-    page = Page.opened()
-    page.look(motion="no-preference")
-    page.browser.click("play")
-    page.browser.wait("document.getElementById('play').textContent === 'Stop'", seconds=5)
-    is_so(page.browser.run(DARKNESS), [True, True, True])
-    page.look(motion="no-preference", scheme="dark")
-    page.browser.run("return new Promise(done => setTimeout(done, 300))")
-    is_so((page.text("play"), page.browser.run(DARKNESS)), ("Stop", [False, False, False]))
-    page.browser.wait("document.getElementById('play').textContent === 'Play'", seconds=30)
-    is_so(page.browser.run(DARKNESS), [False, False, False])
+    """The picture, the dendrogram and the bars turn dark, also if the browser drops the event of the change. Chromium does so
+    if a frame of the film has read the scheme before it; the dendrogram and the bars then stayed white."""
+    for without_event in ("", "MediaQueryList.prototype.addEventListener = () => {}"):
+        page = Page.opened()
+        script = page.browser.devtools("Page.addScriptToEvaluateOnNewDocument", source=without_event)
+        try:
+            page = Page.opened()
+        finally:
+            page.browser.devtools("Page.removeScriptToEvaluateOnNewDocument", **script)
+        page.look(motion="no-preference")
+        page.browser.click("play")
+        page.browser.wait("document.getElementById('play').textContent === 'Stop'", seconds=5)
+        is_so(page.browser.run(DARKNESS), [True, True, True])
+        page.look(motion="no-preference", scheme="dark")
+        page.browser.run("return new Promise(done => setTimeout(done, 300))")
+        is_so((without_event, page.text("play"), page.browser.run(DARKNESS)), (without_event, "Stop", [False, False, False]))
+        page.browser.wait("document.getElementById('play').textContent === 'Play'", seconds=30)
+        is_so((without_event, page.browser.run(DARKNESS)), (without_event, [False, False, False]))
 
 
 @case
 def no_message_covers_the_points(_room):
-    """The picture begins below what is said of a file that is refused, too."""
+    """The picture also begins below the error of a rejected file."""
     tall = "x,y\n" + "".join(f"{i * 37 % 11},{10 * i}\n" for i in range(60))
-    script = "return Promise.all([import('./state.js'), import('./view.js')]).then(([{ state: { shown } }, { lens }]) => [document.getElementById('fault').getBoundingClientRect().bottom, lens().down(shown.points[119])])"
+    script = "return Promise.all([import('./state.js'), import('./view.js')]).then(([{ state: { shown } }, { lens }]) => [document.getElementById('error').getBoundingClientRect().bottom, lens().down(shown.points[119])])"
     for width, height in [(1280, 800), (390, 844)]:
         page = Page.opened(width=width, height=height)
         page.drop(("tall.csv", tall.encode()))
         page.drop(("bad.csv", b"x,y\n1,2\n3,4,5\n"))
         page.frames()
         bottom, highest = page.browser.run(script)
-        is_so((width, page.refusal()[:22], 40 < bottom < highest), (width, "line 3: OtherColumns (", True))
+        is_so((width, page.error()[:22], 40 < bottom < highest), (width, "line 3: OtherColumns (", True))
 
 
 def texts_of(svg):
@@ -77,14 +84,14 @@ def texts_of(svg):
 
 
 def boxes_of(svg):
-    """Where texts of a picture are, by about how wide their letters are."""
+    """The texts of a picture, with their positions and approximate widths."""
     all_texts = xml.etree.ElementTree.fromstring(svg).iter("{http://www.w3.org/2000/svg}text")
     return [(it.text, float(it.attrib["x"]), float(it.attrib["y"]), 5 * len(it.text)) for it in all_texts]
 
 
 @case
 def names_and_weights_are_drawn(_room):
-    """Wherever they have room, beside points and at leaves; weights if they are asked for. None lies over another."""
+    """Names are drawn next to points and leaves, and weights on request. No text covers another."""
     page = Page.opened()
     page.drop(("towns.csv", b"town,x,y\nOne,0,0\nTwo & Co,30,0\nThree,30,40\nFour,0.1,0.1\n"))
     picture = page.saved("picture.svg")
@@ -102,7 +109,7 @@ def names_and_weights_are_drawn(_room):
 
 @case
 def other_edges_are_drawn_faintly(_room):
-    """Those of a small graph that its forest leaves out, unless somebody turns them off."""
+    """The edges of a small graph that aren't in its forest are drawn, unless the user turns them off."""
     page = Page.opened()
     for name, text in [("links.csv", b"source,target,weight\na,b,1\nb,c,2\na,c,3\nc,d,1\na,d,9\nb,a,4\n"), ("graph.gr", b"p sp 4 6\na 1 2 1\na 2 3 2\na 1 3 3\na 3 4 1\na 1 4 9\na 2 2 1\n")]:
         page.drop((name, text))
@@ -116,7 +123,7 @@ def other_edges_are_drawn_faintly(_room):
 
 @case
 def a_scale_bar(_room):
-    """Its length is what it says: in units on paper, in kilometres on the globe."""
+    """Its length agrees with its text: in units in the plane, in kilometres on the globe."""
     page = Page.opened()
     zoom = "return import('./view.js').then(({ lens }) => lens().zoom)"
     for name, text, unit in [("paper.csv", b"x,y\n0,0\n1000,400\n", 1), ("globe.csv", b"lon,lat\n5,50\n15,40\n", 111.1949), ("links.csv", b"source,target\na,b\n", None)]:
@@ -131,7 +138,7 @@ def a_scale_bar(_room):
 
 @case
 def the_film_explains_itself(_room):
-    """A large counter falls to 1, the dendrogram grows, and the last moment has the whole tree in one colour; by keys."""
+    """Step by step, the large counter falls to 1 and the dendrogram grows. The last step has the whole tree in one colour."""
     page = Page.opened()
     rows = [(x, y) for x in range(0, 90, 9) for y in range(0, 90, 10)]
     page.drop(("points.csv", ("x,y\n" + "".join(f"{x + y / 100},{y + x / 50}\n" for x, y in rows)).encode()))
@@ -170,7 +177,7 @@ def each_file_is_played(_room):
 
 @case
 def the_example_is_real(_room):
-    """About sixty towns in kilometres, over their coast, which goes with a page that is sent and with no other points."""
+    """It has about sixty towns, with lengths in kilometres, and their coast, which isn't drawn for other points."""
     page = Page.opened()
     is_so((50 <= int(page.text("points")) <= 70, page.text("total").endswith(" km")), (True, True))
     picture = page.saved("picture.svg")
@@ -178,7 +185,7 @@ def the_example_is_real(_room):
     rows = [it.split(",") for it in page.saved("clusters.csv").decode().splitlines()[1:]]
     sides = {row[0]: row[3] for row in rows}
     is_so(({sides[it] for it in ("London", "Cardiff", "Inverness")}, {sides[it] for it in ("Dublin", "Belfast", "Cork")}), ({"1"}, {"2"}))
-    # as the Ordnance Surveys have them
+    # (published coordinates of four of them)
     places = {row[0]: (float(row[1]), float(row[2])) for row in rows}
     for town, east, north in [("London", -0.13, 51.51), ("Belfast", -5.93, 54.60), ("Aberdeen", -2.09, 57.15), ("Galway", -9.05, 53.27)]:
         is_so((town, abs(places[town][0] - east) < 0.05, abs(places[town][1] - north) < 0.05), (town, True, True))
@@ -186,7 +193,7 @@ def the_example_is_real(_room):
     is_so(page.saved("picture.svg").count(b'fill="#f1eee6"'), 0)
 
 
-# how many colours a part of the picture has, and how dark its pixels are, the darkest first
+# the number of colours in a part of the picture, and of those with more than 30 pixels
 SEEN = """
 const canvas = document.getElementById('picture'), { data } = canvas.getContext('2d').getImageData(0, 100, 990, 600), colours = new Map();
 for (const word of new Uint32Array(data.buffer)) colours.set(word, (colours.get(word) || 0) + 1);
@@ -196,7 +203,7 @@ return [colours.size, [...colours].filter(([, count]) => count > 30).length];
 
 @case
 def many_points_are_drawn_smoothly(_room):
-    """Lines have soft edges above 4,000 points too, and a million points show where they are dense."""
+    """Lines have soft edges above 4,000 points too, and 300,000 points show their density."""
     page = Page.opened()
     page.drop(("points.csv", drawn_points(21, 5000)[1]))
     page.set("clusters", 1)

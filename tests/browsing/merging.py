@@ -1,4 +1,4 @@
-"""Merges of clusters: the module's in Node beside scipy's single linkage, and the page's dendrogram that shows them."""
+"""Merges of clusters: the module's in Node, compared with scipy's single linkage, and the page's dendrogram."""
 import csv
 import io
 import json
@@ -7,24 +7,24 @@ import random
 import subprocess
 import sys
 
-from browsing.node import links_in, told_by_node
+from browsing.node import links_in, results_by_node
 from browsing.page import Page, arcs_of, clusters_of, is_same_partition, is_so, quick
 from browsing.reach import MOST_POINTS, MOST_STEP, own_time
 from cases.running import Skipped, case, file_of, forest_of
 
-# It answers the merges of the links as they come, or a refusal; whether the links are as before; the links of their forest, and
-# its merges by the module and by the script that stands in for it.
+# For each graph: the merges of its links as given, or an error; whether the links are unchanged; the forest; and the forest's
+# merges by the module and by kruskal.js.
 MERGES = """
 const rowsOut = merges => Array.from({ length: merges.length / 3 }, (_, i) => [...merges.subarray(3 * i, 3 * i + 3)]);
 for (const { n, links } of given) {
-    const before = String(links), ofLinks = told(() => rowsOut(mergesOfLinks(module, n, links))), isKept = String(links) === before;
-    const forest = told(() => forestOfLinks(module, n, links)), isFound = forest instanceof Uint32Array;
+    const before = String(links), ofLinks = tried(() => rowsOut(mergesOfLinks(module, n, links))), isKept = String(links) === before;
+    const forest = tried(() => forestOfLinks(module, n, links)), isFound = forest instanceof Uint32Array;
     const [proved, unproved] = isFound ? [mergesOfLinks(module, n, forest), mergesByKruskal(n, forest)].map(rowsOut) : [[], []];
     console.log(JSON.stringify({ ofLinks, isKept, forest: isFound ? linksOut(forest) : forest, proved, unproved }));
 }
 """
-# What scipy's documents show of `scipy.cluster.hierarchy.single`: twelve points in four corners, their heights, and the flat
-# clusters at a distance of 1.
+# The example in scipy's documentation of `scipy.cluster.hierarchy.single`: twelve points in four corners, their heights, and the
+# flat clusters at a distance of 1.
 CORNERS = [(0, 0), (0, 1), (1, 0), (0, 4), (0, 3), (1, 4), (4, 0), (3, 0), (4, 1), (4, 4), (3, 4), (4, 3)]
 CORNER_HEIGHTS = [1.0] * 8 + [2.0] * 3
 CORNER_CLUSTERS = [3, 3, 3, 4, 4, 4, 2, 2, 2, 1, 1, 1]
@@ -32,7 +32,7 @@ LEFT, RIGHT, HOME, END = "\ue012", "\ue014", "\ue011", "\ue010"
 
 
 def by_scipy(script, given):
-    """What a script over `given` tells as JSON, with scipy; it finds `hierarchy` and `numpy`."""
+    """The JSON that a script prints. It can use `given`, and scipy's `hierarchy` and `numpy`."""
     python = "/usr/bin/python3" if os.path.exists("/usr/bin/python3") else sys.executable
     head = "import json, sys, numpy; from scipy.cluster import hierarchy; given = json.load(sys.stdin)\n"
     ended = subprocess.run([python, "-c", head + script], input=json.dumps(given), capture_output=True, text=True, check=False)
@@ -43,15 +43,15 @@ def by_scipy(script, given):
 
 
 def merges_of(room, graphs):
-    """What Node tells of graphs, each its vertices and arcs (u, v, weight)."""
-    found = told_by_node(room, MERGES, [(n, arcs, "") for n, arcs in graphs])
+    """The result of the script above for graphs, each given by its number of vertices and its edges (u, v, weight)."""
+    found = results_by_node(room, MERGES, [(n, arcs, "") for n, arcs in graphs])
     for it in found:
         it["forest"] = links_in(it["forest"])
     return found
 
 
 def rows_of(n, links):
-    """The merges of links (weight, low, high), by sets of vertices."""
+    """The merges of edges (weight, low, high), computed with sets of vertices."""
     clusters, rows = {v - 1: {v} for v in range(1, n + 1)}, []
     for i, (_, low, high) in enumerate(links):
         first, second = sorted(name for name, points in clusters.items() if points & {low, high})
@@ -66,13 +66,13 @@ def all_pairs(draw, n, most):
 
 @case
 def worked_merges_in_node(room):
-    """By hand: with equal weights, of several trees, with ends either way, of no, one and two points."""
+    """Merges computed by hand: equal weights, several trees, endpoints in either order, and zero, one and two points."""
     small = [(2, 5, 0), (3, 4, 0), (3, 5, 0), (4, 6, 3), (1, 3, 10)]
     worked = [
         (6, small, [[1, 4, 2], [2, 3, 2], [6, 7, 4], [5, 8, 5], [0, 9, 6]]),
-        # in another ascending order, and with ends the other way
+        # in another order of equal weights, and with swapped endpoints
         (6, [(5, 3, 0), (5, 2, 0), (4, 3, 0), (6, 4, 3), (3, 1, 10)], [[2, 4, 2], [1, 6, 3], [3, 7, 4], [5, 8, 5], [0, 9, 6]]),
-        # its first two links alone: four trees
+        # only the first two edges: four trees
         (6, small[:2], [[1, 4, 2], [2, 3, 2]]),
         (7, [(1, 2, -9), (4, 5, -9), (2, 3, 2**62), (6, 4, 2**63 - 1)], [[0, 1, 2], [3, 4, 2], [2, 7, 3], [5, 8, 3]]),
         (2, [(1, 2, -(2**63))], [[0, 1, 2]]),
@@ -87,7 +87,7 @@ def worked_merges_in_node(room):
 
 @case
 def merges_of_drawn_forests_in_node(room):
-    """They are those that sets of vertices find, of one tree and of several; and so are the stand-in's."""
+    """The module and kruskal.js find the same merges as sets of vertices, for one tree and for several."""
     draw, graphs = random.Random(18), []
     for _ in range(80):
         n = draw.choice([1, 2, 3, 8, 60, 300])
@@ -96,7 +96,7 @@ def merges_of_drawn_forests_in_node(room):
         is_so(found["forest"], forest_of(n, arcs))
         wanted = rows_of(n, found["forest"])
         is_so((found["proved"] == wanted, found["unproved"] == wanted), (True, True))
-    # past the size of each inner piece: a line, whose merges are told by hand, and a drawn graph
+    # larger than each internal block: a path, whose merges are known, and a random graph
     n = 100_000
     line, drawn = merges_of(room, [(n, [(v, v + 1, v) for v in range(1, n)]), (n, [(draw.randint(1, n), draw.randint(1, n), draw.randint(0, 99)) for _ in range(2 * n)])])
     is_so(line["ofLinks"] == [[0, 1, 2]] + [[v, n + v - 2, v + 1] for v in range(2, n)], True)
@@ -106,19 +106,19 @@ def merges_of_drawn_forests_in_node(room):
 
 @case
 def merges_in_node_are_single_linkage(room):
-    """With weights for heights they are what scipy finds from all distances: row by row where no two are equal, and where some
-    are by the height at which any two points come together."""
+    """The merges agree with scipy's: row by row if no two distances are equal, and otherwise by the height at which any two
+    points are joined."""
     draw = random.Random(19)
     graphs = [(n, all_pairs(draw, n, most)) for n in (2, 3, 12, 70) for most in (0, 2, 40, 10**12)]
     found = [[[first, second, height, size] for (first, second, size), (height, *_) in zip(it["proved"], it["forest"], strict=True)] for it in merges_of(room, graphs)]
     script = """
-told = []
+rows = []
 for (n, weights), ours in given:
     theirs, ours = hierarchy.linkage(numpy.array(weights, float), 'single'), numpy.array(ours, float)
     isSame = numpy.array_equal(hierarchy.cophenet(ours), hierarchy.cophenet(theirs))
     hasSameRows = numpy.array_equal(ours, theirs) or len(set(weights)) < len(weights)
-    told.append([bool(hierarchy.is_valid_linkage(ours)), isSame, hasSameRows])
-print(json.dumps(told))
+    rows.append([bool(hierarchy.is_valid_linkage(ours)), isSame, hasSameRows])
+print(json.dumps(rows))
 """
     # scipy takes the pairs in the order (1, 2), (1, 3), ..
     given = [((n, [w for _, _, w in sorted(arcs)]), ours) for (n, arcs), ours in zip(graphs, found)]
@@ -129,24 +129,24 @@ print(json.dumps(told))
 @case
 def mistakes_of_merges_in_node(room):
     mistakes = [
-        # not ascending, at the end of a long list too
+        # not ascending, also at the end of a long list
         (3, [(1, 2, 5), (2, 3, 4)], "links aren't sorted by weight"),
         (3, [(1, 2, 0), (2, 3, -1)], "links aren't sorted by weight"),
         (1000, [(v, v + 1, v % 999) for v in range(1, 1000)], "links aren't sorted by weight"),
-        # all links, and not those of the forest alone
+        # all edges instead of those of the forest
         (3, [(1, 2, 1), (2, 3, 1), (1, 3, 1)], "links contain a cycle"),
         (2, [(1, 2, 3), (2, 1, 3)], "links contain a cycle"),
         (2, [(2, 2, 3)], "links contain a cycle"),
-        # both: the cycle is told first
+        # both errors: the cycle is reported first
         (3, [(1, 2, 3), (2, 3, 2), (1, 3, 1)], "links contain a cycle"),
-        # vertices from 0 on, or another number of them
+        # vertices numbered from 0, or another number of them
         (3, [(0, 1, 1), (1, 2, 1)], "an endpoint isn't a vertex"),
         (2, [(1, 3, 1)], "an endpoint isn't a vertex"),
         (0, [(1, 1, 1)], "an endpoint isn't a vertex"),
         (2**26 + 1, [], "too many vertices"),
     ]
     found = merges_of(room, [(n, arcs) for n, arcs, _ in mistakes])
-    is_so([(it["ofLinks"], it["isKept"]) for it in found], [(told, True) for *_, told in mistakes])
+    is_so([(it["ofLinks"], it["isKept"]) for it in found], [(error, True) for *_, error in mistakes])
 
 
 def linkage_of(page):
@@ -158,7 +158,7 @@ def numbers_of(page):
 
 
 def line_of(page):
-    """What a screen reader is told of the dendrogram's line: the fewest and most clusters, how many now, and a text."""
+    """The cut as screen readers get it: the least, the greatest and the current number of clusters, and a text."""
     return page.browser.run("const it = document.getElementById('dendrogram'); return [it.ariaValueMin, it.ariaValueMax, it.ariaValueNow, it.ariaValueText]")
 
 
@@ -170,7 +170,7 @@ def press(page, *keys):
 
 @case
 def the_dendrogram_of_scipys_corners(_room):
-    """Its line moves by keys from height to height, and never parts equal ones."""
+    """Keys move the cut from height to height. It never separates equal heights."""
     text = "".join(f"{x},{y}\n" for x, y in [("x", "y"), *CORNERS]).encode()
     for scheme, width, height in [("light", 1280, 800), ("dark", 390, 844)]:
         page = Page.opened(width=width, height=height, scheme=scheme)
@@ -178,17 +178,17 @@ def the_dendrogram_of_scipys_corners(_room):
         if width < 500:
             page.click("tree")
         is_so([it[2] for it in linkage_of(page)], CORNER_HEIGHTS)
-        # it begins where the heights leap most
-        is_so(line_of(page), ["1", "12", "4", "4 clusters, joined up to 1"])
+        # it begins at the largest jump of heights
+        is_so(line_of(page), ["1", "12", "4", "4 clusters, merged up to 1"])
         is_same_partition(numbers_of(page), CORNER_CLUSTERS)
         page.keep(f"corners_{scheme}")
-        told = []
+        texts = []
         for key in (LEFT, LEFT, RIGHT, RIGHT, RIGHT, HOME, END):
             press(page, key)
-            told.append(line_of(page)[2:])
-        one, four, twelve = ["1", "1 cluster, joined up to 2"], ["4", "4 clusters, joined up to 1"], ["12", "12 clusters"]
-        is_so(told, [one, one, four, twelve, twelve, one, twelve])
-        # from between equal heights to one end of them, or the other
+            texts.append(line_of(page)[2:])
+        one, four, twelve = ["1", "1 cluster, merged up to 2"], ["4", "4 clusters, merged up to 1"], ["12", "12 clusters"]
+        is_so(texts, [one, one, four, twelve, twelve, one, twelve])
+        # from between equal heights to below or above them
         for key, wanted in [(LEFT, four), (RIGHT, twelve)]:
             page.set("clusters", 7)
             press(page, key)
@@ -198,21 +198,21 @@ def the_dendrogram_of_scipys_corners(_room):
 
 @case
 def the_dendrogram_of_several_trees(_room):
-    """A graph of three trees is cut into three clusters at least; its merges are those that sets find."""
+    """A graph of three trees has at least three clusters, and its merges are those of the sets of vertices."""
     page, draw = Page.opened(), random.Random(20)
     page.drop(("trees.gr", b"p sp 7 5\na 1 2 -9\na 4 5 -9\na 2 3 4\na 6 4 4\na 3 1 7\n"))
     is_so(linkage_of(page), [[0, 1, -9, 2], [3, 4, -9, 2], [2, 7, 4, 3], [5, 8, 4, 3]])
-    told = []
+    texts = []
     for key in (HOME, RIGHT, RIGHT, LEFT, LEFT):
         press(page, key)
-        told.append((line_of(page), numbers_of(page)))
-    joined, apart = ["3", "7", "3", "3 clusters, joined up to 4"], ["3", "7", "5", "5 clusters, joined up to −9"]
-    is_so(told[0], (joined, [1, 1, 1, 2, 2, 2, 3]))
-    is_so(told[1], (apart, [1, 1, 3, 2, 2, 4, 5]))
-    is_so(told[2], (["3", "7", "7", "7 clusters"], [1, 2, 3, 4, 5, 6, 7]))
-    is_so((told[3], told[4]), (told[1], told[0]))
+        texts.append((line_of(page), numbers_of(page)))
+    joined, apart = ["3", "7", "3", "3 clusters, merged up to 4"], ["3", "7", "5", "5 clusters, merged up to −9"]
+    is_so(texts[0], (joined, [1, 1, 1, 2, 2, 2, 3]))
+    is_so(texts[1], (apart, [1, 1, 3, 2, 2, 4, 5]))
+    is_so(texts[2], (["3", "7", "7", "7 clusters"], [1, 2, 3, 4, 5, 6, 7]))
+    is_so((texts[3], texts[4]), (texts[1], texts[0]))
     page.keep("trees")
-    # doubles would round these heights
+    # (doubles would round these heights)
     page.drop(("far.gr", b"p sp 3 2\na 1 2 9007199254740993\na 2 3 -9007199254740993\n"))
     is_so(page.saved("linkage.csv"), b"1,2,-9007199254740993,2\n0,3,9007199254740993,3\n")
     for n, m in [(60, 40), (60, 200)]:
@@ -233,16 +233,16 @@ def the_dendrogram_of_no_one_and_two_points(_room):
     is_so((page.browser.run(label), line_of(page), page.saved("linkage.csv")), ("Dendrogram: no merges yet", ["1", "1", "1", "1 cluster"], b""))
     page.drop(("two.csv", b"x,y\n0,0\n3,4\n"))
     is_so((page.browser.run(label), page.saved("linkage.csv")), ("Dendrogram. The heaviest merges are at 5.", b"0,1,5,2\n"))
-    told = []
+    texts = []
     for key in (HOME, RIGHT, LEFT):
         press(page, key)
-        told.append(line_of(page))
-    joined = ["1", "2", "1", "1 cluster, joined up to 5"]
-    is_so(told, [joined, ["1", "2", "2", "2 clusters"], joined])
+        texts.append(line_of(page))
+    joined = ["1", "2", "1", "1 cluster, merged up to 5"]
+    is_so(texts, [joined, ["1", "2", "2", "2 clusters"], joined])
     page.expect(points="2", size="1")
 
 
-# drags the line over the dendrogram in thirty steps, each drawn, and answers how many clusters there were at each
+# drags the cut over the dendrogram in thirty drawn steps, and returns the number of clusters at each
 DRAG = """
 return (async () => {
     const it = document.getElementById('dendrogram'), box = it.getBoundingClientRect(), counts = [];
@@ -262,7 +262,7 @@ return (async () => {
 
 @case
 def the_dendrogram_of_a_hundred_thousand_points(_room):
-    """It is dragged from all joined to all apart, and each cut's clusters are those of the links up to its height."""
+    """The cut is dragged from one cluster to all points. Its clusters are those of the edges up to its height."""
     page = Page.opened()
     page.browser.run("document.getElementById('count').value = arguments[0]; document.getElementById('random').click()", MOST_POINTS)
     page.settle()

@@ -1,4 +1,4 @@
-"""The page in a browser, served on this machine, and what it shows and saves."""
+"""The page in Chromium, from a local server: what it shows and saves."""
 import base64
 import functools
 import http.server
@@ -28,8 +28,18 @@ for (const kind of ['input', 'change']) it.dispatchEvent(new Event(kind, { bubbl
 """
 
 
+# (the page's own listener runs before this one)
+ANSWER = """
+const dialog = document.getElementById(arguments[0]);
+return new Promise(done => {
+    dialog.addEventListener('close', () => setTimeout(done), { once: true });
+    dialog.querySelector(`button[value='${arguments[1]}']`).click();
+});
+"""
+
+
 class Quiet(http.server.SimpleHTTPRequestHandler):
-    """Files of a folder, which the browser asks for each time, without a word about it."""
+    """Serves the files of a folder, without caching and without a log."""
 
     def end_headers(self):
         self.send_header("Cache-Control", "no-store")
@@ -40,30 +50,30 @@ class Quiet(http.server.SimpleHTTPRequestHandler):
 
 
 class Server(http.server.ThreadingHTTPServer):
-    """One that tells nothing of a request that the browser breaks off, as when a worker is stopped."""
+    """A server that ignores aborted requests, as when a worker is stopped."""
 
     def handle_error(self, *request):
         if not isinstance(sys.exc_info()[1], ConnectionError):
             super().handle_error(*request)
 
 
-def quick(is_so, told):
-    """What is told of a time. A slow one fails with --strict: else the machine may have other work, and it is only told."""
-    if is_so:
-        return told
+def quick(is_quick, note):
+    """The note about a time. A slow time fails with --strict. Otherwise the machine may be busy, and the note says `slow`."""
+    if is_quick:
+        return note
     if Page.strict:
-        raise AssertionError(told)
-    return f"slow: {told}"
+        raise AssertionError(note)
+    return f"slow: {note}"
 
 
 def large():
-    """What follows takes minutes and much memory."""
+    """Skips a case that takes minutes and much memory, unless --strict is given."""
     if not Page.strict:
         raise Skipped("large inputs are left to `make web-test`")
 
 
 class Page:
-    """One browser and one server for all cases. Each case has the page anew."""
+    """One browser and one server for all cases. Each case opens the page again."""
 
     module = f"{ROOT}/crates/boruvka_within/out/boruvka.wasm"
     pictures = None
@@ -91,7 +101,7 @@ class Page:
 
     @classmethod
     def opened(cls, more="", **looks):
-        """The page as it begins, at its address with `more`. It looks as `look` is told."""
+        """Opens the page at its address with `more`. The other arguments go to `look`."""
         cls.now = cls.now or cls()
         page = cls.now
         for name in os.listdir(page.browser.downloads):
@@ -103,7 +113,7 @@ class Page:
         return page
 
     def look(self, width=1280, height=800, scheme="light", motion="reduce", sharp=1):
-        """Sets the window's size in points, light or dark, and whether much may move."""
+        """Sets the size of the window, the colour scheme, and whether the user prefers less motion."""
         self.browser.devtools("Emulation.setDeviceMetricsOverride", width=width, height=height, deviceScaleFactor=sharp, mobile=width < 500)
         features = [{"name": "prefers-color-scheme", "value": scheme}, {"name": "prefers-reduced-motion", "value": motion}]
         self.browser.devtools("Emulation.setEmulatedMedia", features=features)
@@ -125,7 +135,7 @@ class Page:
             cls.now = None
 
     def settle(self, seconds=SECONDS):
-        """Waits until all is done that was begun, and drawn."""
+        """Waits until the page is idle and the picture is drawn."""
         self.browser.wait("document.body?.ariaBusy === 'false'", seconds=seconds)
         self.browser.wait("document.getElementById('picture').ariaBusy !== 'true'", seconds=seconds)
 
@@ -146,11 +156,11 @@ class Page:
     def shown(self, *names):
         return [self.text(it) for it in names or SHOWN]
 
-    def refusal(self):
-        """What was refused: its line and kind, and what is there. The page's words don't have the kind."""
-        kind, line, what = self.browser.run("const { kind, line, what } = document.getElementById('fault').dataset; return [kind, line, what]")
-        if kind and kind in self.text("fault"):
-            raise AssertionError(f"an internal name is shown: {self.text('fault')}")
+    def error(self):
+        """The current error as `line N: kind (value)`. The text on the page must not contain the kind."""
+        kind, line, what = self.browser.run("const { kind, line, what } = document.getElementById('error').dataset; return [kind, line, what]")
+        if kind and kind in self.text("error"):
+            raise AssertionError(f"an internal name is shown: {self.text('error')}")
         return f"{f'line {line}: ' if line not in ('0', '', None) else ''}{kind}{f' ({what})' if what else ''}"
 
     def ask(self, *files):
@@ -159,8 +169,8 @@ class Page:
         self.browser.wait("document.querySelector('dialog[open]')", seconds=10)
 
     def answer(self, dialog, value="take"):
-        """Presses a button of a dialog."""
-        self.browser.run("document.querySelector(`#${arguments[0]} button[value='${arguments[1]}']`).click()", dialog, value)
+        """Presses a button of a dialog, and waits until the page has handled it."""
+        self.browser.run(ANSWER, dialog, value)
         self.settle()
 
     def drop(self, *files, seconds=SECONDS):
@@ -169,7 +179,7 @@ class Page:
         self.settle(seconds)
 
     def saved(self, name):
-        """What is saved by a person's click: a page may save ten files by itself."""
+        """The file that a button saves. It is pressed by the driver, because scripts may save only ten files."""
         self.click("save")
         self.browser.click(f"save-{name.replace('.', '-')}")
         self.settle()
@@ -178,21 +188,21 @@ class Page:
         return content
 
     def frames(self):
-        """Waits until what was asked for is told and drawn."""
+        """Waits for two frames, and then until the page is idle."""
         self.browser.run("return new Promise(done => requestAnimationFrame(() => requestAnimationFrame(done)))")
         self.settle()
 
     def keep(self, name):
-        """Takes a picture, to look at."""
+        """Takes a screenshot if --pictures is given."""
         if self.pictures:
             os.makedirs(self.pictures, exist_ok=True)
             self.browser.picture(f"{self.pictures}/{name}.png")
 
     def expect(self, **wanted):
-        """It shows this, and has told of no fault and no error."""
+        """Checks these texts, and that there is neither an error on the page nor one in the log."""
         self.frames()
         is_so(dict(zip(wanted, self.shown(*wanted))), wanted)
-        is_so((self.text("fault"), self.browser.complaints()), ("", []))
+        is_so((self.text("error"), self.browser.complaints()), ("", []))
 
 
 def is_so(found, wanted):
@@ -201,14 +211,14 @@ def is_so(found, wanted):
 
 
 def arcs_of(text):
-    """The vertices of a .gr text, and its arcs (U, V, W)."""
+    """The number of vertices of a .gr text, and its arcs (U, V, W)."""
     rows = [it.split() for it in text.decode().splitlines()]
     (n,) = [int(it[2]) for it in rows if it and it[0] == "p"]
     return n, [tuple(map(int, it[1:])) for it in rows if it and it[0] == "a"]
 
 
 def forest_by_program(text):
-    """The text of the forest of a .gr text that the program writes; if it isn't built, by Kruskal's algorithm."""
+    """The program's forest of a .gr text, or that of Kruskal's algorithm if the program isn't built."""
     if os.access(Program.path, os.X_OK):
         status, output, errors = ran(["--plain"], text)
         is_so((status, errors), (0, b""))
@@ -218,7 +228,7 @@ def forest_by_program(text):
 
 
 def clusters_of(forest, count):
-    """Of each vertex of a forest's text the number of its cluster, if so many are left: the largest first, by size alone."""
+    """A label of the cluster of each vertex, if the forest in this text is cut into `count` clusters."""
     n, arcs = arcs_of(forest)
     components = Components(n)
     for u, v, _ in arcs[: n - count]:
@@ -227,14 +237,14 @@ def clusters_of(forest, count):
 
 
 def is_same_partition(found, wanted):
-    """These two number the same clusters."""
+    """Checks that both lists of labels describe the same clusters."""
     is_so(len(found), len(wanted))
     pairs = set(zip(found, wanted))
     is_so((len(pairs), len(pairs)), (len(set(found)), len(set(wanted))))
 
 
 def drawn_points(seed, n, most=1000):
-    """The text of n points, some of them the same."""
+    """n random points, some of them equal, and their table."""
     draw = random.Random(seed)
     rows = [(draw.randint(0, 10 * most) / 10, draw.randint(0, 10 * most) / 10) for _ in range(n)]
     for i in range(0, n, 50):

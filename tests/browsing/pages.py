@@ -1,4 +1,4 @@
-"""How the page begins, over a server and from a file, what it carries, and where it can't."""
+"""How the page begins, from a server and from a file, and the data that it and its address contain."""
 import base64
 import gzip
 import hashlib
@@ -13,13 +13,13 @@ from browsing.page import Page, forest_by_program, is_so
 from cases.running import ROOT, SMALL_FOREST, SMALL_NET, Skipped, case
 
 MOST_BYTES = 200_000
-# one that has numpy, if there is one
+# the system's Python may have numpy
 PYTHON = "/usr/bin/python3" if os.path.exists("/usr/bin/python3") else sys.executable
 TOWNS = f"{ROOT}/python/examples/towns.csv"
 
 
 def packed_page(room, name="boruvka.html", data=None):
-    """The packed page as a file, perhaps with a file's name and bytes inside."""
+    """Writes the packed page, optionally with a file's name and bytes inside."""
     path = f"{room}/a folder/{name}"
     subprocess.run([sys.executable, f"{ROOT}/tools/page.py", Page.module, path], check=True)
     if data:
@@ -34,7 +34,7 @@ def packed_page(room, name="boruvka.html", data=None):
 
 
 def address_of(text):
-    """What follows the page's address to carry this table."""
+    """The end of an address that contains this table."""
     packer = zlib.compressobj(9, zlib.DEFLATED, -15)
     return "#d=" + base64.urlsafe_b64encode(packer.compress(text) + packer.flush()).decode().rstrip("=")
 
@@ -82,7 +82,7 @@ return Promise.all(tried).then(all => [all, window.ran === true, broken.sort()])
 
 @case
 def nothing_comes_from_elsewhere(room):
-    """Nothing is asked for, and the policy stops what would be."""
+    """The page makes no request to other hosts, and its policy blocks them."""
     page = Page.opened()
     page.click("random")
     found = page.browser.run("return performance.getEntriesByType('resource').map(it => it.name)")
@@ -117,7 +117,7 @@ def the_packed_page_works_from_a_file(room):
 
 @case
 def the_card_names_what_runs(room):
-    """The sums of the packed page's parts, and other ones where a part is another."""
+    """The card has the checksums of the parts of the packed page. A changed part has another checksum."""
     sum_of, page, path = lambda it: hashlib.sha256(it).hexdigest(), Page.opened(), packed_page(room)
     with open(Page.module, "rb") as it:
         module = sum_of(it.read())
@@ -153,7 +153,7 @@ def data_inside_of_the_page(room):
 
 @case
 def points_that_python_shows(room):
-    """The file that the Python package writes is the page with the points, their names and kilometres. (Latitudes come first.)"""
+    """The Python package writes the page with points and names. On the globe, latitudes come first and lengths are kilometres."""
     page, packed = Page.opened(), packed_page(room)
     for more, total in [({}, "12.81025"), ({"globe": True}, "1,422.158 km")]:
         given = {"points": [[0, 0], [3, 4], [9, 9]], "names": ["</script>", "b", 'c"']}
@@ -184,7 +184,7 @@ def data_in_the_address(_room):
     page = Page.opened(link[len(page.address) :])
     page.expect(points="2", total="5")
     is_so(page.saved("clusters.csv"), b"name,x,y,cluster\none,0,0,1\ntwo,3,4,1\n")
-    # so large a double is read again as itself, 2^60
+    # the double 2^60 is read again exactly
     page.click("save")
     page.click("copylink")
     page.browser.wait("document.getElementById('copied').checkVisibility()")
@@ -199,7 +199,7 @@ def data_in_the_address(_room):
 
 @case
 def the_address_has_what_is_shown(room):
-    """Who opens other points than the link's has no link any more: a reload, or the address passed on, brought those back."""
+    """When other points are opened, the address loses its points, so that nobody shares or reloads the wrong ones."""
     more = address_of(b"x,y\n0,0\n3,4\n")
     for begin in (None, f"file://{packed_page(room)}"):
         page = Page.opened(more if begin is None else "")
@@ -222,25 +222,25 @@ def the_address_has_what_is_shown(room):
 
 @case
 def data_too_long_for_the_address(_room):
-    """No link is copied that the page refuses: here of 5,000 points with long names."""
+    """The page copies no address that it would reject, as for 5,000 points with long names."""
     page = Page.opened()
     for name in (lambda v: hashlib.sha512(b"%d" % v).hexdigest(), lambda v: f"{v}" + "ツ" * 190):
         page.drop(("named.csv", "".join(["name,x,y\n", *(f"{name(v)},{v},{v % 7}\n" for v in range(5000))]).encode()))
         page.expect(points="5,000")
         page.click("save")
         page.click("copylink")
-        page.browser.wait("document.getElementById('fault').textContent")
-        is_so((page.refusal(), page.value("copied")), ("LongAddress", ""))
-        # no dialog lies over what is told
+        page.browser.wait("document.getElementById('error').textContent")
+        is_so((page.error(), page.value("copied")), ("LongAddress", ""))
+        # no dialog covers the error
         is_so(page.browser.run("return document.getElementById('saving').open"), False)
-        # nor does it stay after what goes well
+        # the next success hides the error
         page.saved("forest.csv")
-        is_so(page.text("fault"), "")
+        is_so(page.text("error"), "")
 
 
 @case
-def addresses_that_are_no_data(_room):
-    for more, told in [
+def bad_addresses(_room):
+    for more, error in [
         ("#d=%%%", "BadAddress"),
         ("#d=AAAA", "BadAddress"),
         (address_of(b"1,2\n")[:-3], "BadAddress"),
@@ -250,12 +250,12 @@ def addresses_that_are_no_data(_room):
         (address_of(b"x,y\n"), "NoPoint"),
     ]:
         page = Page.opened(more)
-        is_so((page.refusal()[: len(told)], page.text("points")), (told, "0"))
+        is_so((page.error()[: len(error)], page.text("points")), (error, "0"))
     page.browser.complaints()
-    # where the page is open already
+    # while the page is open
     page = Page.opened()
     page.browser.run("location.hash = '#d=AAAA'")
-    page.browser.wait("document.getElementById('fault').dataset.kind === 'BadAddress'", seconds=5)
+    page.browser.wait("document.getElementById('error').dataset.kind === 'BadAddress'", seconds=5)
     is_so((page.text("points"), page.browser.complaints()), ("67", []))
 
 
@@ -265,14 +265,14 @@ def an_embedded_page_has_no_controls(_room):
     shown = "return ['head', 'side', 'bar'].filter(it => document.getElementById(it).checkVisibility())"
     is_so((page.browser.run(shown), page.text("points")), ([], "3"))
     page.keep("embed")
-    # but it says why it shows nothing
+    # but it shows errors
     page = Page.opened("?embed#d=AAAA")
-    is_so((page.browser.run(shown), page.refusal()), (["head"], "BadAddress"))
+    is_so((page.browser.run(shown), page.error()), (["head"], "BadAddress"))
 
 
 @case
 def a_browser_without_memory64(_room):
-    """The same forests and merges by JavaScript, and the page says that this isn't proved."""
+    """JavaScript computes the same forests and merges, and the page says that it isn't proved."""
     page = Page.opened()
     is_so((page.text("by"), page.browser.run("return document.getElementById('unproved').hidden")), ("proved code", True))
     wanted = page.shown(), page.saved("forest.gr"), page.saved("linkage.csv")
@@ -297,7 +297,7 @@ def a_page_without_its_module_says_so(_room):
     try:
         page.browser.open(page.address)
         page.browser.wait("document.body?.ariaBusy === 'false'")
-        is_so(page.text("fault"), "boruvka.wasm is missing beside this page.")
+        is_so(page.text("error"), "The file boruvka.wasm is missing. It belongs next to this page.")
     finally:
         os.rename(f"{module}.away", module)
         page.browser.complaints()

@@ -1,5 +1,4 @@
-"""What people have: points with noise, headers of all kinds, files of other programs; and that the order of rows changes
-nothing."""
+"""Real data: points with noise, headers of all kinds, and files of other programs. The order of rows doesn't matter."""
 import collections
 import csv
 import io
@@ -39,7 +38,7 @@ def on_a_moon(draw, x, y, begin, n):
 
 
 def sets(draw):
-    """Eight sets of points, each with the number of clusters that a person would say."""
+    """Eight sets of points, each with the number of clusters that a person sees."""
     three = [it for x, y in [(0, 0), (40, 5), (20, 40)] for it in blob(draw, x, y, 2, 300)]
     four = [it for x, y in [(0, 0), (100, 0), (0, 100), (110, 120)] for it in blob(draw, x, y, 6, 5000)]
     nine = [it for x in (0, 60, 120) for y in (0, 60, 120) for it in blob(draw, x, y, 3, 150)]
@@ -58,7 +57,7 @@ def sets(draw):
 
 @case
 def clusters_that_a_person_sees(_room):
-    """The first cut is where a person would make it: a point far off is no cluster, nor is each of many that lie anywhere."""
+    """At first, the page shows the clusters that a person sees. Single points far away, or scattered points, aren't clusters."""
     page, found = Page.opened(), []
     for name, points, _ in sets(random.Random(102)):
         page.drop(("points.csv", table_of(points)))
@@ -69,7 +68,7 @@ def clusters_that_a_person_sees(_room):
     is_so(found, [(name, wanted) for name, _, wanted in sets(random.Random(102))])
 
 
-# a table with a header that isn't known; what the dialog presets; and what is shown if that is taken
+# a table with an unknown header; the choice that the dialog presets; and the number of points and the total for it
 ASKED = [
     (b"lat_deg,lon_deg\n0,179.5\n0,-179.5\n", "globe", {"across": 1, "up": 0}, "2", "111.1949 km"),
     ("Breite;Länge\n0;179,5\n0;-179,5\n".encode(), "globe", {"across": 1, "up": 0}, "2", "111.1949 km"),
@@ -86,7 +85,7 @@ ASKED = [
 
 @case
 def headers_that_are_asked_about(_room):
-    """Two columns of numbers below words that aren't known are no x and y until somebody says so."""
+    """The dialog asks about columns with unknown names, and shows nothing until somebody answers."""
     page = Page.opened()
     for text, kind, roles, points, total in ASKED:
         page.drop(("square.csv", b"0,0\n1,0\n"))
@@ -95,7 +94,7 @@ def headers_that_are_asked_about(_room):
         is_so((text, {it: int(page.value(f"role-{it}")) for it in roles}), (text, roles))
         is_so(page.text("points"), "2")
         page.answer("columns")
-        is_so((text, page.text("fault")), (text, ""))
+        is_so((text, page.text("error")), (text, ""))
         page.expect(points=points, total=total)
 
 
@@ -116,27 +115,27 @@ def names_below_any_header(_room):
     page = Page.opened()
     for text, names in NAMED:
         page.drop(("named.csv", text.encode()))
-        is_so((text, page.text("fault"), page.browser.run(NAMES)), (text, "", names))
+        is_so((text, page.text("error"), page.browser.run(NAMES)), (text, "", names))
 
 
 @case
-def rows_that_lack_a_value(_room):
-    """They are left out if somebody says so: not in silence, and not by refusing the file. All columns are saved again."""
+def rows_without_a_value(_room):
+    """The dialog offers to leave them out. The saved table has all rows and columns."""
     page, text = Page.opened(), b"name,x,y\nA,0,0\nB,,\nC,3,4\nD,NA,7\n"
     page.ask(("towns.csv", text))
-    is_so(page.text("missingtold"), "2 of 4 rows lack a value. The first is in line 3, which has nothing there.")
+    is_so(page.text("missingtext"), "2 of 4 rows have no value. The first is in line 3, which has nothing there.")
     page.keep("missing")
     page.answer("missing", "")
-    is_so((page.text("fault"), page.text("points")), ("towns.csv: No rows were left out.", "67"))
+    is_so((page.text("error"), page.text("points")), ("towns.csv: No rows were left out.", "67"))
     page.ask(("towns.csv", text))
     page.answer("missing")
-    page.expect(points="2", total="5", notes="2 of 4 rows are left out: they lack a value. The first is in line 3.")
+    page.expect(points="2", total="5", notes="2 of 4 rows are left out: they have no value. The first is in line 3.")
     is_so(page.saved("clusters.csv"), b"name,x,y,cluster\nA,0,0,1\nB,,,\nC,3,4,1\nD,NA,7,\n")
     page.ask(("links.csv", b"source,target,weight\na,b,1\nb,c,\nc,d,2\n"))
-    is_so(page.text("missingtold"), "1 of 3 rows lacks a value. It is in line 3, which has nothing there.")
+    is_so(page.text("missingtext"), "1 of 3 rows has no value. It is in line 3, which has nothing there.")
     page.answer("missing")
     page.expect(points="4", size="2", total="3")
-    # a name may be NA, but no name may be nothing
+    # NA is a name, but an empty field isn't
     page.drop(("links.csv", b"source,target,weight\nNA,b,1\nb,-,3\n"))
     page.expect(points="3", total="4")
 
@@ -148,14 +147,14 @@ GPX = b"""<?xml version="1.0" encoding="UTF-8"?>
 KML = b"""<kml xmlns="http://www.opengis.net/kml/2.2"><Document><name>all</name>
 <Placemark><name><![CDATA[<b>one</b>]]></name><Point><coordinates> 179.5,0,12 </coordinates></Point></Placemark>
 <Placemark><name>two</name><Point><coordinates>-179.5,0</coordinates></Point></Placemark></Document></kml>"""
-# a file of other programs, what is shown of it, the note, and the first name
+# a file of another program; the number of points, the total, the note and the first name that the page shows
 OTHERS = [
     ("excel.csv", b"sep=;\nname;x;y\na;0;0\nb;3;4\n", "2", "5", "", "a"),
     ("comments.csv", b"# made today\n# by hand\nname,x,y\na,0,0\nb,3,4\n", "2", "5", "", "a"),
     ("comments.csv", b"name,x,y\na,0,0\n# half\nb,3,4\n", "2", "5", "Comments (#) between the rows are left out: 1.", "a"),
-    ("marked.csv", b"name,x,y\n#a,0,0\n#b,3,4\n", "2", "5", "Rows that begin with # are read as the others: 2.", "#a"),
+    ("marked.csv", b"name,x,y\n#a,0,0\n#b,3,4\n", "2", "5", "Rows that begin with # are read like the others: 2.", "#a"),
     ("bars.csv", b"name|x|y\na|0|0\nb|3|4\n", "2", "5", "", "a"),
-    ("windows.csv", "name,x,y\nZürich,0,0\nŒuvre €,3,4\n".encode("cp1252"), "2", "5", "Letters are read as Windows-1252: ‘Zürich’.", "Zürich"),
+    ("windows.csv", "name,x,y\nZürich,0,0\nŒuvre €,3,4\n".encode("cp1252"), "2", "5", "The file is read as Windows-1252: ‘Zürich’.", "Zürich"),
     ("trip.gpx", GPX, "2", "111.1949 km", "Left out: 1 of the points of tracks.", "A & B"),
     ("places.kml", KML, "2", "111.1949 km", "", "<b>one</b>"),
 ]
@@ -164,13 +163,13 @@ OTHERS = [
 @case
 def files_of_other_programs(_room):
     page = Page.opened()
-    for name, text, points, total, told, first in OTHERS:
+    for name, text, points, total, note, first in OTHERS:
         page.drop((name, text))
-        is_so((name, page.text("fault"), page.text("points"), page.text("total"), page.text("notes")), (name, "", points, total, told))
+        is_so((name, page.text("error"), page.text("points"), page.text("total"), page.text("notes")), (name, "", points, total, note))
         is_so((name, page.browser.run(NAMES)[0]), (name, first))
     page.drop(("windows.csv", "name,x,y\nZürich,0,0\nB,3,4\n".encode("cp1252")))
     is_so(page.saved("clusters.csv").decode(), "name,x,y,cluster\nZürich,0,0,1\nB,3,4,1\n")
-    for name, text, told in [
+    for name, text, note in [
         ("bad.kml", b"<kml><Placemark><LineString><coordinates>1,2 3,4</coordinates></LineString></Placemark></kml>", "NoGeoPoint (place 1: LineString)"),
         ("bad.gpx", b"<gpx><wpt lat='1' lon='x'/></gpx>", "NoGeoPoint (point 1: no two numbers)"),
         ("bad.gpx", b"<gpx><wpt lat='1' lon='2'><name>a</wpt></gpx>", "BadXml (<name>)"),
@@ -181,10 +180,10 @@ def files_of_other_programs(_room):
         ("page.csv", b"<html><table><tr><td>1</table>", "WebPage"),
     ]:
         page.drop((name, text))
-        is_so((name, page.refusal()), (name, told))
+        is_so((name, page.error()), (name, note))
 
 
-# It reads { text } on each line, a table of links, and tells the forest: names of both ends, and the weight.
+# This script reads a table of edges on each line, and prints its forest: the names of both endpoints, and the weight.
 TABLES = """
 import { readFileSync } from 'node:fs';
 import { Source } from './sources.js';
@@ -193,9 +192,9 @@ import { forestByKruskal } from './kruskal.js';
 import { nameAt } from './names.js';
 import { putWeights, weightsOf } from './weights.js';
 for (const line of readFileSync(0, 'utf8').split('\\n').filter(Boolean)) {
-    const content = new TextEncoder().encode(JSON.parse(line)), { ends, weights, names } = await readTable(await Source.of({ name: 'links.csv', content }));
+    const content = new TextEncoder().encode(JSON.parse(line)), { endpoints, weights, names } = await readTable(await Source.of({ name: 'links.csv', content }));
     const links = new Uint32Array(4 * weights.length);
-    for (let i = 0; i < weights.length; i++) links.set([Math.min(ends[2 * i], ends[2 * i + 1]) + 1, Math.max(ends[2 * i], ends[2 * i + 1]) + 1], 4 * i + 2);
+    for (let i = 0; i < weights.length; i++) links.set([Math.min(endpoints[2 * i], endpoints[2 * i + 1]) + 1, Math.max(endpoints[2 * i], endpoints[2 * i + 1]) + 1], 4 * i + 2);
     putWeights(links, weights);
     const forest = forestByKruskal(names.ends.length - 1, links), heights = weightsOf(forest, false);
     console.log(JSON.stringify(Array.from(heights, (height, i) => [nameAt(names, forest[4 * i + 2] - 1), nameAt(names, forest[4 * i + 3] - 1), height])));
@@ -204,7 +203,7 @@ for (const line of readFileSync(0, 'utf8').split('\\n').filter(Boolean)) {
 
 
 def rank(name):
-    """Numbers first, as numbers, and texts by their code units (of UTF-16, big endian)."""
+    """A key for sorting names: numbers first, by value, then texts by their UTF-16 code units."""
     try:
         return (0, float(name), name.encode("utf-16-be"))
     except ValueError:
@@ -212,7 +211,7 @@ def rank(name):
 
 
 def forest_by_names(links):
-    """The forest of links (name, name, weight): lightest first, then by the lower name, then by the higher one."""
+    """The forest of edges (name, name, weight), ordered by weight, then by the lower name, then by the higher one."""
     names = sorted({it for u, v, _ in links for it in (u, v)}, key=rank)
     place = {name: i + 1 for i, name in enumerate(names)}
     components, found = Components(len(names)), []
@@ -224,7 +223,7 @@ def forest_by_names(links):
 
 @case
 def the_order_of_rows_changes_no_forest(room):
-    """200 drawn tables with many equal weights, each in three orders, with ends swapped: one forest, which Python finds too."""
+    """200 random tables with equal weights, each in three orders with swapped endpoints, have one forest each, as in Python."""
     node = shutil.which("node")
     if not node:
         raise Skipped("there is no node")
@@ -249,22 +248,22 @@ def the_order_of_rows_changes_no_forest(room):
 
 @case
 def the_smallest_cluster_is_chosen(_room):
-    """Which clusters are grey is for people to say."""
+    """The user chooses the size below which clusters are grey."""
     page = Page.opened()
     rows = [(x, 0) for x in range(981)] + [(5000 + x, 0) for x in range(9)] + [(9000 + x, 0) for x in range(10)]
     page.drop(("points.csv", table_of(rows)))
     page.set("clusters", 3)
-    is_so((page.value("smallest"), page.text("say")), ("10", "3 clusters, of 981, 10, 9; 1 of fewer than 10 is grey."))
-    for size, told in [(9, "3 clusters, of 981, 10, 9."), (11, "3 clusters, of 981, 10, 9; 2 of fewer than 11 are grey."), (1, "3 clusters, of 981, 10, 9.")]:
+    is_so((page.value("smallest"), page.text("say")), ("10", "3 clusters. Sizes: 981, 10, 9. 1 cluster smaller than 10 is grey."))
+    for size, note in [(9, "3 clusters. Sizes: 981, 10, 9."), (11, "3 clusters. Sizes: 981, 10, 9. 2 clusters smaller than 11 are grey."), (1, "3 clusters. Sizes: 981, 10, 9.")]:
         page.set("smallest", size)
-        is_so((page.value("smallest"), page.text("say")), (str(size), told))
+        is_so((page.value("smallest"), page.text("say")), (str(size), note))
     page.set("smallest", "")
-    is_so(page.text("say"), "3 clusters, of 981, 10, 9; 1 of fewer than 10 is grey.")
+    is_so(page.text("say"), "3 clusters. Sizes: 981, 10, 9. 1 cluster smaller than 10 is grey.")
 
 
 @case
 def properties_of_a_geojson_stay(_room):
-    """They are in what is saved, whatever they are, and their points are the same."""
+    """Saved files contain all properties and the same points."""
     page, draw = Page.opened(), random.Random(104)
     features = [
         {"type": "Feature", "properties": {"name": f"P{i}", "people": i * 1000, "tags": ["a", {"b": i}], "cluster": "mine", **({"note": 'x,"y"'} if i % 2 else {})},

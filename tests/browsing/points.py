@@ -1,4 +1,4 @@
-"""Points: set by the pen, drawn and read; their clusters and pictures."""
+"""Points of the pen, random points and points of files; their clusters and pictures."""
 import math
 import re
 import struct
@@ -13,18 +13,18 @@ GREY = "#807b72"
 
 
 def all_pairs(points):
-    """The arcs between all pairs of points, from 1 on, by their lengths."""
+    """The edges between all pairs of points, which are numbered from 1, sorted by length."""
     pairs = [(u, v) for v in range(len(points)) for u in range(v)]
     return sorted((u + 1, v + 1, math.dist(points[u], points[v])) for u, v in pairs)
 
 
 def lengths_in(forest):
-    """The lengths of a forest's text, whose weights are their bits."""
+    """The lengths in a forest's text, whose weights are bit patterns of doubles."""
     return [struct.unpack("d", struct.pack("q", it[2]))[0] for it in arcs_of(forest)[1]]
 
 
 def clicked():
-    """A page with these points, set by the pen."""
+    """A page with these points, added with the pen."""
     page = Page.cleared()
     page.click("pen")
     for number, (x, y) in enumerate(CLICKED, 1):
@@ -40,7 +40,7 @@ def clicked_points(_room):
     weights = [it[0] for it in forest_of(6, all_pairs(CLICKED))]
     total, heaviest = f"{sum(weights):.7g}", f"{weights[-1]:.7g}"
     page.set("clusters", 3)
-    page.expect(total=total, heaviest=heaviest, kept="12", say="3 clusters, of 3, 2, 1; 1 of fewer than 2 is grey.")
+    page.expect(total=total, heaviest=heaviest, kept="12", say="3 clusters. Sizes: 3, 2, 1. 1 cluster smaller than 2 is grey.")
     page.keep("six_clicks")
     rows = page.saved("clusters.csv").decode().splitlines()
     is_so((rows[0], [it.rsplit(",", 1)[1] for it in rows[1:]]), ("x,y,cluster", ["1", "1", "1", "2", "2", "3"]))
@@ -49,7 +49,7 @@ def clicked_points(_room):
     page.browser.run("document.getElementById('picture').focus()")
     page.browser.press((CONTROL, "z"))
     page.expect(points="4")
-    # the hand sets none
+    # the hand adds no points
     page.click("pen")
     page.browser.click_at("picture", 500, 400)
     page.expect(points="4")
@@ -57,7 +57,7 @@ def clicked_points(_room):
 
 @case
 def a_point_far_from_zero(_room):
-    """In metres of a map, the pen sets it where it is put: not on the next full ten."""
+    """With map coordinates in metres, the pen adds a point exactly at the pixel."""
     page = Page.opened()
     page.drop(("utm.csv", b"x,y\n391234.5,5812345.25\n391244.5,5812345.25\n391244.5,5812355.25\n"))
     page.click("pen")
@@ -69,7 +69,7 @@ def a_point_far_from_zero(_room):
 
 @case
 def the_field_has_the_clusters_that_there_are(_room):
-    """What is written into it past the points, between two numbers or as nothing, doesn't stay there."""
+    """A number that is too large, a fraction or an empty field is replaced by the number in use."""
     page = Page.opened()
     page.drop(("points.csv", b"0,0\n3,4\n10,10\n"))
     for written, count in [("1000", "3"), ("1.6", "2"), ("-5", "1"), (DELETE, "1")]:
@@ -115,14 +115,14 @@ def clusters_by_slider_field_dendrogram_and_bars(_room):
         is_so((page.value("cut"), page.value("clusters")), (str(min(100, count)), str(count)))
         page.expect(kept=f"{weights[300 - count - 1]:.7g}" if count < 300 else "", heaviest=f"{weights[-1]:.7g}")
 
-    # points that lie anywhere begin as one
+    # scattered points are one cluster at first
     expect(1)
     for control, count in [("cut", 1), ("cut", 2), ("cut", 9), ("clusters", 40), ("clusters", 299), ("clusters", 300), ("cut", 100)]:
         page.set(control, count)
         expect(count)
     page.set("clusters", 1000)
     expect(300)
-    # a click near the left, where the heaviest merge stands, leaves two clusters; by root, evenly and by logarithm
+    # a click near the left, below the heaviest merge, leaves two clusters, on each scale
     wide = page.browser.run("return document.getElementById('dendrogram').clientWidth") - 28
     for scale, cut in [("root", weights[-1] * (1 - 2 / wide) ** 2), ("even", weights[-1] * (1 - 2 / wide)), ("log", None)]:
         page.set("scale", scale)
@@ -131,7 +131,7 @@ def clusters_by_slider_field_dendrogram_and_bars(_room):
         least = next(it for it in weights if it > 0)
         expect(300 - sum(it <= (cut or least * (weights[-1] / least) ** (1 - 2 / wide)) for it in weights))
         page.keep(f"clusters_{scale}")
-    # the third bar from the left and all before it are cut
+    # a click on the third bar cuts the first three
     step = wide / 30
     page.browser.click_at("bars", 14 + 2.5 * step, 40)
     page.frames()
@@ -139,7 +139,7 @@ def clusters_by_slider_field_dendrogram_and_bars(_room):
 
 
 def drawn_marks(text):
-    """The links and the marks of a saved picture, by ink."""
+    """The numbers of lines and of filled shapes in a saved picture, by colour."""
     paths = [it.attrib for it in xml.etree.ElementTree.fromstring(text) if "d" in it.attrib]
     count = lambda key: {it[key]: it["d"].count("M") for it in paths if key in it and it[key] != "none"}  # noqa: E731
     return count("stroke"), count("fill")
@@ -151,7 +151,7 @@ def a_saved_picture(_room):
     page.set("clusters", 3)
     strokes, marks = drawn_marks(page.saved("picture.svg"))
     strokes.pop("#67635b")  # of the scale bar
-    # two links are cut; the clusters have 3, 2 and 1 points
+    # two edges are cut; the clusters have 3, 2 and 1 points
     is_so((strokes.pop("#a9a396"), sorted(strokes.values()), sorted(marks.values())), (2, [1, 2], [1, 2, 3]))
     is_so(marks[GREY], 1)
     left = re.search(GREY + r'" d="M([0-9.]+) ([0-9.]+)', page.saved("picture.svg").decode())
@@ -160,7 +160,7 @@ def a_saved_picture(_room):
 
 @case
 def a_link_over_the_edge_of_the_map(_room):
-    """It leaves on one side and comes back on the other: no line is longer than its degrees, wherever the map is cut."""
+    """The edge continues on the other side of the map: no line is longer than the edge, wherever the map is cut open."""
     page = Page.opened()
     rows = [(x, 0) for x in range(-180, 180, 20)] + [(x, 10 + abs(x) / 90) for x in range(-170, 190, 20)]
     page.drop(("globe.csv", "".join(f"{x},{y}\n" for x, y in [("lon", "lat"), *rows]).encode()))
@@ -173,12 +173,12 @@ def a_link_over_the_edge_of_the_map(_room):
 
 @case
 def small_clusters_are_grey(_room):
-    """Of 1,000 points a cluster of nine has no colour of its own, and one of ten has."""
+    """Among 1,000 points, a cluster of nine is grey, and a cluster of ten has a colour."""
     page = Page.opened()
     rows = [(x, 0) for x in range(981)] + [(5000 + x, 0) for x in range(9)] + [(9000 + x, 0) for x in range(10)]
     page.drop(("points.csv", "".join(f"{x},{y}\n" for x, y in rows).encode()))
     page.set("clusters", 3)
-    page.expect(say="3 clusters, of 981, 10, 9; 1 of fewer than 10 is grey.")
+    page.expect(say="3 clusters. Sizes: 981, 10, 9. 1 cluster smaller than 10 is grey.")
     _, marks = drawn_marks(page.saved("picture.svg"))
     is_so((marks.pop(GREY), sorted(marks.values())), (9, [10, 981]))
 

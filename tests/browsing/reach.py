@@ -1,4 +1,4 @@
-"""Who reaches the page: by keys, by a screen reader, colour-blind, on a phone; and how it stays fluid at 100,000 points."""
+"""Accessibility, by keys, for screen readers, for colour-blind people and on phones; and speed with many points."""
 import base64
 import re
 import statistics
@@ -9,8 +9,8 @@ from cases.running import case
 
 TAB = "\ue004"
 MOST_POINTS = 100_000
-# milliseconds that the page's thread may work until the forest is there, for a step of the dendrogram's line, and for a
-# picture: fifty of them in a second
+# the most milliseconds of work of the page's thread: until the forest is shown, for a step of the cut in the dendrogram, and
+# for a picture, of which there are fifty per second
 MOST_WORKED, MOST_STEP, MOST_FRAME = 600, 80, 20
 SHOWN = [(1280, 800), (390, 844), (844, 390), (640, 400)]
 
@@ -46,7 +46,7 @@ def each_control_is_reached_and_named(_room):
 
 @case
 def targets_are_large_and_nothing_overlaps(_room):
-    """44 points each way, inside of the window, and none under another."""
+    """Each control is at least 44 pixels wide and high and inside the window, and none covers another."""
     boxes = f"{CONTROLS} && it.id !== 'picture').map(it => [it.id, ...(it => [it.left, it.top, it.right, it.bottom])(it.getBoundingClientRect())])"
     for width, height in [*SHOWN, (800, 600), (320, 568)]:
         page = Page.opened(width=width, height=height)
@@ -69,7 +69,7 @@ def the_sheet_of_a_phone(_room):
         page.browser.click("tree")
         page.frames()
         is_so(page.browser.run("return document.getElementById('dendrogram').checkVisibility({ visibilityProperty: true })"), False)
-        # a finger pulls it up from the bar, and down; a short way, or one on the slider, does nothing
+        # a finger pulls it up from the bar, and down; a short pull, or one on the slider, does nothing
         for begin, by, is_up in [("bar", -100, True), ("side", 10, True), ("side", 100, False), ("bar", -10, False), ("cut", -100, False)]:
             x, y = page.browser.run("const it = document.getElementById(arguments[0]).getBoundingClientRect(); return [it.left + it.width / 2, it.top + 5]", begin)
             pointer(page, (x, y), "down", (x, y + by), "up", kind="touch")
@@ -86,13 +86,13 @@ def the_slider_moves_by_keys(_room):
     page.frames()
     is_so((page.value("cut"), page.value("clusters")), (str(before + 2), str(before + 2)))
     is_so(page.browser.run("return document.getElementById('cut').ariaValueText"), f"{before + 2} clusters")
-    is_so(page.text("say").startswith(f"{before + 2} clusters, of "), True)
+    is_so(page.text("say").startswith(f"{before + 2} clusters. Sizes: "), True)
     page.browser.press("\ue011")
     page.frames()
     is_so(page.browser.run("return document.getElementById('cut').ariaValueText"), "1 cluster")
 
 
-# How cones that lack or fail see a colour: Machado, Oliveira and Fernandes 2009, at full severity, over linear light.
+# Colours as colour-blind people see them, in linear light: Machado, Oliveira and Fernandes 2009, at full severity.
 BLINDNESS = {
     "none": [[1, 0, 0], [0, 1, 0], [0, 0, 1]],
     "protanopia": [[0.152286, 1.052583, -0.204868], [0.114503, 0.786281, 0.099216], [-0.003882, -0.048116, 1.051998]],
@@ -116,12 +116,12 @@ def lab(ink, seen):
 
 
 def apart(one, other):
-    """How far two of these are from each other."""
+    """The distance of two such colours."""
     return sum((a - b) ** 2 for a, b in zip(one, other)) ** 0.5
 
 
 def contrast(one, other):
-    """The ratio of two inks' luminances, as WCAG 2 has it."""
+    """The contrast ratio of two colours, by WCAG 2."""
     light, dark = sorted((sum(a * b for a, b in zip((0.2126, 0.7152, 0.0722), linear(it))) for it in (one, other)), reverse=True)
     return (light + 0.05) / (dark + 0.05)
 
@@ -130,9 +130,9 @@ INKS = "return import('./inks.js').then(({ inks, huesOn }) => ({ ...inks(), hues
 
 
 @case
-def colours_are_told_apart(_room):
-    """Any two of the first eight and grey, by each kind of eye: they differ by 12 at least, where about 2 is just seen; all
-    stand out from the paper by 3 to 1, and differ in hue to an eye with all cones. Words have 4.5 to 1."""
+def colours_can_be_distinguished(_room):
+    """Any two of the first eight colours and grey have a distance of at least 12 for each kind of eye; about 2 is just visible.
+    Without colour blindness this holds for twelve. All have a contrast of 3 to 1 with the paper, and texts of 4.5 to 1."""
     least = {}
     for scheme in ("light", "dark"):
         page = Page.opened(scheme=scheme)
@@ -162,8 +162,8 @@ return found
 
 
 @case
-def words_stand_out(_room):
-    """Each word that is shown has 4.5 to 1 against what it stands on, light and dark."""
+def texts_have_contrast(_room):
+    """Each visible text has a contrast of 4.5 to 1 with its background, light and dark."""
     for scheme in ("light", "dark"):
         for dialog in (None, "open", "save", "about"):
             page = Page.opened(scheme=scheme)
@@ -184,7 +184,7 @@ return (async () => {
 })()
 """
 
-# pans and zooms for three seconds, and answers how many pictures there were and the longest time between two
+# pans and zooms in 90 frames, and returns the times between them
 PAN = """
 return (async () => {
     const picture = document.getElementById('picture'), times = [];
@@ -202,7 +202,7 @@ return (async () => {
 """
 
 
-# how many pixels of the picture have each colour
+# the numbers of pixels of each colour
 DRAWN = """
 const canvas = document.getElementById('picture'), counts = new Map();
 for (const word of new Uint32Array(canvas.getContext('2d').getImageData(0, 0, canvas.width, canvas.height).data.buffer)) {
@@ -213,7 +213,7 @@ return [...counts.values()].sort((a, b) => b - a)
 
 
 def own_time(page):
-    """How long the page's thread has worked, in milliseconds of its processor: other work of the machine doesn't count."""
+    """The processor time of the page's thread so far, in milliseconds. Other work of the machine doesn't count."""
     metrics = page.browser.devtools("Performance.getMetrics")["metrics"]
     return 1000 * next(it["value"] for it in metrics if it["name"] == "TaskDuration")
 
@@ -225,7 +225,7 @@ def a_hundred_thousand_points_stay_fluid(_room):
     page.browser.devtools("Performance.enable", timeDomain="threadTicks")
     begin = own_time(page)
     page.browser.run("document.getElementById('random').click()")
-    # the bar is there until the forest is, if that takes half a second
+    # the progress bar is shown if the forest takes long
     page.browser.wait("!document.getElementById('busy').hidden || document.body?.ariaBusy === 'false'")
     page.keep("bar")
     page.settle()
@@ -243,11 +243,11 @@ def a_hundred_thousand_points_stay_fluid(_room):
     moved = (own_time(page) - slid) / 90
     page.settle()
     is_so(page.saved("forest.gr") == forest_by_program(page.saved("links.gr")), True)
-    told = f"the page's thread worked {solved - begin:.0f} ms until the forest was there, {step:.0f} ms a step of the slider, {moved:.0f} ms a picture of a pan"
-    return quick(solved - begin <= MOST_WORKED and step <= MOST_FRAME and moved <= MOST_FRAME, told)
+    note = f"the page's thread worked {solved - begin:.0f} ms until the forest was there, {step:.0f} ms a step of the slider, {moved:.0f} ms a picture of a pan"
+    return quick(solved - begin <= MOST_WORKED and step <= MOST_FRAME and moved <= MOST_FRAME, note)
 
 
-# drops a table of so many points in twelve clouds, and answers the seconds until their picture is there
+# drops a table of points in twelve clouds, and returns the seconds until their picture is drawn
 DROPPED = """
 const data = new DataTransfer(), rows = ['x,y'], picture = document.getElementById('picture');
 let word = 84;
@@ -265,19 +265,19 @@ return new Promise(done => {
 
 @case
 def from_drop_to_picture(_room):
-    """The best of five turns; a million points, once, only with --strict."""
-    page, told, are_quick = Page.opened(), [], True
+    """The least time of five. A million points are tried once, and only with --strict."""
+    page, note, are_quick = Page.opened(), [], True
     for n, turns, most in [(10_000, 5, 0.4), (100_000, 5, 3), (1_000_000, int(Page.strict), 30)]:
         seconds = [page.browser.run(DROPPED, n) for _ in range(turns)]
         if seconds:
             page.expect(points=f"{n:,}", size=f"{n - 1:,}")
-            told.append(f"{n:,} points in {min(seconds):.2f} s")
+            note.append(f"{n:,} points in {min(seconds):.2f} s")
             are_quick = are_quick and min(seconds) <= most
-    return quick(are_quick, ", ".join(told))
+    return quick(are_quick, ", ".join(note))
 
 
 @case
-def what_takes_long_can_be_stopped(_room):
+def a_long_task_can_be_stopped(_room):
     page = Page.opened()
     before = page.shown()
     page.browser.run("document.getElementById('count').value = 500000; document.getElementById('random').click()")
@@ -293,8 +293,8 @@ def what_takes_long_can_be_stopped(_room):
 
 
 @case
-def the_last_that_is_begun_is_shown(_room):
-    """Files, clearing and drawing in quick succession: what began before them ends, and so does a dialog's question."""
+def the_last_action_is_shown(_room):
+    """Of files, clearing and drawing in quick succession, only the last has an effect. An open dialog is closed."""
     page = Page.opened()
     many, few, asked = ("many.csv", b"".join(b"%d,%d\n" % (i, i * i % 997) for i in range(60_000))), ("few.csv", b"0,0\n3,4\n"), ("asked.csv", b"1,2,3\n4,5,6\n")
     drop = lambda *files: page.browser.run(DROP, [(name, base64.b64encode(text).decode()) for name, text in files])  # noqa: E731
@@ -342,7 +342,7 @@ return (async () => {
 
 @case
 def half_the_time_of_kruskal_in_javascript(_room):
-    """100,000 vertices and 500,000 links, medians of five in turns, in the browser."""
+    """100,000 vertices and 500,000 edges, in the browser: medians of five interleaved runs."""
     page = Page.opened()
     found = page.browser.run(TIMED)
     is_so(found["total"][0], found["total"][1])

@@ -1,11 +1,11 @@
-"""Reading the picture: rounds that are played, zoom and pan by pointer and keys, what is pointed at."""
+"""Reading the picture: the rounds, zoom and pan by pointer and keys, and points under the pointer."""
 import re
 import time
 
 from browsing.page import Page, drawn_points, is_so
 from cases.running import case, drawn_graph
 
-# Borůvka's rounds of a graph, from all its links: of each forest link its round. For drawn graphs with ties.
+# Compares the rounds with Borůvka's rounds from all edges of the graph, for random graphs with equal weights.
 ROUNDS = """
 return Promise.all([import('./rounds.js'), import('./kruskal.js')]).then(([{ roundsOf }, { forestByKruskal }]) => {
     let word = 777, wrong = 0, ties = 0;
@@ -47,42 +47,42 @@ def rounds_of_the_forest_are_those_of_the_graph(_room):
 
 @case
 def the_rounds_are_played_once(_room):
-    """Six seconds from the beginning; the caption counts the pieces down to one, and clusters follow."""
+    """They take six seconds. The caption counts the pieces down to one, and then shows the clusters."""
     page, said = Page.opened(), []
     page.look(motion="no-preference")
     page.browser.open("about:blank")
     begun = time.monotonic()
     page.browser.open(page.address)
-    while "clusters, of " not in (told := page.text("say")):
-        if " piece" in told and told not in said:
-            said.append(told)
+    while "clusters. Sizes: " not in (text := page.text("say")):
+        if " piece" in text and text not in said:
+            said.append(text)
             page.keep(f"round_{len(said)}")
         if time.monotonic() > begun + 60:
             raise AssertionError(f"it isn't done: {said}")
-    counts = [[int(it.replace(",", "")) for it in re.findall(r"\d[\d,]*\d|\d", told.split(" piece")[0])] for told in said]
+    counts = [[int(it.replace(",", "")) for it in re.findall(r"\d[\d,]*\d|\d", text.split(" piece")[0])] for text in said]
     last = counts[-1]
-    is_so((last[0], last[-1], all(2 * b <= a for a, b in zip(last, last[1:])), "clusters, of " in page.text("say")), (67, 1, True, True))
+    is_so((last[0], last[-1], all(2 * b <= a for a, b in zip(last, last[1:])), "clusters. Sizes: " in page.text("say")), (67, 1, True, True))
     for shorter in counts:
         is_so(shorter, last[: len(shorter)])
     is_so(time.monotonic() - begun > 5, True)
-    # again by the button, which stops it too
+    # the button plays them again, and stops them
     page.browser.click("play")
     page.browser.wait("document.getElementById('say').textContent.includes('pieces')")
     is_so(page.text("play"), "Stop")
     page.browser.click("play")
     page.frames()
-    is_so((page.text("play"), "clusters, of " in page.text("say")), ("Play", True))
-    # who wants less motion sees the end alone
+    is_so((page.text("play"), "clusters. Sizes: " in page.text("say")), ("Play", True))
+    # a user who prefers less motion sees only the end
     page = Page.opened()
-    is_so("clusters, of " in page.text("say"), True)
+    is_so("clusters. Sizes: " in page.text("say"), True)
 
 
 @case
 def another_picture_fades_in(_room):
-    """The one before fades away, with as few points, unless somebody wants less motion. What is shown is the same."""
+    """The old picture fades away if both have few points, unless the user prefers less motion."""
     count = "window.fades = 0; const real = document.startViewTransition.bind(document); document.startViewTransition = call => { window.fades++; return real(call); }"
     many = drawn_points(7, 5000)[1]
-    # (each is played, and the end of that fades too)
+    # (the end of the rounds fades too)
     for motion, wanted in [("no-preference", [2, 4, 5]), ("reduce", [0, 0, 0])]:
         page, found = Page.opened(), []
         page.look(motion=motion)
@@ -104,7 +104,7 @@ def places(page):
 
 
 def pointer(page, *actions, kind="mouse"):
-    """Moves, presses and releases: each (x, y) or `down` or `up`."""
+    """Moves, presses and releases a pointer. An action is (x, y), `down` or `up`."""
     steps = [{"type": f"pointer{it.capitalize()}", "button": 0} if isinstance(it, str) else {"type": "pointerMove", "x": round(it[0]), "y": round(it[1]), "duration": 20} for it in actions]
     page.browser.call("POST", "/actions", {"actions": [{"type": "pointer", "id": kind, "parameters": {"pointerType": kind}, "actions": steps}]})
     page.frames()
@@ -118,7 +118,7 @@ def the_picture_zooms_and_pans(_room):
     scroll = [{"type": "scroll", "x": round(whole[1][0]), "y": round(whole[1][1]), "deltaX": 0, "deltaY": -300, "duration": 0}]
     page.browser.call("POST", "/actions", {"actions": [{"type": "wheel", "id": "wheel", "actions": scroll}]})
     zoomed = places(page)
-    # it zooms at the pointer, which stays over the place
+    # the point under the pointer stays there
     is_so((abs(zoomed[1][0] - whole[1][0]) < 1, abs(zoomed[1][1] - whole[1][1]) < 1), (True, True))
     by = (zoomed[1][0] - zoomed[0][0]) / (whole[1][0] - whole[0][0])
     is_so((by > 1.2, abs((zoomed[2][1] - zoomed[1][1]) / (whole[2][1] - whole[1][1]) - by) < 0.01), (True, True))
@@ -126,7 +126,7 @@ def the_picture_zooms_and_pans(_room):
     panned = places(page)
     is_so([[round(b[0] - a[0]), round(b[1] - a[1])] for a, b in zip(zoomed, panned)], [[60, 30]] * 4)
     page.keep("zoomed")
-    # a double click fits all again
+    # a double click shows everything again
     pointer(page, (500, 300), "down", "up", "down", "up")
     is_so(places(page), whole)
     page.browser.run("document.getElementById('picture').focus()")
@@ -149,23 +149,23 @@ def two_fingers_zoom(_room):
 
 
 @case
-def a_point_tells_what_it_is(_room):
+def a_point_has_a_tooltip(_room):
     """Name, cluster and longest link; a name with markup is text."""
     page = Page.opened()
     page.drop(("square.csv", SQUARE))
     page.set("clusters", 2)
     at = places(page)
     pointer(page, at[0])
-    is_so(page.text("tip"), "<b>one</b>, cluster 1, longest link 10")
+    is_so(page.text("tip"), "<b>one</b>, cluster 1, longest edge 10")
     page.keep("tip")
     pointer(page, at[3])
-    is_so(page.text("tip"), "four, cluster 2, longest link 22.36068")
+    is_so(page.text("tip"), "four, cluster 2, longest edge 22.36068")
     pointer(page, (at[0][0] + 90, at[0][1] - 60))
     is_so(page.browser.run("return document.getElementById('tip').hidden"), True)
     is_so(page.browser.run("return document.querySelectorAll('#tip *').length"), 0)
-    # by a finger
+    # with a finger
     pointer(page, at[1], "down", "up", kind="touch")
-    is_so(page.text("tip"), "two, cluster 1, longest link 10")
+    is_so(page.text("tip"), "two, cluster 1, longest edge 10")
 
 
 @case

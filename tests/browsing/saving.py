@@ -1,4 +1,4 @@
-"""Files out: each is read again, by what it is for."""
+"""Saved files, each read by the kind of program that it is for."""
 import csv
 import gzip
 import io
@@ -34,7 +34,7 @@ def pictures_of_both(_room):
 
 @case
 def a_picture_that_is_being_drawn(_room):
-    """It is saved once it is done: not without points, nor in the colours from before."""
+    """The file is saved after the picture is done, so that it has all points and the current colours."""
     page = Page.opened()
     page.drop(("points.csv", drawn_points(6, 60_000)[1]))
     zoom = "document.getElementById('picture').dispatchEvent(new WheelEvent('wheel', { deltaY: -100 }))"
@@ -63,7 +63,7 @@ def the_forest_as_csv_and_geojson(_room):
 
 @case
 def a_forest_over_the_edge_of_the_map(_room):
-    """The line of RFC 7946, 3.1.9, in two parts, however its ends are called; other programs drew it round the world."""
+    """An edge over the border of the map is split in two, as RFC 7946, section 3.1.9, requires, for all forms of longitude."""
     page = Page.opened()
     cut = ("MultiLineString", [[[170, 45], [180, 45]], [[-180, 45], [-170, 45]]])
     for rows, wanted in [
@@ -82,8 +82,8 @@ def a_forest_over_the_edge_of_the_map(_room):
 
 
 @case
-def doubles_past_whole_numbers(_room):
-    """A link of 2^60 isn't saved as another whole number, and what is saved is read again as itself."""
+def doubles_beyond_whole_numbers(_room):
+    """A weight of 2^60 is saved in a form that is read again exactly, and isn't saved as another whole number."""
     page = Page.opened()
     page.drop(("links.csv", b"source,target,weight\na,b,1152921504606846976\nb,c,1\n"))
     forest, merges = page.saved("forest.csv").decode().splitlines(), page.saved("linkage.csv").decode().splitlines()
@@ -94,8 +94,8 @@ def doubles_past_whole_numbers(_room):
 
 
 @case
-def points_of_one_feature_keep_apart(_room):
-    """Their forest is read again as itself: it was a loop at one name."""
+def points_of_one_feature_have_different_names(_room):
+    """The saved forest is read again as the same forest."""
     page = Page.opened()
     named = {"type": "Feature", "properties": {"name": "A"}, "geometry": {"type": "MultiPoint", "coordinates": [[0, 0], [0, 1]]}}
     for given, names in [
@@ -110,8 +110,8 @@ def points_of_one_feature_keep_apart(_room):
 
 
 @case
-def points_of_one_name_keep_apart(_room):
-    """Their forest is read again as itself, though one is called as another would be."""
+def points_with_equal_names_are_distinguished(_room):
+    """The saved forest is read again as the same forest, although one name looks like a number that was added."""
     page = Page.opened()
     page.drop(("towns.csv", b"name,x,y\nA,0,0\nA,3,4\nA.2,9,12\nB,0,1\n"))
     page.expect(points="4", total="15.24264")
@@ -119,7 +119,7 @@ def points_of_one_name_keep_apart(_room):
     is_so({it for row in csv.DictReader(io.StringIO(forest.decode())) for it in (row["from"], row["to"])}, {"A.1", "A.2.", "A.2", "B"})
     page.drop(("forest.csv", forest))
     page.expect(points="4", size="3", total="15.24264")
-    # names that are cut to the same letters stand for several, too
+    # names that are equal after they were shortened
     page.drop(("links.csv", b"source,target,weight\n%bx,%by,1\n%by,b,2\n" % ((b"a" * 200,) * 3)))
     page.drop(("forest.csv", page.saved("forest.csv")))
     page.expect(points="3", size="2", total="3")
@@ -127,7 +127,7 @@ def points_of_one_name_keep_apart(_room):
 
 @case
 def names_that_are_formulas(_room):
-    """A name that a spreadsheet would run begins with an apostrophe, and separators are quoted."""
+    """A name that a spreadsheet would run as a formula gets an apostrophe, and a separator gets quotes."""
     page = Page.opened()
     page.drop(("links.csv", b'source,target,weight\n=1+1,"a,b",1\n"a,b",@x,2\n-1,@x,3\n'))
     is_so(page.saved("forest.csv"), b"from,to,length\n\"'=1+1\",\"a,b\",1\n\"'@x\",\"a,b\",2\n-1,\"'@x\",3\n")
@@ -135,12 +135,12 @@ def names_that_are_formulas(_room):
 
 @case
 def names_that_begin_with_a_minus(_room):
-    """What OWASP shows as an attack by CSV is no formula; a number, and a link to this page, keep the name."""
+    """An attack by CSV that OWASP describes doesn't become a formula. Numbers, and addresses of the page, keep the name."""
     page, names = Page.opened(), ["-2+3+cmd|' /C calc'!A0", "-1.5e3", "=1", "@x", "  both ends "]
     rows = "".join(f'"{name}",{i},0\n' for i, name in enumerate(names))
     page.drop(("points.csv", f"name,x,y\n{rows}".encode()))
-    told = [row[:2] for row in csv.reader(io.StringIO(page.saved("forest.csv").decode()))][1:]
-    is_so({it for row in told for it in row}, {"'-2+3+cmd|' /C calc'!A0", "-1.5e3", "'=1", "'@x", "  both ends "})
+    texts = [row[:2] for row in csv.reader(io.StringIO(page.saved("forest.csv").decode()))][1:]
+    is_so({it for row in texts for it in row}, {"'-2+3+cmd|' /C calc'!A0", "-1.5e3", "'=1", "'@x", "  both ends "})
     page.click("save")
     page.click("copylink")
     page.browser.wait("document.getElementById('copied').value")
@@ -151,7 +151,7 @@ def names_that_begin_with_a_minus(_room):
 
 
 @case
-def merges_as_scipy_has_them(_room):
+def merges_agree_with_scipy(_room):
     page, (points, text) = Page.opened(), drawn_points(4, 300)
     page.drop(("points.csv", text))
     rows = [[float(it) for it in row.split(",")] for row in page.saved("linkage.csv").decode().splitlines()]
@@ -167,7 +167,7 @@ def merges_as_scipy_has_them(_room):
 
 @case
 def python_that_does_the_same(room):
-    """It runs, with the package of this repository, and finds the same total."""
+    """The copied program runs with the package of this repository, and prints the same total."""
     library = f"{ROOT}/crates/boruvka_c/out/libboruvka.so"
     page, made = opened_towns(), []
     for name, content, total in [
@@ -175,7 +175,7 @@ def python_that_does_the_same(room):
         ("points.csv", b"x;y\n1,5;2,5\n4,5;6,5\n", 5),
         ("links.csv", b"source,target,weight\na,b,1.5\nb,c,2\nc,a,-1\n", 0.5),
         ("packed.csv.gz", gzip.compress(b"x,y\n0,0\n3,4\n"), 5),
-        # quotes after a space, and a row of spaces
+        # quotes after a space, and an empty row
         ("spaced.csv", b'source, target, weight\na, "b", 1\n  \nb, c, 2\nc, "b, or d", 4\n"b, or d", a, 8\n', 7),
     ]:
         page.drop((name, content))
@@ -199,7 +199,7 @@ def python_that_does_the_same(room):
 
 @case
 def python_that_runs_the_program(room):
-    """It hands a packed graph over unpacked, and a program that fails isn't passed over."""
+    """The copied program decompresses the graph for `boruvka`, and fails if `boruvka` fails."""
     page = Page.opened()
     page.drop(("small.gr.gz", gzip.compress(SMALL_NET)))
     page.click("save")
@@ -218,11 +218,11 @@ def python_that_runs_the_program(room):
 
 @case
 def the_picture_of_the_rounds(room):
-    """docs/rounds.svg is what its script draws: each round halves the pieces at least, and the last leaves one."""
+    """docs/rounds.svg is the output of its script. Each round at least halves the pieces, and the last leaves one."""
     subprocess.run([sys.executable, f"{ROOT}/tools/rounds.py", f"{room}/rounds.svg"], check=True)
     with open(f"{room}/rounds.svg", "rb") as one, open(f"{ROOT}/docs/rounds.svg", "rb") as other:
         text = one.read()
         is_so(text == other.read(), True)
-    told = [it.text for it in xml.etree.ElementTree.fromstring(text).iter("{http://www.w3.org/2000/svg}text")]
-    counts = [int(it.split()[-2]) for it in told]
+    texts = [it.text for it in xml.etree.ElementTree.fromstring(text).iter("{http://www.w3.org/2000/svg}text")]
+    counts = [int(it.split()[-2]) for it in texts]
     is_so((counts[0], counts[-1], all(2 * b <= a for a, b in zip(counts, counts[1:]))), (180, 1, True))

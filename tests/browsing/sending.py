@@ -1,4 +1,4 @@
-"""What is sent on arrives: links, pages with their points inside, films to their end, and what is printed."""
+"""Sharing: addresses and pages with points, films and prints; undo, and work by keys."""
 import base64
 import os
 import random
@@ -28,7 +28,7 @@ def copied_link(page):
 
 @case
 def a_link_keeps_how_it_was_left(_room):
-    """The number of clusters, the smallest size, the zoom and the scale: it had 7 clusters and brought 3."""
+    """An address keeps the number of clusters, the smallest size, the view and the scale."""
     page = Page.opened()
     page.drop(("points.csv", drawn_points(11, 300)[1]))
     for name, value in [("clusters", 7), ("smallest", 12), ("scale", "log")]:
@@ -42,14 +42,14 @@ def a_link_keeps_how_it_was_left(_room):
     for width, height in [(1280, 800), (390, 844)]:
         page = Page.opened(link[len(page.address) :], width=width, height=height)
         page.expect(points="300")
-        # (the view moves to its place)
+        # (the view is restored after the first frames)
         for _ in range(100):
             if page.browser.run(LEFT_AS) == left:
                 break
             page.frames()
         is_so((width, page.browser.run(LEFT_AS)), (width, left))
         is_so((page.value("clusters"), page.value("smallest"), page.value("scale")), ("7", "12", "log"))
-    # what is no number of these is as at first
+    # parameters that aren't valid are ignored
     page = Page.opened(address_of(b"x,y\n0,0\n1,0\n9,9\n9,8\n") + "&k=x&s=-2&v=1,2&h=up")
     page.expect(points="4", total="13.31371")
     is_so((page.value("clusters"), page.value("smallest"), page.value("scale")), ("2", "2", "root"))
@@ -57,7 +57,7 @@ def a_link_keeps_how_it_was_left(_room):
 
 @case
 def a_page_is_sent_with_its_points(room):
-    """It opens as it was left, and works on: a table whose columns were chosen, a graph with its places, points of the pen."""
+    """A saved page opens as it was left: a table with chosen columns, a graph with coordinates, and points of the pen."""
     page, draw = Page.opened(), random.Random(105)
     is_so(page.browser.run("return [document.getElementById('pageline').hidden, document.getElementById('linkline').hidden]"), [True, False])
     page.browser.open(f"file://{packed_page(room)}")
@@ -102,7 +102,7 @@ def a_page_is_sent_with_its_points(room):
 
 
 def elements(data, begin=0, end=None):
-    """The elements of a Matroska file: (identity, content)."""
+    """The elements of a Matroska file, as (identity, content)."""
     end = len(data) if end is None else end
     while begin < end:
         size = 9 - data[begin].bit_length()
@@ -117,7 +117,7 @@ def elements(data, begin=0, end=None):
 
 
 def times_of(film):
-    """How long a film says that it is, and the times of its frames, in milliseconds."""
+    """The declared length of a film and the times of its frames, in milliseconds."""
     (segment,) = [it for key, it in elements(film) if key == 0x18538067]
     parts, times = list(elements(segment)), []
     for key, cluster in parts:
@@ -157,7 +157,7 @@ return new Promise((done, failed) => {
 
 @case
 def a_film_to_its_end(_room):
-    """It lasts as long as it says, its frames come to the end, and the last one has the whole tree in one colour."""
+    """It has its declared length, frames to its end, and the whole tree in one colour in the last frame."""
     page = Page.opened()
     for name, text in [("towns.csv", open(TOWNS, "rb").read()), ("points.csv", drawn_points(8, 5000)[1])]:
         page.drop((name, text))
@@ -182,8 +182,8 @@ def a_browser_that_makes_no_film_says_so(_room):
     try:
         page = Page.opened()
         page.click("save")
-        told = page.browser.run("const it = document.getElementById('nofilm'); return [it.textContent, it.checkVisibility(), document.getElementById('save-rounds-webm').disabled]")
-        is_so(told, ["This browser can’t make a film.", True, True])
+        state = page.browser.run("const it = document.getElementById('nofilm'); return [it.textContent, it.checkVisibility(), document.getElementById('save-rounds-webm').disabled]")
+        is_so(state, ["This browser can’t make a film.", True, True])
     finally:
         page.browser.devtools("Page.removeScriptToEvaluateOnNewDocument", **script)
 
@@ -204,7 +204,7 @@ addEventListener('beforeprint', () => { window.printed = [light(2, 2), light(3, 
 
 @case
 def a_printed_page(_room):
-    """On light paper, without controls, and the picture in its shape. Afterwards all is as before."""
+    """It is light, has no controls, and keeps the shape of the picture. Afterwards the page is as before."""
     for scheme in ("light", "dark"):
         page = Page.opened(scheme=scheme)
         before = page.saved("picture.png")
@@ -215,7 +215,7 @@ def a_printed_page(_room):
         page.browser.devtools("Emulation.setEmulatedMedia", media="", features=[{"name": "prefers-color-scheme", "value": scheme}, {"name": "prefers-reduced-motion", "value": "reduce"}])
         page.frames()
         is_so((scheme, page.saved("picture.png") == before), (scheme, True))
-    # what is printed is drawn before the print, also of many points in a dark page
+    # the picture is drawn in light colours before the print, also for many points on a dark page
     for text in (b"x,y\n0,0\n3,4\n", drawn_points(31, 30_000)[1]):
         page.drop(("points.csv", text))
         page.browser.run(PRINTED_THEN)
@@ -225,7 +225,7 @@ def a_printed_page(_room):
 
 @case
 def undo_and_redo(_room):
-    """Clear, open and draw are taken back, and done again, by buttons and by keys."""
+    """Buttons and keys undo and redo what cleared, opened or added points."""
     page, shown = Page.opened(), []
     page.drop(("square.csv", b"name,x,y\na,0,0\nb,3,4\nc,9,9\n"))
     page.set("clusters", 2)
@@ -253,7 +253,7 @@ def undo_and_redo(_room):
     page.browser.press((CONTROL, "z"))
     page.frames()
     is_so(page.shown(), shown[2])
-    # what is done anew leaves nothing to redo, and the first example comes back in the end
+    # a new action leaves nothing to redo, and undo leads back to the example
     page.drop(("two.csv", b"x,y\n0,0\n1,1\n"))
     is_so(page.browser.run("return document.getElementById('redo').disabled"), True)
     for _ in range(5):
@@ -262,8 +262,8 @@ def undo_and_redo(_room):
 
 
 @case
-def python_for_tables_that_nobody_has(room):
-    """What was pasted, or came by a link, is written into the Python itself."""
+def python_that_contains_its_table(room):
+    """The copied program contains a table that was pasted or that came with the address."""
     library = f"{ROOT}/crates/boruvka_c/out/libboruvka.so"
     page = Page.opened(address_of('name;x;y\nÄ "b"\\n;1,5;2,5\nb;4,5;6,5\n'.encode()))
     texts = []
@@ -294,7 +294,7 @@ POINTED = "return [document.getElementById('tip').hidden, document.getElementByI
 
 @case
 def each_point_is_read_by_keys(_room):
-    """N and P go from point to point, also to those that aren't in sight; Escape leaves them."""
+    """N and P go from point to point, also to points that aren't visible. Escape hides the tooltip."""
     page = Page.opened()
     names = [f"p{i}" for i in range(9)]
     page.drop(("named.csv", ("name,x,y\n" + "".join(f"{it},{i * i},{i % 3}\n" for i, it in enumerate(names))).encode()))
@@ -321,7 +321,7 @@ def each_point_is_read_by_keys(_room):
 
 @case
 def an_embedded_view(_room):
-    """It has a tip and a replay, and leaves the wheel to the page around it."""
+    """It has a tooltip and a replay button, and the wheel scrolls the page around it."""
     page = Page.opened("?embed" + address_of(b"name,x,y\na,0,0\nb,3,4\nc,60,0\n"))
     at = page.browser.run("return Promise.all([import('./state.js'), import('./view.js')]).then(([{ state: { shown } }, { lens }]) => [lens().across(shown.places[0]), lens().down(shown.places[1])])")
     pointer(page, at)
