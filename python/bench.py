@@ -2,9 +2,10 @@
 
 usage: python3 bench.py
 
-Each time is processor time of this process, the least of five calls, interleaved with the other library's, by one thread.
-The machine should do nothing else. Below the table are the seconds and the peak of memory of larger trees, each in a
-process of its own. It takes about four minutes and 1 GB, and needs scipy, scikit-learn, fastcluster and networkx.
+Each time is processor time of this process: the least of five calls, interleaved with the other library's, on one
+thread. Below the tables are the seconds and the peak of memory of larger trees, each in a process of its own, and the
+times of questions about a tree. The machine should do nothing else. It takes about four minutes and 1 GB, and needs
+scipy, scikit-learn, fastcluster and networkx.
 """
 
 import gc
@@ -12,8 +13,9 @@ import os
 import subprocess
 import sys
 import time
+from dataclasses import replace
 
-# (numpy reads these when it is imported: processor time of one thread is compared with that of one thread)
+# (numpy reads these when it is imported; both libraries have to use one thread)
 os.environ.update(OPENBLAS_NUM_THREADS="1", OMP_NUM_THREADS="1", MKL_NUM_THREADS="1")
 
 import fastcluster
@@ -30,7 +32,7 @@ from boruvka.sparse import minimum_spanning_tree
 
 EDGES = 1_000_000
 TURNS = 5
-# prints the seconds of processor time, and the peak of memory beyond what the points and the modules take
+# prints the seconds of processor time, and the peak of memory beyond that of the points and the modules
 ALONE = """
 import re, sys, time
 import numpy as np
@@ -50,7 +52,7 @@ print(time.process_time() - begun, peak() - before)
 
 
 def least(*calls, times=1):
-    """The least milliseconds of each of these calls, interleaved; of short ones so many are timed together."""
+    """The least milliseconds of each of these calls, interleaved. Short ones are timed `times` at once."""
     found = [[] for _ in calls]
     for _ in range(TURNS):
         for call, their in zip(calls, found):
@@ -68,13 +70,13 @@ def brief(number):
 
 
 def row(what, size, other, times):
-    """A line of the table for each of ours, whose times come before the other's."""
+    """Print a line of the table for each of our times, which come before the other library's."""
     for name, ours in zip(what, times):
         print(f"| {name} | {size} | {brief(ours)} | {other} | {brief(times[-1])} | {brief(ours / times[-1])} |", flush=True)
 
 
 def drawn(m):
-    """As many edges between a quarter as many vertices."""
+    """m edges between m / 4 vertices."""
     draw = np.random.default_rng(m)
     n = m // 4
     return n, draw.integers(0, n, m, dtype=np.int32), draw.integers(0, n, m, dtype=np.int32), draw.random(m)
@@ -83,7 +85,7 @@ def drawn(m):
 def arrays(m):
     n, u, v, w = drawn(m)
     whole = (w * 1_000_000).astype(np.int64)
-    # (weights of 0 aren't in a sparse matrix)
+    # (a sparse matrix has no weights of 0)
     matrix = coo_matrix((w + 1, (u, v)), shape=(n, n)).tocsr()
     times = least(
         lambda: minimum_spanning_forest(n, u, v, w),
@@ -113,13 +115,13 @@ def uniform(n, dimensions):
 
 
 def clustered(n, dimensions):
-    """Points in 20 normal clusters of the deviation 1, whose centres are uniform in a cube of the side 10."""
+    """Points in 20 normal clusters of standard deviation 1, whose centres are uniform in a cube of side 10."""
     draw = np.random.default_rng(n)
     return 10 * draw.random((20, dimensions))[draw.integers(20, size=n)] + draw.normal(size=(n, dimensions))
 
 
 def points(kind, n, dimensions):
-    """A line of the table of trees of points, with mutual reachability too: scikit-learn's are plain."""
+    """Print a line of the table of trees of points. Mutual reachability is compared with scikit-learn's plain tree."""
     given = kind(n, dimensions)
     ours, core, fast, theirs = least(
         lambda: spanning_tree(given),
@@ -137,10 +139,28 @@ def few(n, dimensions):
 
 
 def alone(n, dimensions):
-    """A line on the tree of so many points."""
+    """Print a line on the tree of so many points."""
     ended = subprocess.run([sys.executable, "-c", ALONE, str(n), str(dimensions)], check=True, capture_output=True, text=True)
     seconds, megabytes = map(float, ended.stdout.split())
     print(f"{n:,} points in {dimensions} dimensions: {brief(seconds)} s, {brief(megabytes)} MB", flush=True)
+
+
+def questions(n):
+    """Print the times of the first question about a tree of points, and of each later one, between drawn points."""
+    tree = spanning_tree(uniform(n, 2))
+    pairs = np.random.default_rng(n).integers(0, n, (200, 2)).tolist()
+    for name in ("path", "bottleneck"):
+        first, later = [], []
+        for _ in range(TURNS):
+            ask = getattr(replace(tree), name)
+            begun = time.process_time()
+            ask(0, 1)
+            asked = time.process_time()
+            for a, b in pairs:
+                ask(a, b)
+            first.append(1000 * (asked - begun))
+            later.append(1000 * (time.process_time() - asked) / len(pairs))
+        print(f"{name} in a tree of {n:,} points: first {brief(min(first))} ms, then {brief(min(later))} ms", flush=True)
 
 
 def distances(n):
@@ -165,6 +185,7 @@ def main():
     print()
     for n, dimensions in [(1_000_000, 2), (1_000_000, 3), (100_000, 5), (10_000, 100)]:
         alone(n, dimensions)
+    questions(100_000)
 
 
 if __name__ == "__main__":

@@ -1,16 +1,17 @@
 """Minimum spanning forests of numpy arrays.
 
-`minimum_spanning_forest` finds which edges are in the forest, `from_edges` does so for edges in a frame, and
-`forest_of_chunks` for edges that come in chunks. They call libboruvka, whose results are proved. The package itself is
-tested, not proved. `read_gr` and `write_gr` are for the program's files, and `show` opens points in a page.
+`minimum_spanning_forest` takes edges in arrays, `from_edges` takes edges in a table, and `forest_of_chunks` takes edges
+that come in chunks. They call libboruvka, whose results are proved. The package itself is tested, not proved. `read_gr`
+and `write_gr` are for the program's files. `show` draws points in a page.
 
 These modules are loaded when they are first used:
 
-- `boruvka.linkage` finds the tree of points, cuts trees into clusters, and lists single linkage. Numpy is all it needs.
-- `boruvka.cluster` has single linkage and HDBSCAN as estimators of scikit-learn, and needs that.
-- `boruvka.dask` finds the forest of a frame of dask, part by part.
-- `boruvka.sparse` stands in for scipy's function over sparse matrices, and needs scipy.
-- `boruvka.networkx_backend` is what networkx calls if you write `backend="boruvka"`.
+- `boruvka.linkage` finds the tree of points, cuts trees into clusters, and computes single linkage. It needs only
+  numpy.
+- `boruvka.cluster` has single linkage and HDBSCAN as estimators of scikit-learn, which it needs.
+- `boruvka.dask` finds the forest of a dask frame, partition by partition.
+- `boruvka.sparse` replaces scipy's function for sparse matrices, and needs scipy.
+- `boruvka.networkx_backend` is what networkx calls for `backend="boruvka"`.
 """
 
 from typing import TYPE_CHECKING
@@ -25,7 +26,7 @@ from boruvka._result import Forest
 __all__ = ["Forest", "forest_of_chunks", "from_edges", "minimum_spanning_forest", "read_gr", "show", "write_gr"]
 
 _MODULES = ("cluster", "dask", "linkage", "networkx_backend", "sparse")
-# what people look for here, and find in a module
+# names that people look for here, and the modules that have them
 _IN_MODULES = {"cluster": ("HDBSCAN", "SingleLinkage"), "linkage": ("labels", "merges", "single_linkage", "spanning_tree"), "sparse": ("minimum_spanning_tree",)}
 
 if TYPE_CHECKING:
@@ -39,7 +40,7 @@ if TYPE_CHECKING:
 else:
 
     def __getattr__(name):
-        """A module of the package, or as `__version__` the version that is installed."""
+        """A module of the package, or the installed version as `__version__`."""
         from importlib import import_module
         from importlib.metadata import PackageNotFoundError, version
 
@@ -49,17 +50,17 @@ else:
             try:
                 return version("boruvka")
             except PackageNotFoundError:
-                raise AttributeError("module 'boruvka' has no attribute '__version__', as it isn't installed: it runs from its sources") from None
+                raise AttributeError("module 'boruvka' has no attribute '__version__', because it runs from its sources and isn't installed") from None
         raise AttributeError(f"module 'boruvka' has no attribute {name!r}{_hint(name)}")
 
     def _hint(name):
-        """Where the name is, or which is like it."""
+        """Where the package has this name, or a similar one."""
         from difflib import get_close_matches
 
-        there = {it: f"boruvka.{module}.{it}" for module, names in _IN_MODULES.items() for it in names}
-        there.update({it: f"boruvka.{it}" for it in [*__all__, *_MODULES]})
-        near = [name] if name in there else get_close_matches(name, there, 1, 0.75)
-        return f": there is {there[near[0]]}" if near else ""
+        paths = {it: f"boruvka.{module}.{it}" for module, names in _IN_MODULES.items() for it in names}
+        paths.update({it: f"boruvka.{it}" for it in [*__all__, *_MODULES]})
+        near = [name] if name in paths else get_close_matches(name, paths, 1, 0.75)
+        return f": there is {paths[near[0]]}" if near else ""
 
 
 def __dir__() -> list[str]:

@@ -1,4 +1,4 @@
-"""The tree of clusters that HDBSCAN chooses from, as a frame and as a picture."""
+"""The tree of clusters from which HDBSCAN chooses, as a frame and as a picture."""
 
 from __future__ import annotations
 
@@ -14,10 +14,10 @@ if TYPE_CHECKING:
 
 
 class CondensedTree:
-    """How clusters shrink and fall apart while the density grows.
+    """How clusters lose points and split as the density grows.
 
-    Points are 0 to n - 1, and clusters n and on, of which n is all points. Density is 1 over the height. `to_frame`
-    lists which points and clusters leave which cluster at which density, and `plot` draws it.
+    Points are numbered 0 to n - 1, and clusters from n on; cluster n has all points. The density is 1 / height.
+    `to_frame` lists which points and clusters leave which cluster at which density, and `plot` draws it.
     """
 
     def __init__(self, condensed: Condensed, chosen: dict[int, int]) -> None:
@@ -27,7 +27,7 @@ class CondensedTree:
         return f"<CondensedTree of {self._condensed.n} points and {len(self._condensed.parent)} clusters>"
 
     def _columns(self) -> dict[str, NDArray[Any]]:
-        """The columns of the frame: points and clusters by the clusters they leave, at lower densities first."""
+        """The columns of the frame, sorted by the cluster that is left, and then by density."""
         found = self._condensed
         n, clusters = found.n, np.arange(1, len(found.parent))
         parent = n + np.concatenate([np.array(found.parent[1:], np.intp), found.owner])
@@ -39,9 +39,11 @@ class CondensedTree:
         return dict(zip(("parent", "child", "lambda_val", "child_size"), (it[order] for it in (parent, child, density, size))))
 
     def to_frame(self) -> pandas.DataFrame:
-        """A frame of pandas with the columns parent, child, lambda_val and child_size, as hdbscan's `to_pandas` has them.
+        """Make a frame of pandas with the columns parent, child, lambda_val and child_size, which `to_pandas` of
+        hdbscan has.
 
-        A row says that a point, or a cluster of so many points, leaves its parent at the density lambda_val.
+        A row says that `child`, a point or a cluster of `child_size` points, leaves `parent` at the density
+        `lambda_val`.
         """
         import pandas
 
@@ -52,7 +54,7 @@ class CondensedTree:
         return self.to_frame()
 
     def to_numpy(self) -> NDArray[Any]:
-        """The rows of `to_frame` as a structured array."""
+        """Make a structured array of the rows of `to_frame`."""
         columns = self._columns()
         rows = np.empty(len(columns["child"]), [(name, it.dtype) for name, it in columns.items()])
         for name, it in columns.items():
@@ -60,9 +62,10 @@ class CondensedTree:
         return rows
 
     def plot(self, ax: Any = None, *, select_clusters: bool = True) -> Any:
-        """Draws the clusters by matplotlib, as wide as they have points, from lower densities down to higher; returns the axes.
+        """Draw the clusters with matplotlib, and return the axes.
 
-        Those that are chosen have the colours of their labels in `Forest.plot`, unless `select_clusters` is false.
+        The density grows downwards, and a cluster is as wide as it has points. Clusters that were selected have the
+        colours of their labels in `Forest.plot`, unless `select_clusters` is false.
         """
         from matplotlib import pyplot
 
@@ -70,7 +73,7 @@ class CondensedTree:
         centres = self._centres()
         columns = self._columns()
         densities = columns["lambda_val"]
-        # (copies never leave: their clusters end a little below the rest)
+        # (equal points never leave: their clusters end a little below the rest)
         last = 1.05 * max(densities[np.isfinite(densities)], default=1.0)
         for it, centre in enumerate(centres):
             rows = columns["parent"] == self._condensed.n + it
@@ -84,14 +87,14 @@ class CondensedTree:
         return axes
 
     def _centres(self) -> list[float]:
-        """The middle of each cluster: those that leave the same are side by side, in the middle of it."""
+        """The horizontal centre of each cluster. The children of a cluster are side by side, around its centre."""
         found = self._condensed
-        centres, taken = [found.n / 2], [0.0]
+        centres, used = [found.n / 2], [0.0]
         total = np.zeros(len(found.parent))
         np.add.at(total, found.parent[1:], found.size[1:])
         for it in range(1, len(found.parent)):
             parent = found.parent[it]
-            centres.append(centres[parent] - total[parent] / 2 + taken[parent] + found.size[it] / 2)
-            taken.append(0.0)
-            taken[parent] += found.size[it]
+            centres.append(centres[parent] - total[parent] / 2 + used[parent] + found.size[it] / 2)
+            used.append(0.0)
+            used[parent] += found.size[it]
         return centres

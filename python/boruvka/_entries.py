@@ -1,4 +1,4 @@
-"""What the formats of scipy's sparse matrices store beside entries that are meant."""
+"""Zeros that scipy's sparse formats store only because they store whole blocks or diagonals."""
 
 from __future__ import annotations
 
@@ -6,9 +6,11 @@ from typing import Any
 
 
 def expect_no_filling(matrix: Any, name: str) -> None:
-    """A ValueError if a 0 off the main diagonal may be an entry, or may only fill the format.
+    """Raise a ValueError if the matrix stores a 0 off its main diagonal that may be an edge or may only fill the
+    format.
 
-    The format bsr stores whole blocks, and dia whole diagonals. In all others a 0 is stored if it is meant.
+    The format bsr stores whole blocks, and dia stores whole diagonals. Any other format stores a 0 only if it is an
+    entry.
     """
     form = getattr(matrix, "format", None)
     if form == "dia" or form == "bsr" and matrix.blocksize != (1, 1):
@@ -19,6 +21,6 @@ def expect_no_filling(matrix: Any, name: str) -> None:
         if is_wrong.any():
             row, column = (it[is_wrong.argmax()] for it in (zeros.row, zeros.col))
             raise ValueError(
-                f"{name}[{row}, {column}] is a 0 that may fill the format {form}, or be an edge: "
-                "make a csr_matrix by .tocsr(), and drop such zeros by its .eliminate_zeros()"
+                f"{name}[{row}, {column}] is a 0 that may be an edge or may only fill the format {form}: "
+                "convert it by .tocsr(), and drop such zeros by .eliminate_zeros()"
             )

@@ -1,4 +1,4 @@
-"""Minimum spanning forests of arrays of edges."""
+"""Minimum spanning forests of edges in arrays."""
 
 from __future__ import annotations
 
@@ -8,13 +8,12 @@ from typing import Any, SupportsIndex, overload
 import numpy as np
 from numpy.typing import NDArray
 
-from boruvka._arrays import expect_no_masks, held, is_array, is_masked, of_each, truth, whole
-from boruvka._edges import Column, edges_of, number_of_threads, pairs_of_vertices, places, places_of_own, vertices
-from boruvka._result import Forest, Real
+from boruvka._arrays import boolean
+from boruvka._edges import Column, edges_of, indices_of_checked, number_of_threads, pairs_of_vertices
+from boruvka._result import Forest
 from boruvka._weights import ordered
 
-# (after the first, these are for the modules of points)
-__all__ = ["minimum_spanning_forest", "Forest", "Real", "expect_no_masks", "held", "is_array", "is_masked", "of_each", "places", "truth", "vertices", "whole"]
+__all__ = ["minimum_spanning_forest"]
 
 
 @overload
@@ -34,65 +33,66 @@ def minimum_spanning_forest(n: SupportsIndex | None, /, *, u: Column, v: Column,
 @overload
 def minimum_spanning_forest(*, n: SupportsIndex | None = None, u: Column, v: Column, w: Column, maximum: bool = False, threads: SupportsIndex = 1) -> Forest: ...
 def minimum_spanning_forest(*edges: Any, n: Any = None, u: Any = None, v: Any = None, w: Any = None, maximum: bool = False, threads: SupportsIndex = 1) -> Forest:
-    """Find the minimum spanning forest of an undirected graph, or the maximum one.
+    """Find the minimum spanning forest of an undirected graph.
 
-    It is the edges that connect all that the graph connects, at the least total weight. Edge i of the m edges joins the
-    vertices u[i] and v[i] with the weight w[i]. It may be a loop, and there may be others between the same vertices.
+    It is the set of edges of least total weight that connects all vertices that the graph connects. Edge i of the m
+    edges joins the vertices u[i] and v[i], and has the weight w[i]. Loops and parallel edges are allowed.
 
-    Call it as (n, u, v, w), (u, v, w), (n, edges, w) or (edges, w), where `edges` has u and v as its two columns. Each of
-    n, u, v and w may also have its name.
+    Call it as (n, u, v, w), (u, v, w), (n, edges, w) or (edges, w), where `edges` has u and v as its two columns. Each
+    of n, u, v and w may also be passed by name.
 
     Parameters
     ----------
     n : int, optional
-        The number of vertices, at most 2^26. They are 0 to n - 1. Without n, as many as the ends need.
+        The number of vertices, at most 2^26. They are 0 to n - 1. By default n is the greatest endpoint plus 1.
     u, v : array_like of whole numbers, shape (m,)
-        The ends of each edge, in either order. m is at most 2^30.
+        The endpoints of each edge, in either order. m is at most 2^30.
     w : array_like of whole numbers or floats of up to 64 bits, shape (m,)
-        The weights. They may be negative or infinite. -0.0 is as heavy as 0.0.
+        The weights. They may be negative or infinite. -0.0 equals 0.0.
     maximum : bool, optional
-        Whether the total weight shall be the greatest instead. Then the heaviest edge comes first.
+        Whether to find the forest of greatest total weight instead. Then the heaviest edge comes first.
     threads : int, optional
-        How many threads may find it, at most: the same forest. From 16 edges a vertex on it may gain time. There are no
-        more than this process has processors, or than the edges are worth.
+        The greatest number of threads to use. The forest is the same for any number. At most one thread is used per
+        processor of this process.
 
     Returns
     -------
     Forest
-        The edges in ascending order of (w, u, v), with u < v, as arrays u, v, w and index. `index` is the place of each
-        edge among those given: `w[index]` are the weights of the forest.
+        The edges in ascending order of (w, u, v), with u < v, as arrays u, v, w and index. `index` has the index of
+        each edge among the edges given: `w[index]` has the weights of the forest.
 
     Raises
     ------
     ValueError
-        If an end isn't from 0 to n - 1, a weight is NaN or past 2^63 - 1, n is negative or past 2^26, m is past 2^30,
-        an array hasn't one dimension or has masked entries, the arrays differ in length, or numpy would round a weight
-        of a list or of objects beside the others. If threads is below 1.
+        If an endpoint isn't from 0 to n - 1, a weight is NaN or above 2^63 - 1, n is negative or above 2^26, m is above
+        2^30, an array has masked entries or doesn't have one dimension, the arrays differ in length, or `threads` is
+        below 1. If numpy would round a weight of a list, because other weights are floats.
     TypeError
-        If n, threads or an end is no whole number, `maximum` is neither True nor False, or a weight is neither a whole
-        number nor a float of up to 64 bits.
+        If n, `threads` or an endpoint isn't a whole number, `maximum` is neither True nor False, or a weight is neither
+        a whole number nor a float of up to 64 bits.
     MemoryError
-        If there is no memory for the forest.
+        If there isn't enough memory for the forest.
 
     Notes
     -----
-    Ties: of edges that are equally heavy the one with the lower (u, v) comes first, and of edges that are equal in all
-    three the first given. So the forest is the only one of least weight in that order.
+    Ties: among edges of equal weight, the one with the lower (u, v) counts first; among edges that are equal in all
+    three, the one given first. In that order there is exactly one minimum spanning forest.
 
     Components: `forest.labels(clusters=forest.components)` numbers them.
 
-    Cost: time about that of sorting the weights once, whatever the edges are. Memory is about 20 bytes per edge in addition
-    to the arrays given and the result, up to 36 if most edges are in the forest. The endpoints are copied, 8 bytes per edge,
-    unless an array of int32 or uint32 is read-only and owns its memory. Weights other than int64 are copied too, 8 bytes per
-    edge. The arrays given are never written.
+    Cost: about the time of sorting the weights once, whatever the edges are. Memory is about 20 bytes per edge in
+    addition to the arrays given and the result, and up to 36 if most edges are in the forest. The endpoints are copied,
+    8 bytes per edge, unless an array of int32 or uint32 is read-only and owns its memory. Weights other than int64 are
+    copied too, 8 bytes per edge. The arrays given are never written.
 
-    Other threads: any number of threads may call at once, and run side by side. If another thread writes the endpoints
-    during a call, the forest is that of some state of each endpoint, or there is a ValueError. If it writes the weights, the
-    result may be wrong. A child that was forked from a process with threads must not call.
+    Threads: if there are fewer than 16 edges per vertex, one thread is used. Otherwise each thread has a part of the
+    edges, of at least 6 edges per vertex, and one of them merges the forests of the parts. With 16 edges per vertex the
+    gain is small; with 24 or more, four threads take about half the time if four processors are idle. Memory is that of
+    one thread plus at most 4 bytes per edge.
 
-    Threads: with `threads` above 1 each has a part of the edges, and one merges the forests of the parts. Each has at
-    least 6 edges a vertex, and below 16 edges a vertex there is one. At 16 the gain is small; from 24 on four take
-    about half the time, if processors are idle. Memory is that of one, and up to 4 bytes an edge.
+    Other threads: any number of threads may call at once. If another thread writes the endpoints during a call, the
+    result is the forest of some state of each endpoint, or a ValueError. If another thread writes the weights during a
+    call, the result may be wrong. A child that was forked from a process with threads must not call.
 
     Examples
     --------
@@ -112,9 +112,9 @@ def minimum_spanning_forest(*edges: Any, n: Any = None, u: Any = None, v: Any = 
 
 
 def forest_of(n: int, edges: Sequence[NDArray[Any]], maximum: bool, threads: int = 1, weight: str = "w") -> Forest:
-    """The forest of three columns; errors call the third by the name of the weights."""
+    """The forest of three columns. Errors call the third one `weight`."""
     tails, heads, weights = edges
     u, v = pairs_of_vertices(n, tails, heads)
-    index = places_of_own(n, u, v, ordered(weights, truth(maximum, "maximum"), weight), threads)
+    index = indices_of_checked(n, u, v, ordered(weights, boolean(maximum, "maximum"), weight), threads)
     one, other = tails.take(index).astype(np.intp), heads.take(index).astype(np.intp)
     return Forest(np.minimum(one, other), np.maximum(one, other), weights.take(index), index, n, maximum)

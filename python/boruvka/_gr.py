@@ -1,7 +1,7 @@
-"""`.gr` texts, which the program reads and writes. docs/GR_FORMAT.md of the repository says what they are.
+"""`.gr` texts, which the program reads and writes. docs/GR_FORMAT.md in the repository defines them.
 
-The library's call judges a text: its first fault, or how many vertices it has. That is proved. The numbers of its arcs
-are read here, and texts are written here: that is tested.
+A proved call of the library checks a text, and returns its first error or its number of vertices. This module reads the
+numbers of its arcs, and writes texts: that is tested.
 """
 
 from __future__ import annotations
@@ -21,18 +21,18 @@ from boruvka._edges import Column, edges_of, pairs_of_vertices
 from boruvka._result import Forest
 from boruvka._weights import ordered
 
-# bytes that are read, and lines that are written, in one piece of work; Ctrl-C is heard between two
+# bytes that are read, and lines that are written, at a time; Ctrl-C takes effect in between
 _BYTES, _LINES = 1 << 22, 1 << 16
 _GZIP = b"\x1f\x8b"
-# an arc line has neither letter, so the first of them in a line begins its first field
+# an arc line has neither letter, so in any other line the first of them begins the first field
 _COMMENT_OR_PROBLEM = re.compile(rb"[cp][^\n]*")
 _ONLY_NUMBERS = bytes.maketrans(b"a\t\r\n", b"    ")
 
 
 class Edges(NamedTuple):
-    """A graph of the vertices 0 to n - 1. Edge i joins u[i] and v[i] with the weight w[i].
+    """A graph with the vertices 0 to n - 1. Edge i joins u[i] and v[i], and has the weight w[i].
 
-    `minimum_spanning_forest(*edges)` takes it.
+    Pass it on as `minimum_spanning_forest(*edges)`.
     """
 
     n: int
@@ -42,40 +42,42 @@ class Edges(NamedTuple):
 
 
 def read_gr(path: str | os.PathLike[str]) -> Edges:
-    """Read the graph of a `.gr` file, the shortest-path format of the 9th DIMACS Challenge. It may be compressed by gzip.
+    """Read a graph from a `.gr` file, the shortest-path format of the 9th DIMACS Challenge. It may be compressed by
+    gzip.
 
     Parameters
     ----------
     path : path
-        The file. If it is compressed, its first bytes say so.
+        The file. Its first bytes show whether it is compressed.
 
     Returns
     -------
     Edges
-        n, u, v and w. Vertices are numbered from 0: the file's vertex 1 is 0 here. Edges are in the file's order, loops
-        and parallel ones among them.
+        n, u, v and w. Vertices are numbered from 0: the file's vertex 1 is 0 here. Edges are in the order of the file,
+        including loops and parallel edges.
 
     Raises
     ------
     ValueError
-        If the text is malformed: `roads.gr: line 3: MissingArcs` has its path, its first fault and the fault's line, as
-        the program tells them. Or if compressed data is cut off or damaged.
+        If the text is malformed: `roads.gr: line 3: MissingArcs` has the path, and the line and the name of the first
+        error, as the program reports them. If compressed data is truncated or damaged.
     OSError
         If the file can't be read.
 
     Notes
     -----
-    A library whose calls are proved judges the whole text, and tells n. Python reads the numbers of a text that has no
-    fault; that is tested.
+    A library whose calls are proved checks the whole text, and counts its vertices. Python then reads the numbers; that
+    is tested.
 
-    Cost: time about three times that of solving the graph. Memory is the text's, and 45 bytes an edge. A compressed file
-    of a stranger may be a thousand times as large in memory. Ctrl-C waits for the library's call, a third of the time.
+    Cost: about three times the time of finding the forest. Memory is that of the text, and 45 bytes per edge. An
+    untrusted compressed file may be a thousand times as large in memory. Ctrl-C has no effect during the library's
+    call, a third of the time.
 
     Examples
     --------
     >>> import boruvka
     >>> with open("net.gr", "w") as file:
-    ...     _ = file.write("c a net of three\\np sp 3 3\\na 1 2 7\\na 3 2 -5\\na 1 3 7\\n")
+    ...     _ = file.write("c a graph of three vertices\\np sp 3 3\\na 1 2 7\\na 3 2 -5\\na 1 3 7\\n")
     >>> boruvka.minimum_spanning_forest(*boruvka.read_gr("net.gr")).w
     array([-5,  7])
     """
@@ -90,7 +92,7 @@ def read_gr(path: str | os.PathLike[str]) -> Edges:
         end = text.find(b"\n", start + _BYTES) + 1 or len(text)
         tables.append(_arcs(text[start:end]))
         start = end
-    u, v = (np.concatenate([it[:, place].astype(np.int32) - np.int32(1) for it in tables]) for place in (0, 1))
+    u, v = (np.concatenate([it[:, column].astype(np.int32) - np.int32(1) for it in tables]) for column in (0, 1))
     return Edges(n, u, v, np.concatenate([it[:, 2] for it in tables]))
 
 
@@ -109,26 +111,26 @@ def write_gr(path: str | os.PathLike[str], n: SupportsIndex | None, /, *, u: Col
 @overload
 def write_gr(path: str | os.PathLike[str], *, n: SupportsIndex | None = None, u: Column, v: Column, w: Column) -> None: ...
 def write_gr(path: str | os.PathLike[str], *edges: Any, n: Any = None, u: Any = None, v: Any = None, w: Any = None) -> None:
-    """Write a graph or a forest as a `.gr` file, which the program reads; compressed by gzip, if its name ends in `.gz`.
+    """Write a graph or a forest as a `.gr` file, which the program reads. It is compressed if its name ends in `.gz`.
 
     Parameters
     ----------
     path : path
-        The file. One that is there is lost.
+        The file. An existing one is overwritten.
     edges, n, u, v, w : optional
         A forest alone, or the edges as `minimum_spanning_forest` takes them. Weights are whole numbers.
 
     Raises
     ------
     ValueError, TypeError
-        As `minimum_spanning_forest` does, or if weights are floats. No file is written then.
+        As `minimum_spanning_forest` does, or if weights are floats. Then no file is written.
     OSError
         If the file can't be written.
 
     Notes
     -----
-    The file has the vertices 1 to n. A forest of least weight has the very text that the program writes. Names, places
-    among other edges, and that a forest is one of greatest weight, aren't written.
+    Vertices are numbered from 1 in the file. For a minimum forest the text is the one that the program writes. Names,
+    the `index` of edges, and whether a forest is a maximum forest aren't written.
 
     Examples
     --------
@@ -145,7 +147,7 @@ def write_gr(path: str | os.PathLike[str], *edges: Any, n: Any = None, u: Any = 
     count, u, v, weights = edges_of(edges, n, u, v, w)
     tails, heads = pairs_of_vertices(count, u, v)
     if weights.dtype.kind == "f" and len(weights):
-        raise TypeError(f"w has the dtype {weights.dtype}, and a .gr text has whole numbers: scale and round them first, as in (1000 * w).round().astype(int)")
+        raise TypeError(f"w has the dtype {weights.dtype}, but a .gr text has whole numbers: scale and round them first, as in (1000 * w).round().astype(int)")
     keys = ordered(weights)
     with open(path, "wb") as file:
         into: Any = gzip.GzipFile("", "wb", fileobj=file, mtime=0) if os.fsdecode(path).endswith(".gz") else file
@@ -163,13 +165,13 @@ def _text_of(path: str | os.PathLike[str]) -> bytes:
     try:
         return gzip.decompress(text)
     except (EOFError, zlib.error, gzip.BadGzipFile) as error:
-        raise ValueError(f"{os.fsdecode(path)}: its compressed data is cut off or damaged: {error}") from None
+        raise ValueError(f"{os.fsdecode(path)}: its compressed data is truncated or damaged: {error}") from None
 
 
 def _arcs(lines: bytes) -> NDArray[np.int64]:
-    """The numbers of the arc lines among these, a row each; no line has a fault."""
+    """The numbers of the arc lines among these well-formed lines, a row for each arc."""
     numbers = _COMMENT_OR_PROBLEM.sub(b"", lines).translate(_ONLY_NUMBERS).strip()
-    # (of spaces alone numpy would read a 0)
+    # (from spaces alone numpy would read a 0)
     return (np.fromstring(numbers, np.int64, sep=" ") if numbers else np.empty(0, np.int64)).reshape(-1, 3)
 
 

@@ -1,6 +1,6 @@
-"""Columns by the dataframe interchange protocol, which an object that has `__dataframe__` speaks.
+"""Columns by the dataframe interchange protocol, for objects that have `__dataframe__`.
 
-https://data-apis.org/dataframe-protocol says what its words mean.
+https://data-apis.org/dataframe-protocol defines its terms.
 """
 
 from __future__ import annotations
@@ -12,7 +12,7 @@ from typing import Any
 import numpy as np
 from numpy.typing import NDArray
 
-# kinds of columns, and how they say what is missing
+# codes of the kinds of columns, and of the ways in which entries are marked as missing
 _INT, _UINT, _FLOAT, _BOOL, _STRING, _CATEGORICAL = 0, 1, 2, 20, 21, 23
 _NEVER, _NAN, _SENTINEL, _BITS, _BYTES = range(5)
 _LETTERS = {_INT: "i", _UINT: "u", _FLOAT: "f"}
@@ -23,7 +23,7 @@ def names_of(table: Any) -> list[Any]:
 
 
 def column_of(table: Any, name: Any) -> list[Any] | NDArray[Any]:
-    """The entries of a column, None where one is missing; an array if it has one piece of numbers, and none is missing."""
+    """The entries of a column, None for missing ones; an array if it is one chunk of numbers without missing ones."""
     column = table.get_column_by_name(name)
     chunks = [column] if column.num_chunks() == 1 else list(column.get_chunks())
     entries = [_entries(it, name) for it in chunks]
@@ -31,11 +31,11 @@ def column_of(table: Any, name: Any) -> list[Any] | NDArray[Any]:
 
 
 def _entries(chunk: Any, name: Any) -> list[Any] | NDArray[Any]:
-    """Those of a column that is in one piece."""
+    """The entries of a column that is one chunk."""
     size = chunk.size() if callable(chunk.size) else chunk.size
     kind, buffers = int(chunk.dtype[0]), chunk.get_buffers()
     if not size:
-        # (Arrow's texts may have no offsets then)
+        # (a column of texts may have no offsets then)
         return []
     if kind in _LETTERS or kind == _BOOL:
         numbers = _numbers(buffers["data"], chunk.offset, size).copy()
@@ -47,61 +47,61 @@ def _entries(chunk: Any, name: Any) -> list[Any] | NDArray[Any]:
     elif kind == _CATEGORICAL:
         each = _named(_codes(buffers["data"], chunk.offset, size), chunk.describe_categorical, name)
     else:
-        raise TypeError(f"the column {name!r} has entries of the kind {chunk.dtype[0]!r}, and numbers, texts and categories are taken")
+        raise TypeError(f"the column {name!r} has entries of the kind {chunk.dtype[0]!r}, but has to have numbers, texts or categories")
     missing = _missing(chunk, size)
     return [None if is_missing else it for it, is_missing in zip(each, missing)] if any(missing) else each
 
 
 def _bytes_of(buffer: Any) -> NDArray[np.uint8]:
-    """Its bytes, which are there as long as it is."""
+    """The bytes of a buffer, which are valid as long as the buffer exists."""
     if not buffer.bufsize:
         return np.empty(0, np.uint8)
-    held = (ctypes.c_uint8 * buffer.bufsize).from_address(buffer.ptr)
-    return np.frombuffer(held, np.uint8)
+    memory = (ctypes.c_uint8 * buffer.bufsize).from_address(buffer.ptr)
+    return np.frombuffer(memory, np.uint8)
 
 
-def _numbers(told: tuple[Any, Any], offset: int, size: int) -> NDArray[Any]:
-    """So many entries of a buffer, which stands before what it holds, from the one at the offset on."""
-    buffer, (kind, bits, _, order) = told
-    held: NDArray[Any] = _bytes_of(buffer)
+def _numbers(described: tuple[Any, Any], offset: int, size: int) -> NDArray[Any]:
+    """`size` entries of a buffer from `offset` on; `described` is the buffer and the dtype of its entries."""
+    buffer, (kind, bits, _, order) = described
+    entries: NDArray[Any] = _bytes_of(buffer)
     if bits == 1:
-        held = np.unpackbits(held, bitorder="little").astype(bool)
+        entries = np.unpackbits(entries, bitorder="little").astype(bool)
     else:
         letter = "?" if int(kind) == _BOOL else f"{_LETTERS[int(kind)]}{bits // 8}"
-        held = held[: len(held) // (bits // 8) * (bits // 8)].view(np.dtype((order if order == ">" else "") + letter))
-    if len(held) < offset + size:
-        raise ValueError(f"a buffer of the frame has {len(held)} entries, and {offset + size} are told")
-    return held[offset : offset + size]
+        entries = entries[: len(entries) // (bits // 8) * (bits // 8)].view(np.dtype((order if order == ">" else "") + letter))
+    if len(entries) < offset + size:
+        raise ValueError(f"a buffer of the frame has {len(entries)} entries, but its column needs {offset + size}")
+    return entries[offset : offset + size]
 
 
-def _codes(told: tuple[Any, Any], offset: int, size: int) -> NDArray[Any]:
-    """Whole numbers that stand for something else."""
-    buffer, (kind, *more) = told
+def _codes(described: tuple[Any, Any], offset: int, size: int) -> NDArray[Any]:
+    """Integers that stand for other entries, whatever kind their buffer says they are."""
+    buffer, (kind, *more) = described
     return _numbers((buffer, (kind if int(kind) in _LETTERS else _INT, *more)), offset, size)
 
 
 def _strings(buffers: Any, offset: int, size: int) -> list[str]:
     data = _bytes_of(buffers["data"][0]).tobytes()
     starts = _numbers(buffers["offsets"], offset, size + 1).tolist()
-    cuts = map(slice, starts, starts[1:])
+    slices = map(slice, starts, starts[1:])
     if data.isascii():
-        return list(map(data.decode().__getitem__, cuts))
-    return list(map(bytes.decode, map(data.__getitem__, cuts)))
+        return list(map(data.decode().__getitem__, slices))
+    return list(map(bytes.decode, map(data.__getitem__, slices)))
 
 
 def _named(codes: NDArray[Any], about: Any, name: Any) -> list[Any]:
-    """What codes name."""
+    """The categories that codes stand for."""
     about = about() if callable(about) else about
     if not about["is_dictionary"]:
         raise TypeError(f"the column {name!r} has categories without a dictionary")
     names = _entries(about["categories"], name)
-    # (codes of missing entries name nothing)
+    # (codes of missing entries stand for no category)
     is_there = (0 <= codes) & (codes < len(names))
     return list(map([*names, None].__getitem__, np.where(is_there, codes, len(names)).tolist()))
 
 
 def _missing(chunk: Any, size: int) -> list[bool]:
-    """Which entries are missing; none of them if no entry is."""
+    """Which entries are missing; an empty list if none can be."""
     how, value = chunk.describe_null
     if how in (_NEVER, _NAN):
         return []

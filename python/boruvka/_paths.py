@@ -1,6 +1,6 @@
 """Paths in a forest, their heaviest edges, and what replaces an edge that fails.
 
-What these questions need is computed once for a forest, at the first of each kind.
+What these questions need is computed once per forest, at the first question of each kind.
 """
 
 from __future__ import annotations
@@ -17,70 +17,108 @@ from boruvka import _library
 if TYPE_CHECKING:
     from boruvka._result import Forest
 
-# from so many vertices on scipy's search is worth loading scipy
+# from this many vertices on, scipy's search is worth loading scipy
 _LARGE = 1 << 14
 
 
 class Rooted:
-    """A forest whose trees have roots, below one more vertex, 0. The others are numbered so that parents come first.
+    """A forest whose trees hang from an additional vertex 0. The others are renumbered so that parents come first.
 
-    `parent` has the parent of each, which is 0 for a root, and `edge` the edge between them.
+    `above[k]` has the ancestor that is 2^k steps above each vertex, or 0 if the vertex is less deep. `edge` has the
+    edge between each vertex and its parent, or -1 for a root.
     """
 
     def __init__(self, forest: Forest) -> None:
         forest.expect_vertices()
         n, u, v = forest.n, forest.u, forest.v
         is_large = n >= _LARGE and ("scipy" in sys.modules or find_spec("scipy") is not None)
-        order, above = _searched_by_scipy(n, u, v) if is_large else _searched(n, u, v)
-        number = np.zeros(n + 1, np.intp)
-        number[order] = np.arange(1, n + 1)
-        child = np.where(above[v] == u, v, u)
-        if not np.array_equal(np.where(child == u, v, u), above[child]) or np.count_nonzero(above < n) != len(u):
+        order, parent = _searched_by_scipy(n, u, v) if is_large else _searched(n, u, v)
+        self.number = np.zeros(n + 1, np.int32)
+        self.number[order] = np.arange(1, n + 1, dtype=np.int32)
+        is_head = parent[v] == u
+        child = np.where(is_head, v, u)
+        if (parent[child] != np.where(is_head, u, v)).any() or np.count_nonzero(parent < n) != len(u):
             raise ValueError("the edges of the forest close a cycle")
-        self.number, self.edge = number, np.full(n + 1, -1, np.intp)
-        self.edge[number[child]] = np.arange(len(u))
-        # (Python is faster with lists, one by one)
-        self.parent, self.vertex = [0, *number[above[order]].tolist()], [-1, *order.tolist()]
+        self.edge = np.full(n + 1, -1, np.int32)
+        self.edge[self.number[child]] = np.arange(len(u), dtype=np.int32)
+        self.vertex = np.append(np.int32(-1), order.astype(np.int32))
+        self.above = [np.append(np.int32(0), self.number[parent[order]])]
+        while self.above[-1].any():
+            self.above.append(self.above[-1][self.above[-1]])
+        # (Python reads single numbers faster from a memoryview than from an array)
+        self.views = [it.data for it in self.above]
 
     def path(self, a: int, b: int) -> list[int]:
-        """The vertices on the path from a to b, with both; none if there is no path."""
-        parent = self.parent
+        """The vertices on the path from a to b, including both; an empty list if there is no path."""
         a, b = int(self.number[a]), int(self.number[b])
-        there, back = [a], [b]
-        while a != b:
-            if a > b:
-                a = parent[a]
-                there.append(a)
-            else:
-                b = parent[b]
-                back.append(b)
-        return list(map(self.vertex.__getitem__, there + back[-2::-1])) if a else []
+        steps = self.depth(a), self.depth(b)
+        top = self.common_ancestor(a, b, steps[0] - steps[1])
+        if not top:
+            return []
+        end = self.depth(top) - 1
+        there, back = self.ancestors(a, steps[0] - end), self.ancestors(b, steps[1] - end)
+        found: list[int] = self.vertex[np.concatenate([there, back[-2::-1]])].tolist()
+        return found
+
+    def depth(self, vertex: int) -> int:
+        """The number of steps from a vertex to its root."""
+        found = 0
+        for bit in range(len(self.views) - 1, -1, -1):
+            above = self.views[bit][vertex]
+            if above:
+                vertex, found = above, found + (1 << bit)
+        return found
+
+    def common_ancestor(self, a: int, b: int, deeper: int) -> int:
+        """The deepest vertex above a and b, which may be one of them; 0 if there is none. a is `deeper` steps deeper
+        than b.
+        """
+        if deeper < 0:
+            a, b, deeper = b, a, -deeper
+        for bit, above in enumerate(self.views):
+            if deeper >> bit & 1:
+                a = above[a]
+        if a == b:
+            return a
+        for above in reversed(self.views):
+            if above[a] != above[b]:
+                a, b = above[a], above[b]
+        return int(self.views[0][a])
+
+    def ancestors(self, vertex: int, count: int) -> NDArray[np.int32]:
+        """A vertex and those above it, `count` in all."""
+        found = np.array([vertex], np.int32)
+        for above in self.above:
+            if len(found) == count:
+                break
+            found = np.concatenate([found, above[found[: count - len(found)]]])
+        return found
 
 
 def _searched(n: int, u: NDArray[np.intp], v: NDArray[np.intp]) -> tuple[NDArray[np.intp], NDArray[np.intp]]:
-    """The vertices in an order in which parents come before children, and their parents, which is n for a root."""
-    ends = np.concatenate([u, v])
-    by_end = np.argsort(ends, kind="stable")
-    starts = np.searchsorted(ends[by_end], np.arange(n + 1)).tolist()
-    others = np.concatenate([v, u])[by_end].tolist()
-    above, order = [-1] * n, []
+    """The vertices in an order in which parents come before children, and the parent of each, which is n for a root."""
+    endpoints = np.concatenate([u, v])
+    by_endpoint = np.argsort(endpoints, kind="stable")
+    starts = np.searchsorted(endpoints[by_endpoint], np.arange(n + 1)).tolist()
+    others = np.concatenate([v, u])[by_endpoint].tolist()
+    parent, order = [-1] * n, []
     for root in range(n):
-        if above[root] != -1:
+        if parent[root] != -1:
             continue
-        above[root] = n
+        parent[root] = n
         waiting = [root]
         while waiting:
             here = waiting.pop()
             order.append(here)
             for it in others[starts[here] : starts[here + 1]]:
-                if above[it] == -1:
-                    above[it] = here
+                if parent[it] == -1:
+                    parent[it] = here
                     waiting.append(it)
-    return np.array(order, np.intp), np.array(above, np.intp)
+    return np.array(order, np.intp), np.array(parent, np.intp)
 
 
 def _searched_by_scipy(n: int, u: NDArray[np.intp], v: NDArray[np.intp]) -> tuple[NDArray[np.intp], NDArray[np.intp]]:
-    """The same by scipy, from one more vertex that has an edge to each root."""
+    """The same by scipy, from an additional vertex that has an edge to each root."""
     from scipy.sparse import csr_matrix
     from scipy.sparse.csgraph import breadth_first_order, connected_components
 
@@ -91,15 +129,15 @@ def _searched_by_scipy(n: int, u: NDArray[np.intp], v: NDArray[np.intp]) -> tupl
     tops = np.full(len(roots), n)
     tails, heads = np.concatenate([u, v, tops]), np.concatenate([v, u, roots])
     graph = csr_matrix((np.ones(len(tails)), (tails, heads)), shape=(n + 1, n + 1))
-    order, above = breadth_first_order(graph, n)
-    return order[1:].astype(np.intp), above[:n].astype(np.intp)
+    order, parent = breadth_first_order(graph, n)
+    return order[1:].astype(np.intp), parent[:n].astype(np.intp)
 
 
 class Merged:
-    """A forest as the merges of its clusters, its edges in the order in which they count.
+    """A forest as the merges of its clusters, in the order of `_best_first`.
 
-    At each merge the first vertex of the smaller cluster is put below that of the larger one, so that at most log2(n)
-    vertices are above any other.
+    Each merge puts the first vertex of the smaller cluster below that of the larger one. So at most log2(n) vertices
+    are above any other.
     """
 
     def __init__(self, forest: Forest) -> None:
@@ -109,7 +147,7 @@ class Merged:
         links = np.zeros(k, _library.LINK)
         links["low"], links["high"] = forest.u[self.order] + 1, forest.v[self.order] + 1
         merges = _library.merges(n, links)
-        # (fewer than 2^27 clusters: half the bytes of the usual numbers are faster to go through)
+        # There are fewer than 2^27 clusters, and half as many bytes take less time.
         one, other = merges["first"].astype(np.int32), merges["second"].astype(np.int32)
         sizes = np.ones(n + k, np.int32)
         sizes[n:] = merges["size"]
@@ -123,7 +161,8 @@ class Merged:
         above, when = np.full(n, -1, np.int32), np.full(n, k, np.int32)
         below = first[small]
         above[below], when[below] = first[large], np.arange(k, dtype=np.int32)
-        self.above, self.when = above.tolist(), when.tolist()
+        # (Python reads single numbers faster from a memoryview than from an array)
+        self.above, self.when = above.data, when.data
 
     def heaviest(self, a: int, b: int) -> int:
         """The position, in the forest, of the edge that counts last on the path from a to b.
@@ -142,7 +181,7 @@ class Merged:
 
 
 def _best_first(forest: Forest) -> NDArray[np.intp]:
-    """The edges in the order in which they count: lightest first, or heaviest first in a maximum forest."""
+    """The positions of the edges, lightest first, or heaviest first in a maximum forest; equal ones as they come."""
     if np.isnan(forest.w).any():
         raise ValueError(f"forest.w[{np.isnan(forest.w).argmax()}] is NaN")
     if not forest.maximum:
@@ -151,11 +190,11 @@ def _best_first(forest: Forest) -> NDArray[np.intp]:
 
 
 def replacements(rooted: Rooted, u: NDArray[np.intp], v: NDArray[np.intp], order: NDArray[np.intp]) -> NDArray[np.intp]:
-    """For each edge of the forest the first of these other edges, in this order, whose path has it; -1 if none has.
+    """For each edge of the forest, the first of these other edges, in this order, whose path has it; -1 if none has.
 
-    The edges of a path that have a replacement are contracted, so that each is met once.
+    Edges of a path that have a replacement are contracted, so that each is visited once.
     """
-    parent, edge = rooted.parent, rooted.edge.tolist()
+    parent, edge = rooted.above[0].tolist(), rooted.edge.tolist()
     top = list(range(len(parent)))
     found = [-1] * (len(edge) - edge.count(-1))
 
@@ -165,12 +204,12 @@ def replacements(rooted: Rooted, u: NDArray[np.intp], v: NDArray[np.intp], order
             vertex = top[vertex]
         return vertex
 
-    for place, a, b in zip(order.tolist(), rooted.number[u[order]].tolist(), rooted.number[v[order]].tolist()):
+    for index, a, b in zip(order.tolist(), rooted.number[u[order]].tolist(), rooted.number[v[order]].tolist()):
         a, b = contracted(a), contracted(b)
         while a != b:
             if a < b:
                 a, b = b, a
-            found[edge[a]] = place
+            found[edge[a]] = index
             top[a] = parent[a]
             a = contracted(a)
     return np.array(found, np.intp)

@@ -1,4 +1,4 @@
-"""Questions about the vertices of a forest, which are asked by names if the vertices have names."""
+"""Questions about the vertices of a forest. If the vertices have names, questions use them."""
 
 from __future__ import annotations
 
@@ -9,19 +9,20 @@ import numpy as np
 from numpy.typing import NDArray
 
 from boruvka import _paths
-from boruvka._arrays import column, expect_one_index, whole
+from boruvka._arrays import column, expect_one_index, integer
 from boruvka._conversions import named
-from boruvka._edges import columns, pairs_of_vertices, places, vertices
-from boruvka._names import Book
+from boruvka._edges import columns, forest_indices, pairs_of_vertices, vertices
+from boruvka._names import Vertices
 
 if TYPE_CHECKING:
     from boruvka._result import Forest
 
 
 class Edge(NamedTuple):
-    """An edge of a forest, or columns of several.
+    """An edge of a forest, or columns of several edges.
 
-    u and v are its endpoints, w is its weight, `index` its index among the edges given, and `position` that in the forest.
+    u and v are its endpoints, and w is its weight. `index` is its index among the edges given, and `position` its index
+    in the forest.
     """
 
     u: Any
@@ -32,15 +33,15 @@ class Edge(NamedTuple):
 
 
 class Questions:
-    """A forest, and what is computed once for the questions that it was asked."""
+    """A forest, and what is computed once for the questions about it."""
 
     def __init__(self, forest: Forest) -> None:
         self.forest = forest
 
     @cached_property
-    def book(self) -> Book:
+    def by_name(self) -> Vertices:
         """The vertices by their names."""
-        return Book(self.forest.names or ())
+        return Vertices(self.forest.names or ())
 
     @cached_property
     def _rooted(self) -> _paths.Rooted:
@@ -51,13 +52,13 @@ class Questions:
         return _paths.Merged(self._fixed())
 
     def _fixed(self) -> Forest:
-        """The forest, whose arrays can't be written from now on, as what is computed once depends on them."""
+        """The forest, whose arrays become read-only, because what is computed once depends on them."""
         for it in self.forest:
             it.flags.writeable = False
         return self.forest
 
     def path(self, a: Any, b: Any) -> list[Any]:
-        """What `Forest.path` returns."""
+        """The result of `Forest.path`."""
         one, other = self._pairs(a, b)
         found = list(map(self._rooted.path, one.tolist(), other.tolist()))
         if [] in found:
@@ -67,23 +68,23 @@ class Questions:
         return paths if _are_many(a) or _are_many(b) else paths[0]
 
     def bottleneck(self, a: Any, b: Any) -> Edge:
-        """What `Forest.bottleneck` returns."""
+        """The result of `Forest.bottleneck`."""
         one, other = self._pairs(a, b)
         found = np.fromiter(map(self._merged.heaviest, one.tolist(), other.tolist()), np.intp, len(one))
         if (found < 0).any():
-            place = int((found < 0).argmax())
-            if found[place] == -2:
-                raise self._no_path(one, other, place)
-            raise ValueError(f"from {self._name(one[place])!r} to itself there is no edge")
+            at = int((found < 0).argmax())
+            if found[at] == -2:
+                raise self._no_path(one, other, at)
+            raise ValueError(f"there is no edge from {self._name(one[at])!r} to itself")
         forest = self.forest
-        ends = [it[found] if forest.names is None else named(forest, it[found]) for it in (forest.u, forest.v)]
-        fields: list[Any] = [*ends, forest.w[found], forest.index[found], found]
+        endpoints = [it[found] if forest.names is None else named(forest, it[found]) for it in (forest.u, forest.v)]
+        fields: list[Any] = [*endpoints, forest.w[found], forest.index[found], found]
         if _are_many(a) or _are_many(b):
             return Edge(*fields)
         return Edge(*(it.tolist()[0] if isinstance(it, np.ndarray) else it[0] for it in fields))
 
     def replacements(self, u: Any, v: Any, w: Any) -> NDArray[np.intp]:
-        """What `Forest.replacements` returns."""
+        """The result of `Forest.replacements`."""
         forest = self.forest
         expect_one_index({"u": u, "v": v, "w": w})
         if forest.names is not None:
@@ -93,42 +94,42 @@ class Questions:
         rest = np.ones(len(weights), bool)
         rest[forest.index] = False
         others = np.flatnonzero(rest)
-        # (the best edge between two parts of the vertices is in the forest of these edges)
-        order = others[places(forest.n, tails[others], heads[others], weights[others], forest.maximum)]
+        # (each replacement is in the forest of the edges that aren't in this forest)
+        order = others[forest_indices(forest.n, tails[others], heads[others], weights[others], forest.maximum)]
         found = _paths.replacements(self._rooted, tails.astype(np.intp), heads.astype(np.intp), order)
-        is_there = found >= 0
-        one, other = weights[found[is_there]], forest.w[is_there]
+        is_found = found >= 0
+        one, other = weights[found[is_found]], forest.w[is_found]
         if (one > other if forest.maximum else one < other).any():
-            raise ValueError("an edge that isn't in the forest is better than one that it would replace, so that it isn't the forest of these edges")
+            raise ValueError("an edge outside the forest is better than one that it could replace, so this isn't the forest of these edges")
         return found
 
     def _expect_forest_of(self, tails: NDArray[Any], heads: NDArray[Any], weights: NDArray[Any]) -> None:
-        """A ValueError if these aren't the edges of the forest, or connect what it doesn't."""
+        """Raise a ValueError if these aren't the edges of the forest, or connect vertices that it doesn't."""
         forest = self.forest
         if forest.index.ndim != 1:
-            raise ValueError("index has chunks and rows, and replacements need one forest of all edges: minimum_spanning_forest finds it")
+            raise ValueError("index has chunks and rows, but replacements need a forest of minimum_spanning_forest or from_edges")
         u, v = (it.astype(np.intp) for it in pairs_of_vertices(forest.n, tails, heads))
         index = forest.index
         if len(forest) and not 0 <= index.min() <= index.max() < len(weights):
-            raise ValueError(f"the forest has the edge {index.max()}, and {len(weights)} edges are given: give all edges of the graph")
+            raise ValueError(f"the forest has the edge {index.max()}, but only {len(weights)} edges are passed: pass all edges of the graph")
         low, high = np.minimum(u, v)[index], np.maximum(u, v)[index]
         is_other = (low != np.minimum(forest.u, forest.v)) | (high != np.maximum(forest.u, forest.v)) | (weights[index] != forest.w)
         if is_other.any():
-            place = index[is_other.argmax()]
-            raise ValueError(f"the edge {place} isn't the one of the forest with this index: give the edges in the order in which the forest was found")
+            at = index[is_other.argmax()]
+            raise ValueError(f"the edge {at} differs from the forest's edge with this index: pass the edges in the order in which the forest was found")
         labels = forest.labels(clusters=forest.components)
         if (labels[u] != labels[v]).any():
-            place = (labels[u] != labels[v]).argmax()
-            raise ValueError(f"the edge {place} joins two components of the forest, so that it isn't the forest of these edges")
+            at = (labels[u] != labels[v]).argmax()
+            raise ValueError(f"the edge {at} joins two components of the forest, so this isn't the forest of these edges")
 
     def vertices(self, given: Any, name: str) -> NDArray[np.intp]:
         """The numbers of vertices, or of one, by their names if they have any."""
         if self.forest.names is not None:
-            return self.book.vertices(given, name) if _are_many(given) else np.array([self.book.vertex(given)])
+            return self.by_name.vertices(given, name) if _are_many(given) else np.array([self.by_name.vertex(given)])
         if not _are_many(given):
-            number = whole(given, name, ": the forest has no names")
+            number = integer(given, name, ": the forest has no names")
             if not 0 <= number < self.forest.n:
-                raise ValueError(f"{number} is no vertex: they are 0 to {self.forest.n - 1}")
+                raise ValueError(f"{number} isn't a vertex: vertices are 0 to {self.forest.n - 1}")
             return np.array([number])
         array = column(given, name)
         return vertices(self.forest.n, array, name, array).astype(np.intp)
@@ -144,12 +145,12 @@ class Questions:
     def _name(self, vertex: int) -> Any:
         return int(vertex) if self.forest.names is None else self.forest.names[vertex]
 
-    def _no_path(self, one: NDArray[np.intp], other: NDArray[np.intp], place: int) -> ValueError:
-        return ValueError(f"{self._name(one[place])!r} and {self._name(other[place])!r} are in different components")
+    def _no_path(self, one: NDArray[np.intp], other: NDArray[np.intp], at: int) -> ValueError:
+        return ValueError(f"{self._name(one[at])!r} and {self._name(other[at])!r} are in different components")
 
 
 def _are_many(given: Any) -> bool:
-    """Whether it is a list or an array of vertices. (A tuple or a text may be a name.)"""
+    """Whether this is a list or an array of vertices. (A tuple or a text may be a name.)"""
     if isinstance(given, (str, bytes, tuple)):
         return False
     return isinstance(given, list) or hasattr(given, "tolist") and hasattr(given, "__len__") and np.ndim(given) > 0

@@ -1,34 +1,36 @@
-"""Minimum spanning trees of points by Prim's algorithm: from each point that is taken, all that are left are looked at."""
+"""Minimum spanning trees of points by Prim's algorithm: each point that joins the tree is compared with all points
+outside it.
+"""
 
 from __future__ import annotations
 
 import numpy as np
 from numpy.typing import NDArray
 
-from boruvka._points import Ends, Numbers, Places, Space, pieces, reached
+from boruvka._points import Endpoints, Indices, Numbers, Space, pieces, reached
 
-# points whose distances to all others are computed together
+# how many points' distances to all others are computed at a time
 _BLOCK = 64
 
 
-def by_rows(space: Space, nearest: int | None) -> Ends:
-    """The edges of the tree; the heights of `nearest` are kept in `space.core`."""
+def by_rows(space: Space, nearest: int | None) -> Endpoints:
+    """The edges of the tree. The core distances for `nearest` are stored in `space.core`."""
     if nearest:
         space.core = core_by_rows(space, nearest)
     rest = Rest(space)
     one, other = np.zeros((2, max(len(space) - 1, 0)), np.intp)
     here = 0
-    for place in range(len(one)):
+    for at in range(len(one)):
         rest.look_from(here)
-        one[place], here = rest.take_nearest()
-        other[place] = here
+        one[at], here = rest.take_nearest()
+        other[at] = here
     return one, other
 
 
-def tree_of_distances(square: Numbers, nearest: int | None) -> tuple[Places, Places, Numbers]:
-    """The edges of a tree of all points and their heights, by distances that are symmetric and 0 on the diagonal.
+def tree_of_distances(square: Numbers, nearest: int | None) -> tuple[Indices, Indices, Numbers]:
+    """The edges of a minimum spanning tree and their heights, from distances that are symmetric and 0 on the diagonal.
 
-    The heights of `nearest` are those of `tree_of_points`. The matrix is overwritten.
+    The heights are those of `tree_of_points`. The matrix is overwritten.
     """
     n = len(square)
     if nearest:
@@ -39,19 +41,19 @@ def tree_of_distances(square: Numbers, nearest: int | None) -> tuple[Places, Pla
     is_left = np.ones(n, bool)
     one, other = np.zeros((2, n - 1), np.intp)
     here = 0
-    for place in range(n - 1):
+    for at in range(n - 1):
         is_left[here], best[here] = False, np.inf
         is_nearer = is_left & (square[here] < best)
         np.copyto(best, square[here], where=is_nearer)
         ends[is_nearer] = here
-        # (a distance is finite)
+        # (distances are finite, so this is a point outside the tree)
         here = int(best.argmin())
-        one[place], other[place] = ends[here], here
+        one[at], other[at] = ends[here], here
     return one, other, square[one, other]
 
 
 def core_by_rows(space: Space, nearest: int) -> Numbers:
-    """How far each point is from its `nearest` nearest points, itself counted."""
+    """The distance of each point to its `nearest`-th nearest point, counting itself."""
     if not has_products(space):
         lengths = (space.norms(space.columns - space.columns[:, [it]]) for it in range(len(space)))
         return np.array([np.partition(it, nearest - 1)[nearest - 1] for it in lengths])
@@ -64,16 +66,16 @@ def core_by_rows(space: Space, nearest: int) -> Numbers:
 
 
 def has_products(space: Space) -> bool:
-    """Whether squares of distances come from products of matrices: if there are enough dimensions, and they are doubles."""
+    """Whether matrix products give squares of distances: for enough dimensions, and if the squares are normal doubles."""
     return space.p == 2 and space.is_tame and len(space.columns) > 4
 
 
 class Products:
-    """What products of matrices say about squares of distances.
+    """Squares of distances by matrix products.
 
-    `whole` are the points with their mean at 0, and `halves` are half the squares of their lengths. Half the square of a
-    distance is the sum of two halves less a product, and `slack` is more than rounding makes that differ from the
-    square of a distance as `Space.norms` computes it.
+    `whole` are the points with their mean at 0, and `halves` are half the squares of their lengths. Half the square of
+    a distance is the sum of two halves minus a product. `slack` is an upper bound for the difference between this and
+    the square of a distance that `Space.norms` computes.
     """
 
     def __init__(self, space: Space) -> None:
@@ -82,28 +84,28 @@ class Products:
         self.halves = np.einsum("ij,ij->j", self.whole, self.whole) / 2
         self.slack = (len(self.whole) + 8) * 2.0**-50 * self.halves.max(initial=0.0)
 
-    def core_of(self, some: Places, nearest: int) -> Numbers:
-        """How far these points are from their `nearest` nearest points: products choose which lengths are computed."""
+    def core_of(self, some: Indices, nearest: int) -> Numbers:
+        """The core distances of these points. Products select the lengths that are computed."""
         squares = self.whole[:, some].T @ self.whole
         np.subtract(self.halves, squares, out=squares)
         bars = np.partition(squares, nearest - 1, axis=1)[:, nearest - 1] + 4 * self.slack
         row, other = np.nonzero(squares <= bars[:, None])
         lengths = np.concatenate([self.space.lengths(some[it], others) for it, others in _together(row, other, len(self.whole))])
         order = np.lexsort((lengths, row))
-        # (each row has `nearest` or more, in ascending order now)
+        # (each row has at least `nearest` lengths, in ascending order now)
         found: Numbers = lengths[order][np.searchsorted(row, np.arange(len(some))) + nearest - 1]
         return found
 
 
-def _together(row: Places, other: Places, width: int) -> list[tuple[Places, Places]]:
+def _together(row: Indices, other: Indices, width: int) -> list[tuple[Indices, Indices]]:
     return list(zip(pieces(row, width), pieces(other, width)))
 
 
 class Rest:
-    """The points that aren't in the tree yet; how far each is from the tree, and from which of its points.
+    """The points outside the tree, the distance of each to the tree, and the point of the tree that is nearest to it.
 
-    With products, `columns` have their mean at 0, `half` is half the square of each length, and `bar` is what a product
-    has to pass for a point to be nearer than it was.
+    With products, `columns` have their mean at 0, `half` is half the square of each length, and a point is nearer than
+    before only if a product exceeds its `bar`.
     """
 
     def __init__(self, space: Space) -> None:
@@ -120,7 +122,7 @@ class Rest:
             self.each += [self.half, self.bar]
 
     def look_from(self, here: int) -> None:
-        """Notes which of the rest are nearer to a point of the tree than to all others in it."""
+        """Update the points outside that are nearer to this point of the tree than to all others in it."""
         near = self.perhaps_nearer(here)
         for some in pieces(near, len(self.columns)):
             lengths = self.space.norms(self.steps(some, here))
@@ -131,34 +133,34 @@ class Rest:
             if self.products:
                 self.bar[some] = self.half[some] - lengths * lengths / 2
 
-    def perhaps_nearer(self, here: int) -> Places:
-        """Which of the rest may be nearer to a point of the tree than to all others in it."""
+    def perhaps_nearer(self, here: int) -> Indices:
+        """The points outside that may be nearer to this point of the tree than to all others in it."""
         if not self.products:
             return np.arange(self.left)
         products = self.products.whole[:, here] @ self.columns[:, : self.left]
         products -= self.bar[: self.left]
-        near: Places = np.flatnonzero(products > self.products.halves[here] - self.products.slack)
+        near: Indices = np.flatnonzero(products > self.products.halves[here] - self.products.slack)
         if self.space.core is None:
             return near
-        # (below its core distance no point reaches another)
+        # (no edge is below the core distances of its endpoints)
         is_below: NDArray[np.bool_] = np.maximum(self.space.core[self.points[near]], self.space.core[here]) < self.best[near]
         return np.compress(is_below, near)
 
-    def steps(self, some: Places, here: int) -> Numbers:
-        """The ways from a point to some of the rest."""
+    def steps(self, some: Indices, here: int) -> Numbers:
+        """The vectors from a point to some of the points outside."""
         if not self.products and len(some) == self.left:
-            ends = self.columns[:, : self.left]
+            others = self.columns[:, : self.left]
         else:
-            ends = self.space.columns.take(self.points[some], axis=1)
-        found: Numbers = ends - self.space.columns[:, [here]]
+            others = self.space.columns.take(self.points[some], axis=1)
+        found: Numbers = others - self.space.columns[:, [here]]
         return found
 
     def take_nearest(self) -> tuple[int, int]:
-        """Takes the point that is nearest to the tree; returns the point of the tree that it is near to, and it."""
-        place = int(self.best[: self.left].argmin())
-        found = int(self.nearest[place]), int(self.points[place])
+        """Move the point that is nearest to the tree into it; return its neighbour in the tree, and the point."""
+        at = int(self.best[: self.left].argmin())
+        found = int(self.nearest[at]), int(self.points[at])
         self.left -= 1
         for it in self.each:
-            it[place] = it[self.left]
-        self.columns[:, place] = self.columns[:, self.left]
+            it[at] = it[self.left]
+        self.columns[:, at] = self.columns[:, self.left]
         return found

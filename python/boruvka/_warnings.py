@@ -1,17 +1,17 @@
-"""Warnings that point at the line of the caller's code, however deep in this package they begin."""
+"""Warnings that point at the line of the caller's code, however deep in this package they are raised."""
 
 from __future__ import annotations
 
 import sys
 import warnings
 
-# the packages whose lines are no caller's: scikit-learn calls estimators
+# packages whose frames are skipped (scikit-learn calls estimators)
 _INNER = ("boruvka", "sklearn")
 
 
-def warn(words: str, category: type[Warning] = UserWarning) -> None:
+def warn(message: str, category: type[Warning] = UserWarning) -> None:
     """Warn at the line that called this package."""
     level, frame = 1, sys._getframe()
     while frame.f_back and frame.f_globals.get("__name__", "").partition(".")[0] in _INNER:
         level, frame = level + 1, frame.f_back
-    warnings.warn(words, category, stacklevel=level)
+    warnings.warn(message, category, stacklevel=level)

@@ -1,4 +1,4 @@
-"""Single linkage and HDBSCAN as estimators of scikit-learn, which they need."""
+"""Single linkage and HDBSCAN as estimators of scikit-learn, which this module needs."""
 
 from __future__ import annotations
 
@@ -8,24 +8,25 @@ from typing import TYPE_CHECKING, Any, TypeVar
 import numpy as np
 from numpy.typing import ArrayLike, NDArray
 
+from boruvka._arrays import boolean, expect_no_masks, expect_no_rounding, integer
 from boruvka._condensed import CondensedTree
 from boruvka._density import Condensed, Selection
-from boruvka._forest import Forest, expect_no_masks, truth, whole
 from boruvka._metrics import has_longitude_first, why_perhaps_swapped
-from boruvka._weights import why_none
-from boruvka.linkage import cut, expect_no_rounding, spanning_tree, warn
+from boruvka._warnings import warn
+from boruvka._weights import why_not_numbers
+from boruvka.linkage import cut, spanning_tree
 
 if TYPE_CHECKING:
     Self = TypeVar("Self", bound="_Estimator")
 
     class _Estimator:
-        """What estimators have of scikit-learn, which tells no types."""
+        """What estimators inherit from scikit-learn, which has no types."""
 
         def fit_predict(self, X: ArrayLike, y: Any = None) -> NDArray[np.intp]: ...
         def get_params(self, deep: bool = True) -> dict[str, Any]: ...
         def set_params(self: Self, **params: Any) -> Self: ...
         def __sklearn_tags__(self) -> Any: ...
-        def _validate_data(self, X: ArrayLike, **words: Any) -> NDArray[np.float64]: ...
+        def _validate_data(self, X: ArrayLike, **options: Any) -> NDArray[np.float64]: ...
 
 else:
     from sklearn.base import BaseEstimator, ClusterMixin
@@ -38,34 +39,34 @@ __all__ = ["HDBSCAN", "SingleLinkage"]
 
 
 class _OverTree(_Estimator):
-    """What both have in common: the tree of the points, as `tree_`."""
+    """What both estimators have in common: the tree of the points, as `tree_`."""
 
     metric: str
     p: float
 
     def _points_of(self, X: ArrayLike) -> NDArray[np.float64]:
-        """The points, or for metric="precomputed" the distances."""
+        """The points, or the distances for metric="precomputed"."""
         try:
             from sklearn.utils.validation import validate_data
         except ImportError:
             points = self._validate_data(X, dtype=np.float64, ensure_min_samples=2)
         else:
             points = validate_data(self, X, dtype=np.float64, ensure_min_samples=2)
-        # (scikit-learn uncovers what is masked, and makes doubles of all: of texts, times and long doubles too)
+        # (scikit-learn ignores masks, and converts everything to doubles, even texts, times and long doubles)
         expect_no_masks(X, "X")
         given = np.asarray(X)
         if given.dtype.kind not in "biufO" or given.dtype.itemsize > 8:
-            raise TypeError(f"{why_none(given, 'X', 'biuf')}, and has to be real numbers of up to 64 bits")
+            raise TypeError(f"{why_not_numbers(given, 'X', 'biuf')}, but has to be real numbers of up to 64 bits")
         expect_no_rounding(X, given, points, "X")
         if self.metric == "haversine":
-            why = why_perhaps_swapped(X)
+            points = points[:, ::-1] if has_longitude_first(X) else points
+            why = why_perhaps_swapped(X, points)
             if why:
                 warn(why)
-            points = points[:, ::-1] if has_longitude_first(X) else points
         return points
 
     def _more_tags(self) -> dict[str, bool]:
-        """What scikit-learn up to 1.5 is told: that rows and columns of distances go together."""
+        """What scikit-learn up to 1.5 reads: that rows and columns of distances are selected together."""
         return {"pairwise": self.metric == "precomputed"}
 
     def __sklearn_tags__(self) -> Any:
@@ -76,14 +77,14 @@ class _OverTree(_Estimator):
 
 
 class SingleLinkage(_OverTree):
-    """Clusters of points by single linkage: what hangs together up to a distance.
+    """Cluster points by single linkage: two points are in one cluster if steps of at most some length connect them.
 
     Parameters
     ----------
     n_clusters : int or None
-        How many clusters there shall be, those of noise included.
+        The number of clusters, including those that are noise.
     distance_threshold : float, optional
-        Points so near hang together. Give either this or n_clusters.
+        Points that are at most this far apart are connected. Pass either this or n_clusters.
     min_size : int, optional
         Clusters of fewer points are noise.
     metric, p, min_samples
@@ -96,12 +97,12 @@ class SingleLinkage(_OverTree):
     tree_ : Forest
         The minimum spanning tree of the points.
     children_ : ndarray of intp, shape (n_samples - 1, 2)
-        Which two clusters each merge joins, as scikit-learn's AgglomerativeClustering has them: the points are the
+        The two clusters that each merge joins, as in AgglomerativeClustering of scikit-learn: the points are the
         clusters 0 to n_samples - 1, and merge i makes the cluster n_samples + i.
     distances_ : ndarray of doubles, shape (n_samples - 1,)
-        How far these two are apart.
+        The distance between these two clusters.
     n_clusters_ : int
-        How many clusters there are, without noise.
+        The number of clusters, without noise.
 
     Examples
     --------
@@ -128,11 +129,29 @@ class SingleLinkage(_OverTree):
         self.min_samples = min_samples
 
     def fit(self, X: ArrayLike, y: Any = None) -> SingleLinkage:
-        """Find the clusters of points, a row each."""
+        """Find the clusters of points.
+
+        Parameters
+        ----------
+        X : array_like, shape (n_samples, n_features), or (n_samples, n_samples) for metric="precomputed"
+            The points, one per row, or their distances.
+        y : ignored
+            For scikit-learn's interface.
+
+        Returns
+        -------
+        SingleLinkage
+            The estimator itself.
+
+        Raises
+        ------
+        ValueError, TypeError
+            As `boruvka.linkage.spanning_tree` does, or if a parameter isn't valid.
+        """
         if (self.n_clusters is None) == (self.distance_threshold is None):
-            raise ValueError("give either n_clusters or distance_threshold, and None for the other")
+            raise ValueError("pass either n_clusters or distance_threshold, and None for the other")
         if self.n_clusters is not None:
-            whole(self.n_clusters, "n_clusters")
+            integer(self.n_clusters, "n_clusters")
         self.tree_ = spanning_tree(self._points_of(X), metric=self.metric, p=self.p, min_samples=self.min_samples)
         self.labels_ = cut(self.tree_.n, self.tree_, self.n_clusters, self.distance_threshold, self.min_size)
         merges = self.tree_.linkage()
@@ -142,39 +161,41 @@ class SingleLinkage(_OverTree):
 
 
 class HDBSCAN(_OverTree):
-    """Clusters of points by how long they last while the density asked for grows (Campello, Moulavi and Sander, 2013).
+    """Cluster points by how long clusters persist as the density grows (Campello, Moulavi and Sander, 2013).
 
     Parameters
     ----------
     min_cluster_size : int, optional
-        Fewer points are no cluster.
+        The least number of points of a cluster.
     min_samples : int, optional
-        A point's density is told by its distance to the so many nearest points, itself counted; min_cluster_size, if it
-        is None.
+        A point's core distance is the distance to its `min_samples`-th nearest point, counting itself. By default it is
+        min_cluster_size.
     metric, p
         As `boruvka.linkage.spanning_tree` takes them.
     cluster_selection_method : {"eom", "leaf"}, optional
-        Whether those clusters are taken that last longest together, or all that fall apart into no others.
+        Whether to select the clusters of greatest total stability ("eom", excess of mass), or those that split no
+        further ("leaf").
     cluster_selection_epsilon : float, optional
-        A cluster that fell out of another below this distance is replaced by the one it came from, and so on, but not by
-        the whole unless that may be a cluster (Malzer and Baum, 2020).
+        A cluster that split from its parent below this distance is replaced by its parent, and so on (Malzer and Baum,
+        2020). The root isn't selected unless allow_single_cluster is true.
     allow_single_cluster : bool, optional
-        Whether all points may be one cluster. Those that leave it before it ends, or, if it is given, are farther from
-        it than cluster_selection_epsilon, are noise.
+        Whether all points may be one cluster. In that cluster, points that leave before its end are noise; if
+        cluster_selection_epsilon isn't 0, points farther away from it than that are noise instead.
     max_cluster_size : int, optional
-        Larger clusters aren't taken by "eom". A cluster that cluster_selection_epsilon leads to may be larger.
+        "eom" selects no larger clusters. A cluster selected because of cluster_selection_epsilon may be larger.
 
     Attributes
     ----------
     labels_ : ndarray of intp, shape (n_samples,)
         The cluster of each point, from 0, or -1 for noise. Clusters are numbered by their first points.
     probabilities_ : ndarray of doubles, shape (n_samples,)
-        How strongly each point belongs to its cluster: the density at which it leaves, over that at which the last does.
+        How strongly each point belongs to its cluster: the density at which it leaves, divided by that at which the
+        last point does.
     outlier_scores_ : ndarray of doubles, shape (n_samples,)
-        How much of an outlier each point is, from 0 to 1: 1 less the density at which it leaves its last cluster, over
-        that at which the last point leaves this or a cluster within it (GLOSH, Campello and others, 2015).
+        How much of an outlier each point is, from 0 to 1: 1 minus the density at which it leaves its last cluster,
+        divided by that at which the last point leaves this cluster or one within it (GLOSH, Campello and others, 2015).
     condensed_tree_ : CondensedTree
-        The tree of clusters that these are chosen from: `to_frame()` lists it, `plot()` draws it.
+        The tree from which the clusters are selected: `to_frame()` lists it, `plot()` draws it.
     tree_ : Forest
         The minimum spanning tree of mutual reachability.
 
@@ -207,14 +228,32 @@ class HDBSCAN(_OverTree):
         self.max_cluster_size = max_cluster_size
 
     def fit(self, X: ArrayLike, y: Any = None) -> HDBSCAN:
-        """Find the clusters of points, a row each."""
-        least = whole(self.min_cluster_size, "min_cluster_size")
+        """Find the clusters of points.
+
+        Parameters
+        ----------
+        X : array_like, shape (n_samples, n_features), or (n_samples, n_samples) for metric="precomputed"
+            The points, one per row, or their distances.
+        y : ignored
+            For scikit-learn's interface.
+
+        Returns
+        -------
+        HDBSCAN
+            The estimator itself.
+
+        Raises
+        ------
+        ValueError, TypeError
+            As `boruvka.linkage.spanning_tree` does, or if a parameter isn't valid.
+        """
+        least = integer(self.min_cluster_size, "min_cluster_size")
         if least < 2:
-            raise ValueError(f"min_cluster_size is {least}, and has to be at least 2")
+            raise ValueError(f"min_cluster_size is {least}, but has to be at least 2")
         selection = self._selection(least)
         points = self._points_of(X)
         if self.min_samples is None and least > len(points):
-            raise ValueError(f"min_cluster_size is {least}, and X has {len(points)} points: give min_cluster_size, or min_samples, of at most so many")
+            raise ValueError(f"min_cluster_size is {least}, but X has only {len(points)} points: pass min_cluster_size or min_samples of at most {len(points)}")
         self.tree_ = spanning_tree(points, metric=self.metric, p=self.p, min_samples=least if self.min_samples is None else self.min_samples)
         condensed = Condensed(self.tree_.linkage(), least)
         self.labels_, self.probabilities_, numbers = condensed.labels(condensed.chosen(selection), selection.epsilon)
@@ -223,18 +262,18 @@ class HDBSCAN(_OverTree):
         return self
 
     def _selection(self, least: int) -> Selection:
-        """How clusters are chosen, if that is given well."""
+        """How clusters are selected. Raise an error if a parameter isn't valid."""
         if self.cluster_selection_method not in ("eom", "leaf"):
-            raise ValueError(f"cluster_selection_method is {self.cluster_selection_method!r}, and has to be 'eom' or 'leaf'")
+            raise ValueError(f"cluster_selection_method is {self.cluster_selection_method!r}, but has to be 'eom' or 'leaf'")
         epsilon = self.cluster_selection_epsilon
         if not isinstance(epsilon, numbers.Real) or isinstance(epsilon, bool):
-            raise TypeError(f"cluster_selection_epsilon is {epsilon!r}, and has to be a distance, a real number")
+            raise TypeError(f"cluster_selection_epsilon is {epsilon!r}, but has to be a distance, a real number")
         if not epsilon >= 0:
-            raise ValueError(f"cluster_selection_epsilon is {epsilon}, and a distance is at least 0")
+            raise ValueError(f"cluster_selection_epsilon is {epsilon}, but a distance is at least 0")
         most = np.inf
         if self.max_cluster_size is not None:
-            most = whole(self.max_cluster_size, "max_cluster_size")
+            most = integer(self.max_cluster_size, "max_cluster_size")
             if most < least:
-                raise ValueError(f"max_cluster_size is {most}, and has to be at least min_cluster_size, which is {least}: None sets no limit")
-        may_be_whole = truth(self.allow_single_cluster, "allow_single_cluster")
+                raise ValueError(f"max_cluster_size is {most}, but has to be at least min_cluster_size, which is {least}: None sets no limit")
+        may_be_whole = boolean(self.allow_single_cluster, "allow_single_cluster")
         return Selection(self.cluster_selection_method, float(epsilon), may_be_whole, most)

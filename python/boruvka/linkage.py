@@ -1,41 +1,35 @@
-"""Single linkage and clusters, out of minimum spanning forests.
+"""Single linkage and clusters, from minimum spanning forests.
 
 `spanning_tree` finds the tree of points, and `labels` cuts it into clusters. The edges of the tree, in ascending order,
-are the merges of single linkage, which `single_linkage` and `merges` list. Numpy is all that they need; scipy makes
-most points faster.
+are the merges of single linkage, which `single_linkage` and `merges` list. These functions need only numpy; scipy makes
+most trees of points faster.
 """
 
 from __future__ import annotations
 
 import numbers
-import sys
-import warnings
 from functools import lru_cache
-from itertools import product
 from typing import Any, Protocol, SupportsIndex, overload
 
 import numpy as np
 from numpy.typing import ArrayLike, NDArray
 
 from boruvka import _library
-from boruvka._entries import expect_no_filling
-from boruvka._forest import Forest, Real, held, is_array, is_masked, minimum_spanning_forest, of_each, vertices, whole
+from boruvka._arrays import first_rounded, integer
+from boruvka._distances import checked_min_samples, index_of_pair, numbers_of, pairs_of, tree_of_entries, tree_of_pairs, tree_of_precomputed
+from boruvka._edges import vertices
+from boruvka._forest import minimum_spanning_forest
 from boruvka._metrics import Metric, expect_metric, has_longitude_first, metric_of, why_perhaps_swapped
 from boruvka._points import FEW, heights_of_pairs, tree_of_points
-from boruvka._rows import tree_of_distances
-from boruvka._weights import ordered, why_none
+from boruvka._result import Forest, Real
+from boruvka._warnings import warn
+from boruvka._weights import ordered
 
 __all__ = ["labels", "merges", "single_linkage", "spanning_tree"]
 
-# up to this, each whole number is a double
-_EXACT = 1 << 53
-# by how much a distance may differ both ways: of the greatest of all, as products of matrices round, and of itself
-_ROUNDING, _NEARLY = 1e-7, 1e-5
-_BLOCK = 256
-
 
 class SparseMatrix(Protocol):
-    """A matrix of scipy that stores some entries."""
+    """A sparse matrix of scipy."""
 
     def tocoo(self) -> Any: ...
 
@@ -46,27 +40,29 @@ def single_linkage(y: ArrayLike | SparseMatrix, *, metric: str = "euclidean", p:
     Parameters
     ----------
     y : array_like, shape (n, d) or (n (n - 1) / 2,)
-        Points, a row each, or the distances between all pairs: those of vertex 0 to 1, 2, .., then those of 1 to 2, ..
+        Points, one per row, or the distances between all pairs: those from vertex 0 to 1, 2, .., then from 1 to 2, and
+        so on.
     metric, p, min_samples
         As `spanning_tree` takes them.
 
     Returns
     -------
     ndarray of doubles, shape (n - 1, 4)
-        A linkage matrix that all of `scipy.cluster.hierarchy` takes. Row i merges the clusters Z[i, 0] < Z[i, 1] into
-        the cluster n + i. They are Z[i, 2] apart, and together have Z[i, 3] points.
+        A linkage matrix for the functions of `scipy.cluster.hierarchy`. Row i merges the clusters Z[i, 0] < Z[i, 1]
+        into the cluster n + i. Z[i, 2] is the distance between them, and Z[i, 3] the number of points in the new
+        cluster.
 
     Raises
     ------
     ValueError
-        If a coordinate or a distance isn't finite or is masked, a distance is negative, there is no point, no n has so
-        many pairs, or there are more than 2^30 pairs to look at.
+        If a coordinate or a distance isn't finite or is masked, a distance is negative, there are no points, no number
+        of points has so many pairs, or there are more than 2^30 pairs to compare.
     TypeError
-        If coordinates or distances are no numbers.
+        If coordinates or distances aren't numbers.
 
     Notes
     -----
-    The distances are scipy's, those of points but for rounding. Of equal distances another may be merged first.
+    The heights are scipy's, up to rounding. Among equal distances another may be merged first.
 
     Cost: that of `spanning_tree`; the merges take less.
 
@@ -88,62 +84,68 @@ def spanning_tree(y: ArrayLike | SparseMatrix, *, metric: str = "euclidean", p: 
     Parameters
     ----------
     y : array_like, shape (n, d) or (n (n - 1) / 2,), or sparse matrix, shape (n, n)
-        Points or distances, as `single_linkage` takes them. The entries of a sparse matrix are distances, a stored 0 too;
-        pairs without an entry have no edge, so that there may be several components. Of (i, j) and (j, i) the lesser
-        counts.
+        Points or distances, as `single_linkage` takes them. The entries of a sparse matrix are distances, and a stored
+        0 is one too. Pairs without an entry have no edge, so there may be several components. The lesser of (i, j) and
+        (j, i) counts.
     metric : str, optional
-        How far points are apart: "euclidean" ("l2"), "manhattan" ("cityblock", "l1"), "chebyshev", "minkowski",
+        The distance between points: "euclidean" ("l2"), "manhattan" ("cityblock", "l1"), "chebyshev", "minkowski",
         "haversine", "cosine", or "precomputed".
 
-        For "haversine" each row is a latitude and then a longitude, both in radians, as in scikit-learn. Lengths are
-        radians: times 6371 they are kilometres on the earth. If y is a frame whose columns are called "lon" and "lat",
-        or likewise, their names decide, whatever their order.
+        For "haversine" each row is a latitude and then a longitude, both in radians, as in scikit-learn. Heights are in
+        radians: multiplied by 6371 they are kilometres on the earth. If y is a frame whose columns are named "lat" and
+        "lon", or similarly, their names decide, whatever their order.
 
-        For "precomputed" y has distances: a square matrix of those of all pairs, or any that needs no metric. The matrix
-        has to be symmetric and 0 on its diagonal up to rounding: 1e-5 of an entry and 1e-7 of the greatest. Of (i, j)
-        and (j, i) the lesser counts.
+        For "precomputed" y has distances: a square matrix of those of all pairs, or one of the forms that need no
+        metric. The matrix has to be symmetric and 0 on its diagonal up to rounding: 1e-5 of an entry and 1e-7 of the
+        greatest. The lesser of (i, j) and (j, i) counts.
     p : float, optional
         The exponent of "minkowski", at least 1.
     min_samples : int, optional
-        If it is given, points are as far apart as HDBSCAN has it: at the greatest of their distance and of the distance
-        of each to the so many nearest of all points, itself counted (Campello and others, 2013).
+        If given, use HDBSCAN's mutual reachability distance: the greatest of the distance between two points and their
+        core distances. A point's core distance is the distance to its `min_samples`-th nearest point, counting itself
+        (Campello and others, 2013).
 
     Returns
     -------
     Forest
-        n - 1 edges between the vertices 0 to n - 1, in ascending order of their lengths. `index` is the place of each
-        among the distances between all pairs; of a sparse matrix, among its entries.
-
-    Warns
-    -----
-    ClusterWarning of scipy, or UserWarning
-        If points look like a square matrix of distances, as scipy warns; or if points for "haversine" look like degrees,
-        or like those of a plane, whose first column leads to the east.
+        n - 1 edges between the vertices 0 to n - 1, in ascending order of their heights. `index` has the index of each
+        edge among the distances between all pairs, or for a sparse matrix among its entries.
 
     Raises
     ------
     ValueError
-        As `single_linkage` does; or if the metric isn't one of these, p is less than 1, past all doubles, or given with
-        another metric, min_samples isn't from 1 to n, a row has no place in the metric, such as a latitude past a right
-        angle, a matrix of "precomputed" isn't square, symmetric and 0 on its diagonal, a sparse matrix has two entries in
-        one place, or a bsr_matrix or dia_matrix stores a 0 that may fill it.
+        As `single_linkage` does. If the metric isn't one of these; if p is below 1, above all doubles, or given with
+        another metric; if min_samples isn't from 1 to n; if a row isn't valid for the metric, such as a latitude beyond
+        a right angle. If a matrix of "precomputed" isn't square, symmetric and 0 on its diagonal. If a sparse matrix
+        has two entries at one position, or a bsr_matrix or dia_matrix stores a 0 that may only fill the format.
     TypeError
-        As `single_linkage` does; or if p is no number, min_samples no whole number, or min_samples, p or another metric
-        than "precomputed" is given with distances.
+        As `single_linkage` does. If p isn't a number, min_samples isn't a whole number, or min_samples, p or a metric
+        other than "precomputed" is given with distances.
+
+    Warns
+    -----
+    ClusterWarning of scipy, or UserWarning
+        If points look like a square matrix of distances, as scipy warns.
+    UserWarning
+        If points for "haversine" look like degrees, or their latitudes and longitudes are probably swapped. In a frame
+        with columns such as x and y the first usually points east. In an array without names, swapped columns are
+        noticed only if a latitude is beyond a right angle (an error), or is beyond 75 degrees while no longitude is (a
+        warning).
 
     Notes
     -----
-    Heights are those of all pairs but for rounding, whatever the points are. Those of haversine are rounded by up to
-    1e-15, and near the antipode by 1e-7. Every length that is compared with another is computed by one function, in
-    which coordinates are added in their order, and so are core distances: equal pairs have equal lengths.
+    Heights are those of all pairs up to rounding, whatever the points are. Those of haversine are rounded by up to
+    1e-15, and near the antipode by 1e-7. One function computes every length that is compared with another, and also
+    core distances, so equal vectors have equal lengths.
 
-    Cost: if scipy is there, points in few dimensions, and clustered points in up to 32, take time about n log n, and 500
-    bytes a point. A sample of the points decides: others take n^2 d steps, of which a processor does a thousand million
-    a second, and memory of 5 times their own. So do all points but those of one dimension if p (53 + b) is 950 or more,
-    where sizes of coordinates other than 0 differ up to 2^b times, and an infinite p counts as 1. For p = 2 they are
-    1e127 times, for p = 10 4e12 times, and from p = 18 on any: set tiny coordinates to 0 first.
-    Distances take about 40 bytes and 100 nanoseconds a pair: scipy's own linkage is several times as fast. A square matrix
-    of them takes as long, and memory of twice its own.
+    Cost: with scipy, points in few dimensions, and clustered points in up to 32, take about n log n time and 500 bytes
+    per point. A sample of the points decides that. Other points take n^2 d steps, of which a processor does about 10^9
+    per second, and 5 times the memory of the points. So do points in more than one dimension if p (53 + b) is at least
+    950, where 2^b is the ratio of the greatest to the least coordinate other than 0, and an infinite p counts as 1. For
+    p = 2 that is a ratio of 1e127, for p = 10 of 4e12, and from p = 18 on any: set tiny coordinates to 0 first.
+
+    Distances take about 40 bytes and 100 nanoseconds per pair; scipy's own linkage is several times as fast for them. A
+    square matrix of distances takes the same time, and twice its own memory.
 
     Examples
     --------
@@ -153,38 +155,41 @@ def spanning_tree(y: ArrayLike | SparseMatrix, *, metric: str = "euclidean", p: 
     """
     expect_metric(metric)
     if metric == "precomputed":
-        return _of_precomputed(y, p, min_samples)
+        return tree_of_precomputed(y, p, min_samples)
     if hasattr(y, "tocoo"):
         _expect_points(metric, p, min_samples, "a sparse matrix")
-        return _of_entries(y)
-    given = _numbers(y)
+        return tree_of_entries(y)
+    given = numbers_of(y)
     if given.ndim == 1:
-        _expect_points(metric, p, min_samples, "one dimension")
-        return _of_distances(given)
+        _expect_points(metric, p, min_samples, "an array of one dimension")
+        return tree_of_pairs(given)
     if given.ndim != 2:
-        raise ValueError(f"y has the shape {given.shape}: points are rows, and distances have one dimension")
+        raise ValueError(f"y has the shape {given.shape}, but points are rows of two dimensions, and distances have one dimension")
     if not len(given):
-        raise ValueError("there is no point")
+        raise ValueError("y has no points")
     are_finite = np.isfinite(given)
     if not are_finite.all():
         row, column = np.unravel_index(are_finite.argmin(), given.shape)
         raise ValueError(f"a coordinate of the point {row} isn't finite: y[{row}, {column}] is {given[row, column]}")
     if _are_distances(given):
-        warn('y is square, symmetric and 0 on its diagonal: its rows are taken as points, not as distances, which metric="precomputed" takes')
+        warn('y is square, symmetric and 0 on its diagonal, but its rows are taken as points: pass metric="precomputed" if they are distances', _cluster_warning())
     if metric == "haversine":
         given = _latitudes_first(y, given)
     return _of_points(given, metric_of(metric, p), min_samples)
 
 
 def _latitudes_first(y: Any, given: NDArray[np.float64]) -> NDArray[np.float64]:
-    """Latitudes and longitudes in this order, if the names of a frame's columns say which they are; with a warning if they may be others."""
+    """Points with the latitude in the first column, which the names of a frame's columns may say.
+
+    Warn if they may be degrees or swapped.
+    """
     given = given[:, ::-1] if has_longitude_first(y) else given
-    why = why_perhaps_swapped(y)
+    why = why_perhaps_swapped(y, given)
     if why:
         warn(why)
     if given.shape[1] == 2 and (np.abs(given[:, 1]) > 2 * np.pi).any() and not (np.abs(given[:, 0]) > np.pi / 2 + 1e-9).any():
         row = np.abs(given[:, 1]).argmax()
-        warn(f"the longitude of the point {row} is {given[row, 1]}, past a full turn: it is taken as radians, and numpy.radians makes them of degrees")
+        warn(f"the longitude of the point {row} is {given[row, 1]}, beyond a full turn: it is taken as radians, and numpy.radians converts degrees")
     return given
 
 
@@ -196,19 +201,19 @@ def merges(n: SupportsIndex, forest: Forest) -> NDArray[np.float64]:
     n : int
         The number of vertices.
     forest : Forest
-        Their n - 1 edges, as `spanning_tree` or `minimum_spanning_forest` answers them.
+        Their n - 1 edges, from `spanning_tree` or `minimum_spanning_forest`.
 
     Returns
     -------
     ndarray of doubles, shape (n - 1, 4)
-        The matrix that `single_linkage` answers.
+        The matrix that `single_linkage` returns.
 
     Raises
     ------
     ValueError
         If the edges don't connect all n vertices, or a double would round a weight.
     TypeError
-        If n is no whole number, or `forest` is no Forest.
+        If n isn't a whole number, or `forest` isn't a Forest.
 
     Examples
     --------
@@ -220,18 +225,18 @@ def merges(n: SupportsIndex, forest: Forest) -> NDArray[np.float64]:
     """
     forest = _best_first(forest)
     if forest.maximum:
-        raise ValueError("the edges of a maximum forest are no merges: their heights would fall")
-    count = whole(n, "n")
+        raise ValueError("a maximum forest has no linkage matrix, because its heights would descend")
+    count = integer(n, "n")
     if len(forest.w) != count - 1:
-        raise ValueError(f"{len(forest.w)} edges don't make one tree of {count} vertices: a forest of several components has no linkage")
+        raise ValueError(f"{len(forest.w)} edges don't connect {count} vertices: a forest of several components has no linkage matrix")
     u, v = vertices(count, forest.u, "forest.u", forest.v), vertices(count, forest.v, "forest.v", forest.u)
     links = np.zeros(len(forest.w), _library.LINK)
     links["low"], links["high"] = u + 1, v + 1
     rows = _library.merges(count, links)
     heights = forest.w.astype(np.float64)
-    place = _first_rounded(forest.w, heights)
-    if place is not None:
-        raise ValueError(f"forest.w[{place[0]}] is {forest.w[place]}, which a double would round: a linkage matrix has no other heights, and labels cuts without one")
+    at = first_rounded(forest.w, heights)
+    if at is not None:
+        raise ValueError(f"forest.w[{at[0]}] is {forest.w[at]}, which a double would round: a linkage matrix has only doubles, but labels doesn't need one")
     return np.column_stack([rows["first"], rows["second"], heights, rows["size"]])
 
 
@@ -247,45 +252,46 @@ def labels(
     height: Real | None = None,
     min_size: SupportsIndex = 1,
 ) -> NDArray[np.intp]:
-    """Cut a forest into clusters: leave its heaviest edges out, and number what still hangs together.
+    """Cut a forest into clusters: remove its heaviest edges, and number the components that are left.
 
-    Of a maximum forest the lightest are left out.
+    In a maximum forest the lightest edges are removed.
 
     Parameters
     ----------
     n : int
         The number of vertices.
     forest : Forest
-        Their forest, as `spanning_tree` or `minimum_spanning_forest` answers it; in another order it is sorted.
+        Their forest, from `spanning_tree` or `minimum_spanning_forest`. If its edges are in another order, they are
+        sorted.
     clusters : int, optional
-        How many clusters there shall be: from the number of the forest's components to n.
+        The number of clusters, from the number of the forest's components to n.
     height : float, optional
-        Edges count for which numpy says `forest.w <= height`, or `>=` of a maximum forest. Give either this or `clusters`.
+        Edges with `forest.w <= height` are kept, or `>=` in a maximum forest. Pass either this or `clusters`.
     min_size : int, optional
         Clusters of fewer vertices are noise. It is at least 0.
 
     Returns
     -------
     ndarray of intp, shape (n,)
-        The number of the cluster of each vertex, from 0, or -1 for noise. Clusters are numbered by their least vertices.
+        The cluster of each vertex, numbered from 0, or -1 for noise. Clusters are numbered by their least vertices.
 
     Raises
     ------
     ValueError
-        If there can't be so many clusters, min_size is negative, the height is NaN, the forest has n edges or more or another vertex, or edges
-        that count close a cycle.
+        If there can't be so many clusters, min_size is negative, the height is NaN, the forest has n or more edges or a
+        vertex that isn't below n, or the edges that are kept close a cycle.
     TypeError
-        If not just one of `clusters` and `height` is given, n, `clusters` or `min_size` is no whole number, `height` is no
-        real number, or `forest` is no Forest.
+        If both or neither of `clusters` and `height` are given, n, `clusters` or min_size isn't a whole number,
+        `height` isn't a real number, or `forest` isn't a Forest.
 
     Notes
     -----
-    The components of the graph are its clusters at `height=np.inf`, of a maximum forest at -np.inf.
+    The components of the graph are its clusters at `height=np.inf`, or at -np.inf in a maximum forest.
 
-    How many clusters there are is often seen in the last weights, `forest.w[-10:]`: where they leap, clusters lie apart.
-    Of equally heavy edges `clusters` leaves out those that come last in the forest. `height` treats them alike.
+    The number of clusters often shows in the last weights, `forest.w[-10:]`: where they jump, clusters are far apart.
+    Among edges of equal weight `clusters` removes those that come last in the forest; `height` treats them alike.
 
-    Cost: time about that of going over the vertices ten times; 24 bytes an edge and 12 a vertex.
+    Cost: about the time of going over the vertices ten times; 24 bytes per edge and 12 per vertex.
 
     Examples
     --------
@@ -300,24 +306,24 @@ def labels(
 
 
 def cut(n: SupportsIndex, forest: Forest, clusters: SupportsIndex | None, height: Real | None, min_size: SupportsIndex) -> NDArray[np.intp]:
-    """As `labels`, of which just one of `clusters` and `height` is wanted."""
+    """The result of `labels`, which needs exactly one of `clusters` and `height`."""
     forest = _best_first(forest)
-    count, least_size = whole(n, "n"), whole(min_size, "min_size")
+    count, least_size = integer(n, "n"), integer(min_size, "min_size")
     if least_size < 0:
-        raise ValueError(f"min_size is {least_size}, and a cluster has at least 0 vertices: 1 leaves all clusters")
+        raise ValueError(f"min_size is {least_size}, but has to be at least 0: 1 makes no cluster noise")
     if not forest.n <= count <= _library.MAX_VERTICES:
-        raise ValueError(f"n is {count}, and has to be from {forest.n}, the number of the forest's vertices, to 2^26")
+        raise ValueError(f"n is {count}, but has to be from {forest.n}, the number of the forest's vertices, to 2^26")
     low, high = vertices(count, forest.u, "forest.u", forest.v), vertices(count, forest.v, "forest.v", forest.u)
     if len(forest.w) >= max(count, 1):
         raise ValueError(f"{len(forest.w)} edges between {count} vertices close a cycle")
     if clusters is not None and height is None:
-        kept = count - whole(clusters, "clusters")
+        kept = count - integer(clusters, "clusters")
     elif height is not None and clusters is None:
         kept = _up_to(forest, height)
     else:
-        raise TypeError(f"give either `clusters` or `height`, not {'both' if clusters is not None else 'neither'}")
+        raise TypeError(f"pass either `clusters` or `height`, not {'both' if clusters is not None else 'neither'}")
     if not 0 <= kept <= len(forest.w):
-        raise ValueError(f"{clusters} clusters can't be cut: there may be {count - len(forest.w)} to {count}")
+        raise ValueError(f"clusters is {clusters}, but has to be from {count - len(forest.w)} to {count}")
     links = np.zeros(kept, _library.LINK)
     links["low"], links["high"] = low[:kept] + 1, high[:kept] + 1
     least = _library.labels(count, links) - 1
@@ -328,11 +334,11 @@ def cut(n: SupportsIndex, forest: Forest, clusters: SupportsIndex | None, height
 
 
 def _best_first(given: object) -> Forest:
-    """The forest, its edges in the order in which they count: so are those that this package answers."""
+    """The forest, its edges in the order in which they count, as this package returns them."""
     if not isinstance(given, Forest):
-        raise TypeError(f"a {type(given).__name__} is no Forest, as `spanning_tree` or `minimum_spanning_forest` answers it")
+        raise TypeError(f"forest is a {type(given).__name__}, but has to be a Forest, which `spanning_tree` or `minimum_spanning_forest` returns")
     w = given.w[::-1] if given.maximum else given.w
-    # (of a single edge nothing else is compared)
+    # (the second comparison finds a NaN that is the only weight)
     if (w[1:] >= w[:-1]).all() and (w[:1] == w[:1]).all():
         return given
     if np.isnan(given.w).any():
@@ -343,215 +349,65 @@ def _best_first(given: object) -> Forest:
 
 
 def _up_to(forest: Forest, height: Real) -> int:
-    """How many edges weigh at most so much, or of a maximum forest at least, as numpy compares them."""
+    """The number of edges that weigh at most `height`, or at least so much in a maximum forest, as numpy compares them."""
     if not isinstance(height, numbers.Real) or isinstance(height, bool):
-        raise TypeError(f"the height is a {type(height).__name__}, and has to be a real number")
+        raise TypeError(f"height is a {type(height).__name__}, but has to be a real number")
     if height != height:
-        raise ValueError("the height is NaN")
+        raise ValueError("height is NaN")
     return int(np.count_nonzero(forest.w >= height if forest.maximum else forest.w <= height))
 
 
-def _numbers(y: Any) -> NDArray[np.float64]:
-    if is_masked(y):
-        raise ValueError("y has masked entries: leave these points out first")
-    given = held(y, "y")
-    if given.dtype.kind not in "biuf" or given.dtype.itemsize > 8:
-        how = ": .astype(float) makes them" if given.dtype == object and " as " not in why_none(given, "y", "biuf") else ""
-        raise TypeError(f"{why_none(given, 'y', 'biuf')}, and has to be real numbers of up to 64 bits{how}")
-    numbers = given.astype(np.float64, copy=False)
-    expect_no_rounding(y, given, numbers, "y")
-    return numbers
-
-
-def expect_no_rounding(y: Any, given: NDArray[Any], numbers: NDArray[np.float64], name: str) -> None:
-    """A ValueError if a whole number of y isn't among these doubles; `given` is what numpy makes of y, which has this name."""
-    place = _first_rounded(given, numbers)
-    if place is not None:
-        how = "take the least of each column off first" if given.ndim == 2 else "minimum_spanning_forest takes its pairs, and no double"
-        raise ValueError(f"{name}[{', '.join(map(str, place))}] is {given[place]}, which a double would round: {how}")
-    is_frame = hasattr(y, "iloc") and given.ndim == 2
-    if given.dtype.kind in "iu" or is_array(y) and given.dtype != object and not is_frame or not (np.abs(numbers) >= _EXACT).any():
-        return
-    if is_frame:
-        # (its columns may have other dtypes than they have side by side)
-        for column in range(given.shape[1]):
-            of_each(y.iloc[:, column].tolist(), numbers[:, column], f"{name}.iloc[:, {column}]")
-    elif given.ndim == 2:
-        for row, each in enumerate(y):
-            of_each(list(each), numbers[row], f"{name}[{row}]")
-    elif given.ndim == 1:
-        of_each(list(y), numbers, name)
-
-
-def _first_rounded(given: NDArray[Any], numbers: NDArray[np.float64]) -> tuple[int, ...] | None:
-    """The place of the first whole number that isn't the double in its place, if there is one."""
-    if given.dtype.kind not in "iu" or given.dtype.itemsize < 8 or not given.size or max(-int(given.min()), int(given.max())) <= _EXACT:
-        return None
-    # (doubles below 2^64 lie at most 2^11 apart)
-    is_rounded = numbers % 2048 != given % 2048
-    return tuple(map(int, np.unravel_index(is_rounded.argmax(), given.shape))) if is_rounded.any() else None
-
-
 def _are_distances(points: NDArray[np.float64]) -> bool:
-    """Whether it looks like a square matrix of distances, which is a mistake that is easily made.
+    """Whether this looks like a square matrix of distances, which are easily taken for points.
 
-    Scipy's rule is taken over: such a matrix may be symmetric up to rounding.
+    As in scipy, such a matrix may be symmetric up to rounding.
     """
     if not points.shape[0] == points.shape[1] > 1 or not np.allclose(points.diagonal(), 0):
         return False
     return bool((points >= 0).all() and np.allclose(points, points.T))
 
 
-def warn(words: str) -> None:
-    """Warns as scipy does, at the line that called this package, by way of scikit-learn or not."""
-    level, frame = 1, sys._getframe()
-    while frame.f_back and frame.f_globals["__name__"].partition(".")[0] in ("boruvka", "sklearn"):
-        level, frame = level + 1, frame.f_back
-    try:
-        from scipy.cluster.hierarchy import ClusterWarning as category
-    except ImportError:
-        category = UserWarning
-    warnings.warn(words, category, stacklevel=level)
-
-
-def _of_distances(distances: NDArray[np.float64]) -> Forest:
-    n = _points_of_pairs(distances)
-    return minimum_spanning_forest(n, *_pairs(n), distances)
-
-
-def _points_of_pairs(distances: NDArray[np.float64]) -> int:
-    """How many points have these distances between all pairs. A ValueError if they are none."""
-    if not len(distances):
-        raise ValueError("there is no point and no distance: one point is a row, [[x, y]]")
-    if not np.isfinite(distances).all() or (distances < 0).any():
-        place = (~np.isfinite(distances) | (distances < 0)).argmax()
-        raise ValueError(f"y[{place}] is {distances[place]}: a distance isn't finite, or is negative")
-    n = (1 + int(round((1 + 8 * len(distances)) ** 0.5))) // 2
-    if n * (n - 1) // 2 != len(distances):
-        raise ValueError(f"{len(distances)} distances aren't those between all pairs of any number of points: points in one dimension are y[:, None]")
-    return n
-
-
-def _of_precomputed(y: Any, p: float, min_samples: int | None) -> Forest:
-    """The tree of distances, which are the entries of a square or a sparse matrix, or those of all pairs in a row."""
-    if p != 2:
-        raise ValueError(f"p is {p}, and only the metric 'minkowski' has an exponent")
-    if hasattr(y, "tocoo"):
-        if min_samples is not None:
-            raise TypeError("y is a sparse matrix of distances, and min_samples is for those of all pairs: give a square array of them")
-        return _of_entries(y)
-    given = _numbers(y)
-    if given.ndim == 1 and min_samples is None:
-        return _of_distances(given)
-    if given.ndim == 1:
-        n = _points_of_pairs(given)
-        square, (low, high) = np.zeros((n, n)), _pairs(n)
-        square[low, high] = square[high, low] = given
-    else:
-        square = expect_distances(given)
-    n = len(square)
-    one, other, lengths = tree_of_distances(square, _nearest(min_samples, n))
-    tree = minimum_spanning_forest(n, one, other, lengths)
-    return tree._replace(index=_place_of_pair(n, tree.u, tree.v))
-
-
-def expect_distances(given: NDArray[np.float64]) -> NDArray[np.float64]:
-    """The distances of a square matrix, of (i, j) and (j, i) the lesser. A ValueError if it isn't symmetric up to rounding."""
-    if given.ndim != 2 or given.shape[0] != given.shape[1] or not len(given):
-        raise ValueError(f'y has the shape {given.shape}, and metric="precomputed" takes a square matrix of distances, or those of all pairs in one dimension')
-    least, greatest = np.empty_like(given), given.max()
-    if (given.diagonal() > _ROUNDING * greatest).any():
-        row = int((given.diagonal() > _ROUNDING * greatest).argmax())
-        raise ValueError(f'y[{row}, {row}] is {given[row, row]}, and the distance of a point to itself is 0: metric="precomputed" takes distances, not points or similarities')
-    # (a block and the one opposite fit into a processor's cache)
-    parts = [slice(start, start + _BLOCK) for start in range(0, len(given), _BLOCK)]
-    for rows, columns in product(parts, parts):
-        np.minimum(given[rows, columns], given[columns, rows].T, out=least[rows, columns])
-        _expect_same_both_ways(given, rows, columns, least[rows, columns], greatest)
-    np.fill_diagonal(least, 0)
-    return least
-
-
-def _expect_same_both_ways(given: NDArray[np.float64], rows: slice, columns: slice, least: NDArray[np.float64], greatest: float) -> None:
-    """A ValueError if a distance of a block isn't the lesser of both ways, up to rounding, or is none."""
-    block = given[rows, columns]
-    if not 0 <= block.min() <= block.max() < np.inf:
-        row, column = np.unravel_index((~np.isfinite(block) | (block < 0)).argmax(), block.shape)
-        raise ValueError(f"y[{rows.start + row}, {columns.start + column}] is {block[row, column]}: a distance isn't finite, or is negative")
-    is_wrong = block - least > _ROUNDING * greatest + _NEARLY * least
-    if is_wrong.any():
-        row, column = np.add(np.unravel_index(is_wrong.argmax(), block.shape), (rows.start, columns.start))
-        raise ValueError(f"y[{row}, {column}] is {given[row, column]}, and y[{column}, {row}] is {given[column, row]}: a distance is the same both ways, as numpy.minimum(y, y.T) makes it")
-
-
-def _nearest(min_samples: int | None, n: int) -> int | None:
-    """How many of n points tell how far a point reaches, itself counted, if that was given."""
-    if min_samples is not None and not 1 <= whole(min_samples, "min_samples") <= n:
-        raise ValueError(f"min_samples is {min_samples}, and has to be from 1 to {n}, the number of points")
-    return min_samples
-
-
-def _expect_points(metric: str, p: float, min_samples: int | None, given: str) -> None:
-    if metric != "euclidean" or p != 2 or min_samples is not None:
-        raise TypeError(
-            f'y is distances, as {given} says: metric="precomputed" takes these, with min_samples if those of all pairs are there; '
-            "other metrics, p and min_samples are for points, a row each; of one dimension y[:, None]"
-        )
-
-
-def _of_entries(matrix: Any) -> Forest:
-    if len(matrix.shape) != 2 or matrix.shape[0] != matrix.shape[1]:
-        raise ValueError(f"y has the shape {matrix.shape}, and a sparse matrix of distances is square: points are y.toarray()")
-    expect_no_filling(matrix, "y")
-    entries = matrix.tocoo()
-    distances = _numbers(entries.data)
-    once = matrix.tocsr(copy=True)
-    once.sum_duplicates()
-    if once.nnz != entries.nnz:
-        raise ValueError(f"y stores {entries.nnz} entries at {once.nnz} places: y.sum_duplicates() adds up those of one place")
-    is_wrong = ~np.isfinite(distances) | (distances < 0)
-    if is_wrong.any():
-        row, column = (it[is_wrong.argmax()] for it in (entries.row, entries.col))
-        raise ValueError(f"y[{row}, {column}] is {distances[is_wrong.argmax()]}: a distance isn't finite, or is negative")
-    return minimum_spanning_forest(entries.shape[0], entries.row, entries.col, distances)
-
-
 def _of_points(points: NDArray[np.float64], metric: Metric, min_samples: int | None) -> Forest:
-    n, min_samples = len(points), _nearest(min_samples, len(points))
-    placed = metric.placed(points)
+    n, min_samples = len(points), checked_min_samples(min_samples, len(points))
+    transformed = metric.transformed(points)
     if n <= FEW:
-        low, high, places = _few_pairs(n)
-        heights = metric.told(heights_of_pairs(placed, metric.p, min_samples, places))
-        index = _library.places(n, low, high, ordered(heights))
+        low, high, positions = _few_pairs(n)
+        heights = metric.distances(heights_of_pairs(transformed, metric.p, min_samples, positions))
+        index = _library.indices(n, low, high, ordered(heights))
         tree = Forest(low[index].astype(np.intp), high[index].astype(np.intp), heights[index], index.astype(np.intp), n)
     else:
-        one, other, lengths = tree_of_points(placed, metric.p, min_samples)
-        tree = minimum_spanning_forest(n, one, other, metric.told(lengths))
-        tree = tree._replace(index=_place_of_pair(n, tree.u, tree.v))
+        one, other, lengths = tree_of_points(transformed, metric.p, min_samples)
+        tree = minimum_spanning_forest(n, one, other, metric.distances(lengths))
+        tree = tree._replace(index=index_of_pair(n, tree.u, tree.v))
     if len(tree) and not np.isfinite(tree.w[-1]):
-        place = np.flatnonzero(~np.isfinite(tree.w))[0]
-        raise ValueError(f"points {tree.u[place]} and {tree.v[place]} are so far apart that doubles don't hold their distance")
+        at = np.flatnonzero(~np.isfinite(tree.w))[0]
+        raise ValueError(f"points {tree.u[at]} and {tree.v[at]} are so far apart that their distance is above all doubles")
     return tree
-
-
-def _place_of_pair(n: int, u: NDArray[np.intp], v: NDArray[np.intp]) -> NDArray[np.intp]:
-    """Where the distance of u < v stands among those between all pairs."""
-    return u * n - u * (u + 1) // 2 + v - u - 1
 
 
 @lru_cache(maxsize=8)
 def _few_pairs(n: int) -> tuple[NDArray[np.uint32], NDArray[np.uint32], NDArray[np.intp]]:
-    """The same of a few points, with their places in a square; 200 KB at most, kept as they take longer than the rest."""
-    low, high = _pairs(n)
+    """The endpoints of all pairs of a few points, and their positions in a square matrix: at most 200 KB, cached
+    because computing them takes longer than the rest.
+    """
+    low, high = pairs_of(n)
     return low.view(np.uint32), high.view(np.uint32), low * np.intp(n) + high
 
 
-def _pairs(n: int) -> tuple[NDArray[np.int32], NDArray[np.int32]]:
-    """The ends of all pairs, in the order in which their distances stand."""
-    if n * (n - 1) // 2 > _library.MAX_LINKS:
-        raise ValueError(f"{n} points have more than 2^30 pairs")
-    first = np.arange(n, dtype=np.int64)
-    low = np.repeat(first.astype(np.int32), n - 1 - first)
-    high = np.arange(len(low), dtype=np.int32)
-    high -= np.repeat((_place_of_pair(n, first, first + 1) - first - 1).astype(np.int32), n - 1 - first)
-    return low, high
+def _expect_points(metric: str, p: float, min_samples: int | None, given: str) -> None:
+    """Raise a TypeError if an option for points is given with distances."""
+    if metric != "euclidean" or p != 2 or min_samples is not None:
+        raise TypeError(
+            f'y is {given}, so it has distances: metric="precomputed" takes these, with min_samples only if those of all pairs are given; '
+            "other metrics and p are for points, one per row, or y[:, None] in one dimension"
+        )
+
+
+def _cluster_warning() -> type[Warning]:
+    """Scipy's category of this warning, if scipy is installed."""
+    try:
+        from scipy.cluster.hierarchy import ClusterWarning
+    except ImportError:
+        return UserWarning
+    found: type[Warning] = ClusterWarning
+    return found

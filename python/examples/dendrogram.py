@@ -1,9 +1,9 @@
-"""Points drawn around four places, their single linkage, and its dendrogram.
+"""Points drawn around four centres, their single linkage, and its dendrogram.
 
 usage: python3 dendrogram.py [PICTURE]
 
 It prints how many points each of four clusters has. With a PICTURE it draws the points with their tree, and the
-dendrogram, by matplotlib and scipy.
+dendrogram, with matplotlib and scipy.
 """
 
 import sys
@@ -17,7 +17,7 @@ COUNTS = [12, 9, 15, 6]
 
 
 def drawn_points():
-    """The points of each place, one place after the other."""
+    """The points of each centre, one centre after the other."""
     draw = np.random.default_rng(7)
     return np.concatenate([draw.normal(place, 0.8, (count, 2)) for place, count in zip(PLACES, COUNTS)])
 
@@ -35,10 +35,10 @@ def draw_both(picture, points, tree, cluster):
         left.plot(*points[[u, v]].T, "--" if is_cut else "-", color="silver" if is_cut else "black", zorder=1)
     left.scatter(*points.T, c=cluster, cmap="tab10", vmin=0, vmax=9, zorder=2)
     left.set(title="points, and their tree cut into four", aspect="equal")
-    # the third heaviest edge is the lightest that was cut
+    # the third heaviest edge is the lightest one that was removed
     height = (tree.w[-4] + tree.w[-3]) / 2
     matrix = merges(len(points), tree)
-    # each merge in the colour of its points' cluster
+    # each merge has the colour of its points' cluster
     member = list(range(len(points)))
     for one, _, _, _ in matrix:
         member.append(member[int(one)])

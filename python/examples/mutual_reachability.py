@@ -1,11 +1,11 @@
-"""Two moons in noise, told apart by the tree of mutual reachability, on which HDBSCAN stands.
+"""Two moons in noise, separated by the tree of mutual reachability, on which HDBSCAN is based.
 
 usage: python3 mutual_reachability.py [PICTURE]
 
-A point's core distance is that to its fifth nearest, itself counted. Two points reach each other at the greatest of
-their distance and their two core distances. Points that reach no other up to a height are noise; the others hang
-together in clusters, as DBSCAN would find them. It prints how many points each cluster has, and how many are noise.
-With a PICTURE it needs matplotlib.
+A point's core distance is the distance to its fifth nearest point, counting itself. The height of an edge between two points is
+the greatest of their distance and their two core distances. Points without an edge up to a height are noise; the others form
+clusters, as in DBSCAN. It prints how many points each cluster has, and how many are noise. With a PICTURE it needs
+matplotlib.
 """
 
 import sys

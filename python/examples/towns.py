@@ -1,9 +1,9 @@
-"""Towns on islands of the Atlantic, cut into archipelagos, and drawn as a map.
+"""Towns on islands of the Atlantic, clustered into archipelagos, and drawn as a map.
 
 usage: python3 towns.py [PICTURE]
 
-It reads towns.csv beside it, prints the towns of each cluster on a line, and draws the tree of shortest lines between all
-towns. The lines that were cut are dashed. Without a PICTURE it needs numpy alone; with one, matplotlib.
+It reads towns.csv in its own folder, prints the towns of each cluster on a line, and draws the minimum spanning tree of the
+towns. The edges that were removed are dashed. Without a PICTURE it needs only numpy; with one, also matplotlib.
 """
 
 import csv
@@ -26,15 +26,15 @@ def read_towns():
 
 
 def distances(latitude, longitude):
-    """The kilometres between all pairs of places, along great circles, by the haversine formula."""
+    """The kilometres between all pairs of towns, along great circles, by the haversine formula."""
     one, other = np.triu_indices(len(latitude), 1)
     phi, lam = np.radians(latitude), np.radians(longitude)
-    bow = np.sin((phi[one] - phi[other]) / 2) ** 2 + np.cos(phi[one]) * np.cos(phi[other]) * np.sin((lam[one] - lam[other]) / 2) ** 2
-    return 2 * KILOMETRES_OF_EARTH * np.arcsin(np.sqrt(bow))
+    square = np.sin((phi[one] - phi[other]) / 2) ** 2 + np.cos(phi[one]) * np.cos(phi[other]) * np.sin((lam[one] - lam[other]) / 2) ** 2
+    return 2 * KILOMETRES_OF_EARTH * np.arcsin(np.sqrt(square))
 
 
 def draw(picture, names, latitude, longitude, tree, cluster):
-    """The whole tree, and each cluster by itself with the names of its towns."""
+    """Draw the whole tree, and each cluster by itself with the names of its towns."""
     import matplotlib
 
     matplotlib.use("Agg")
@@ -47,14 +47,14 @@ def draw(picture, names, latitude, longitude, tree, cluster):
         shown = cluster == number
         draw_part(axes[number], shown, latitude, longitude, tree, cluster)
         for place in np.flatnonzero(shown):
-            beside = np.concatenate([tree.v[tree.u == place], tree.u[tree.v == place]])
-            is_above = latitude[place] > latitude[beside[shown[beside]]].mean()
+            near = np.concatenate([tree.v[tree.u == place], tree.u[tree.v == place]])
+            is_above = latitude[place] > latitude[near[shown[near]]].mean()
             name_town(axes[number], names[place], (longitude[place], latitude[place]), is_above)
     figure.savefig(picture, dpi=80)
 
 
 def draw_part(axes, shown, latitude, longitude, tree, cluster):
-    """The towns that are shown, and the lines between them."""
+    """Draw the towns that are shown, and the edges between them."""
     for u, v, kilometres in zip(tree.u, tree.v, tree.w):
         if shown[u] and shown[v]:
             draw_line(axes, longitude[[u, v]], latitude[[u, v]], kilometres, cluster[u] != cluster[v])
@@ -64,9 +64,9 @@ def draw_part(axes, shown, latitude, longitude, tree, cluster):
 
 
 def name_town(axes, name, place, is_above):
-    # (a line that passes behind a name leaves it legible)
-    behind = {"facecolor": "white", "edgecolor": "none", "alpha": 0.8, "pad": 0.5}
-    axes.annotate(name, place, xytext=(0, 8 if is_above else -17), textcoords="offset points", ha="center", fontsize=9, bbox=behind)
+    # (so that the name stays legible over lines)
+    box = {"facecolor": "white", "edgecolor": "none", "alpha": 0.8, "pad": 0.5}
+    axes.annotate(name, place, xytext=(0, 8 if is_above else -17), textcoords="offset points", ha="center", fontsize=9, bbox=box)
 
 
 def draw_line(axes, longitudes, latitudes, kilometres, is_cut):

@@ -1,6 +1,6 @@
-"""Drawn edges, in every way that this package takes them, beside Kruskal's algorithm over Python's own sort.
+"""Drawn edges, in every way that this package takes them, compared with Kruskal's algorithm on Python's own sort.
 
-`SORTS` has a function for each sort of case, which takes a generator of numpy.
+`SORTS` has a function for each sort of case. Each takes a generator of numpy.
 """
 
 import random
@@ -10,7 +10,7 @@ import numpy as np
 from boruvka import Forest, forest_of_chunks, from_edges, minimum_spanning_forest
 from graphs import Components, Graph, by_key, replaced, searched
 
-# 27 kinds of weights: few values of each dtype, any bits of each dtype, and three in the other order of bytes
+# 27 kinds of weights: for each dtype a few values and any bits, and three dtypes in the other byte order
 _DTYPES = "b B h H i I l L e f d ?".split()
 KINDS = [(it, how) for it in _DTYPES for how in ("ties", "any")] + [(it, "any") for it in (">i8", ">u4", ">f8")]
 _ENDS = ["i1", "i2", "i4", "i8", "u1", "u2", "u4", "u8", ">i4", ">i8"]
@@ -18,19 +18,19 @@ _LETTERS = "AZaz09 é東𝔸"
 
 
 def weights_of(draw, kind, count):
-    """So many weights of a kind, as an array."""
+    """`count` weights of a kind, as an array."""
     dtype, how = np.dtype(kind[0]), kind[1]
     if how == "ties" or dtype.kind == "b":
         return np.array([draw.randint(0, 1 if dtype.kind == "b" else 3) for _ in range(count)]).astype(dtype)
     found = np.frombuffer(draw.randbytes(count * dtype.itemsize), dtype).copy()
     if dtype.kind == "f":
         found[np.isnan(found)] = np.inf
-    # (numbers past 2^63 - 1 are no weights)
+    # (a weight is at most 2^63 - 1)
     return found >> np.uint64(1) if dtype == np.uint64 else found
 
 
 def drawn_graph(draw, kind):
-    """A graph whose columns are arrays of drawn dtypes and forms, some of them views."""
+    """A graph whose columns are arrays of drawn dtypes and memory layouts, some of them views."""
     graph = Graph(0)
     graph.n = draw.choice([1, 2, 3, 5, 8, 20, 60, 100])
     count = draw.choice([0, 1, 2, 5, 10]) * draw.choice([1, graph.n])
@@ -52,7 +52,7 @@ def drawn_graph(draw, kind):
 
 def expect(found, wanted, what):
     if found != wanted:
-        raise AssertionError(f"{what}: wanted {wanted!r:.300}, found {found!r:.300}")
+        raise AssertionError(f"{what}: expected {wanted!r:.300}, found {found!r:.300}")
 
 
 def expect_forest(forest, graph, wanted, what):
@@ -62,7 +62,7 @@ def expect_forest(forest, graph, wanted, what):
 
 
 def expect_calls(draw, graph, wanted, maximum):
-    """By threads or without, with n or without; and in chunks, some of which are forests."""
+    """With and without threads, with and without n; and in chunks, some of which are forests."""
     u, v, w = graph.held
     more = {"maximum": maximum, "threads": draw.choice([1, 1, 2, 4])}
     n = max([*graph.u, *graph.v], default=-1) + 1
@@ -82,14 +82,14 @@ def expect_calls(draw, graph, wanted, maximum):
 
 
 def expect_names(draw, graph, maximum):
-    """By names of one kind, the rows in another order and the endpoints exchanged."""
+    """By names of one kind, with the rows in another order and endpoints swapped."""
     count = graph.n
     kinds = [range(-3, count), [10**15 * it for it in range(count)], [it / 2 for it in range(count)], [(it // 3, f"{it % 3}") for it in range(count)]]
     texts = {"".join(draw.choices(_LETTERS, k=draw.randint(1, 4))).strip() + "." for _ in range(3 * count)}
     kinds.append(sorted(texts, key=lambda it: [ord(letter) for letter in it]))
     names = draw.choice([list(it)[:count] for it in kinds if len(it) >= count])
     order = draw.sample(range(len(graph.w)), len(graph.w))
-    # (of parallel edges of equal weight the first row counts)
+    # (among parallel edges of equal weight the first row counts)
     other = Graph(0)
     swapped = [draw.random() < 0.5 for _ in order]
     other.n = count
@@ -102,7 +102,7 @@ def expect_names(draw, graph, maximum):
     expect(forest.names, [names[it] for it in sorted({*other.u, *other.v})], "names")
 
 
-def expect_answers(draw, graph, wanted, maximum):
+def expect_questions(draw, graph, wanted, maximum):
     """Paths, bottlenecks, components and replacements."""
     forest = minimum_spanning_forest(graph.n, *graph.held, maximum=maximum)
     edges = list(zip(forest.u.tolist(), forest.v.tolist()))
@@ -125,7 +125,7 @@ def expect_answers(draw, graph, wanted, maximum):
 
 
 def expect_edges(generator, kind=None):
-    """Draws a case, and returns the kind of its weights."""
+    """Draw and check a case; return the kind of its weights."""
     draw = random.Random(int(generator.integers(2**63)))
     kind, maximum = kind or draw.choice(KINDS), draw.random() < 0.5
     graph = drawn_graph(draw, kind)
@@ -134,7 +134,7 @@ def expect_edges(generator, kind=None):
     try:
         expect_calls(draw, graph, wanted, maximum)
         expect_names(draw, graph, maximum)
-        expect_answers(draw, graph, wanted, maximum)
+        expect_questions(draw, graph, wanted, maximum)
         expect([it.tobytes() for it in graph.held], before, "what was given")
     except AssertionError as error:
         raise AssertionError(f"{graph.n} vertices, {len(graph.w)} edges, weights of the kind {kind}, maximum={maximum}: {error}") from None

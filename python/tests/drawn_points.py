@@ -1,7 +1,7 @@
 """Drawn points, whose trees and clusters are compared with references. `SORTS` has a function for each sort of case.
 
-Lengths of references are long doubles, and their trees come from Prim's algorithm over the matrix of all. Clusters come
-from the definitions of HDBSCAN, as test_cluster.py follows them.
+The lengths of the references are long doubles, and their trees come from Prim's algorithm on the matrix of all lengths.
+The reference clusters follow the definitions of HDBSCAN, as in test_cluster.py.
 """
 
 import contextlib
@@ -20,7 +20,7 @@ except ImportError:
 
 
 def kinds(draw, n, dimensions):
-    """How points lie, by names."""
+    """Functions that draw points, by what the points look like."""
     apart, which = draw.normal(size=(n, dimensions)), draw.integers(0, draw.integers(2, 9), n)
     centres = draw.random((9, dimensions)) * draw.choice([3, 30, 1e4])
     sizes = 10.0 ** draw.integers(-6, 1, (9, 1))
@@ -62,7 +62,7 @@ def gaps(points, metric, p):
 
 
 def heights_of(square, nearest):
-    """The heights of a tree by Prim's algorithm over all pairs, in ascending order."""
+    """The heights of a tree by Prim's algorithm on all pairs, in ascending order."""
     core = np.sort(square, axis=1)[:, (nearest or 1) - 1]
     square = np.maximum(square, np.maximum(core[:, None], core))
     best, found = square[0].copy(), []
@@ -77,8 +77,8 @@ def heights_of(square, nearest):
     return np.sort(np.array(found))
 
 
-def ways_patched(draw):
-    """The bounds that choose how a tree is found, drawn so that each way is tried with few points too."""
+def methods_patched(draw):
+    """The bounds that select a method, drawn so that each method is tried with few points too."""
     stack = contextlib.ExitStack()
     for name, choices in {
         "linkage.FEW": [0, 0, 200],
@@ -107,44 +107,44 @@ def expect_tree(draw):
     p = float(draw.choice([1.5, 2.5, 3, 7, 17, 25])) if metric == "minkowski" else 2
     nearest = None if draw.random() < 0.5 else int(draw.integers(1, min(n, 14) + 1))
     points = made[kind]()
-    with warnings.catch_warnings(), ways_patched(draw):
+    with warnings.catch_warnings(), methods_patched(draw):
         warnings.simplefilter("ignore", UserWarning)
         tree = spanning_tree(points, metric=metric, p=p, min_samples=nearest)
-    told = f"{n} points ({kind}) in {dimensions} dimensions, {metric}, p={p}, min_samples={nearest}"
+    output = f"{n} points ({kind}) in {dimensions} dimensions, {metric}, p={p}, min_samples={nearest}"
     if len(set(labels(n, tree, height=np.inf).tolist())) > 1 or len(tree) != n - 1:
-        raise AssertionError(f"{told}: the tree doesn't connect them")
-    wanted = heights_of(gaps(points, metric, p), nearest)
-    # (coordinates far from 0 are rounded as they are, before anything is computed of them)
-    np.testing.assert_allclose(tree.w, wanted.astype(float), rtol=1e-13, atol=0, err_msg=told)
+        raise AssertionError(f"{output}: the tree doesn't connect them")
+    expected = heights_of(gaps(points, metric, p), nearest)
+    # (the reference uses the same rounded coordinates)
+    np.testing.assert_allclose(tree.w, expected.astype(float), rtol=1e-13, atol=0, err_msg=output)
 
 
 def expect_clusters(draw):
-    """HDBSCAN with each of its choices."""
+    """HDBSCAN with drawn parameters."""
     n, dimensions = int(draw.integers(5, 34)), int(draw.integers(1, 5))
     made = {it: function for it, function in kinds(draw, n, dimensions).items() if it not in ("tiny", "huge", "copies", "one place", "corners of a cube")}
     kind = list(made)[draw.integers(len(made))]
-    # (copies are at no distance, and the reference divides by it)
+    # (equal points have the distance 0, and the reference divides by distances)
     points = np.unique(made[kind](), axis=0)
     least, nearest = int(draw.integers(2, 6)), int(draw.integers(1, 6))
     if len(points) < max(least, nearest, 2):
         return
     root = test_cluster.whole_of(points, least, nearest)
     born = [0.0, 0.0, 1e300, *(it.born * float(draw.choice([1 - 1e-9, 1 + 1e-9])) for it in root.all() if it.parent)]
-    words = {
+    options = {
         "cluster_selection_method": str(draw.choice(["eom", "eom", "leaf"])),
         "cluster_selection_epsilon": float(born[draw.integers(len(born))]),
         "allow_single_cluster": bool(draw.random() < 0.5),
         "max_cluster_size": None if draw.random() < 0.6 else int(draw.integers(least, n + 1)),
     }
-    method, epsilon, whole, most = words.values()
+    method, epsilon, whole, most = options.values()
     with warnings.catch_warnings():
         warnings.simplefilter("ignore", UserWarning)
-        found = HDBSCAN(least, min_samples=nearest, **words).fit(points)
-    wanted = test_cluster.Reference(root, method, epsilon, whole, most or np.inf)
+        found = HDBSCAN(least, min_samples=nearest, **options).fit(points)
+    expected = test_cluster.Reference(root, method, epsilon, whole, most or np.inf)
     try:
-        test_cluster.Density().expect(found, wanted)
+        test_cluster.Density().expect(found, expected)
     except AssertionError as error:
-        raise AssertionError(f"{len(points)} points ({kind}), {least}, min_samples={nearest}, {words}: {error}") from None
+        raise AssertionError(f"{len(points)} points ({kind}), {least}, min_samples={nearest}, {options}: {error}") from None
 
 
 SORTS = {"trees of points": expect_tree}

@@ -1,11 +1,11 @@
-"""Drawn graphs, and what their forests are by Kruskal's algorithm over Python's own sort."""
+"""Drawn graphs, and their forests by Kruskal's algorithm on Python's own sort."""
 
 import math
 import random
 
 import numpy as np
 
-# each kind of weights: how one is drawn, and in which dtypes they are held
+# for each kind of weights: how one is drawn, and the dtypes that store them
 _LEAST_DOUBLE, _MOST_DOUBLE = 5e-324, 1.7976931348623157e308
 _DOUBLES = [0.0, -0.0, 1.0, 1.0000000000000002, math.inf, _LEAST_DOUBLE, _MOST_DOUBLE]
 KINDS = {
@@ -22,26 +22,26 @@ _ENDS = [np.int16, np.int32, np.int64, np.uint8, np.uint32, np.uint64, np.dtype(
 
 
 class Graph:
-    """n vertices, and edges with loops, parallels and often several components; `kind` is that of the weights."""
+    """n vertices, and edges with loops, parallel edges and often several components. `kind` is that of the weights."""
 
     def __init__(self, seed, kinds=tuple(KINDS)):
         draw = random.Random(seed)
         self.kind = draw.choice(kinds)
         self.n = draw.choice([1, 2, 3, 5, 8, 20, 60, 200])
         m = draw.choice([0, 1, 2, 1, 2, 5, 10]) * draw.choice([1, self.n])
-        # ends that lie near one another leave more components
+        # endpoints near each other leave more components
         reach = draw.choice([1, 3, self.n])
         self.u = [draw.randrange(self.n) for _ in range(m)]
         self.v = [min(self.n - 1, max(0, it + draw.randint(-reach, reach))) for it in self.u]
         one, dtypes = KINDS[self.kind]
         self.held = [np.array(it, draw.choice(_ENDS)) for it in (self.u, self.v)]
         self.held.append(np.array([one(draw) for _ in range(m)], draw.choice(dtypes)))
-        # (as they are held: a short float has fewer digits)
+        # (as they are stored: a short float has fewer digits)
         self.w = self.held[2].tolist()
 
 
 class Components:
-    """Which vertices are joined so far."""
+    """Which vertices are connected so far."""
 
     def __init__(self, n):
         self.parent = list(range(n))
@@ -52,30 +52,31 @@ class Components:
         return v
 
     def join(self, u, v):
-        """Joins them, and answers whether they weren't joined before."""
+        """Connect two vertices; return whether they weren't connected before."""
         u, v = self.root(u), self.root(v)
         self.parent[max(u, v)] = min(u, v)
         return u != v
 
 
 def kruskal(n, u, v, order):
-    """The places that Kruskal's algorithm takes when it goes over the edges in this order."""
+    """The indices of the edges that Kruskal's algorithm chooses when it considers the edges in this order."""
     components = Components(n)
     return [place for place in order if components.join(u[place], v[place])]
 
 
 def by_key(graph, maximum=False):
-    """The places of the forest's edges, in the order of (weight, lower end, higher end, place); the heaviest first if the
-    maximum is asked for."""
+    """The indices of the forest's edges, in the order of (weight, lower endpoint, higher endpoint, index); heaviest
+    first for a maximum.
+    """
     ends = [(min(it), max(it)) for it in zip(graph.u, graph.v)]
     order = sorted(range(len(graph.w)), key=lambda i: (*ends[i], i))
-    # (sorting is stable, also backwards)
+    # (sorting is stable, also in reverse)
     order.sort(key=lambda i: graph.w[i], reverse=maximum)
     return kruskal(graph.n, graph.u, graph.v, order)
 
 
 def searched(edges, a, b):
-    """The only path from a to b in a forest, by going to each neighbour that wasn't met; None if there is none."""
+    """The path from a to b in a forest, by a search; None if there is none."""
     near = {}
     for one, other in edges:
         near.setdefault(one, []).append(other)
@@ -90,7 +91,7 @@ def searched(edges, a, b):
 
 
 def replaced(graph, forest, maximum):
-    """For each edge of the forest the one that its graph's forest has without this edge, by Kruskal's algorithm; or -1."""
+    """For each edge of the forest, its replacement by Kruskal's algorithm on the graph without this edge; or -1."""
     found, whole = [], {*forest}
     for lost in forest:
         other = Graph(0)

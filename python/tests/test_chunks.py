@@ -1,4 +1,4 @@
-"""`forest_of_chunks`, and `minimum_spanning_forest` by several threads: both put forests of parts together."""
+"""`forest_of_chunks`, and `minimum_spanning_forest` on several threads: both merge forests of parts."""
 
 import contextlib
 import doctest
@@ -21,7 +21,7 @@ from test_forest import SMALL, SMALL_FOREST, listed
 
 
 def cut(draw, m, size):
-    """Where chunks begin and where the last ends; none is longer than this, and some are empty."""
+    """The starts of the chunks, and the end of the last one. None is longer than this, and some are empty."""
     cuts = [0]
     while cuts[-1] < m:
         cuts.append(min(m, cuts[-1] + draw.choice([0, 1, size, draw.randint(0, size)])))
@@ -33,8 +33,8 @@ def chunks_of(columns, cuts):
 
 
 def bounded(most):
-    """Has at most so many edges a vertex kept, or so many at all if there are fewer vertices."""
-    return mock.patch.multiple(_chunks, _A_VERTEX=most, _AT_LEAST=most)
+    """Store at most so many edges per vertex, or so many in all if there are fewer vertices."""
+    return mock.patch.multiple(_chunks, _PER_VERTEX=most, _AT_LEAST=most)
 
 
 def each_part_is_worth_a_thread():
@@ -72,7 +72,7 @@ class Documented(unittest.TestCase):
 
 class Drawn(unittest.TestCase):
     def expect_forest(self, graph, size, maximum, seed):
-        """The forest that Kruskal's algorithm finds of all edges, at the same places."""
+        """Expect the forest of Kruskal's algorithm on all edges, with the same chunks and rows."""
         cuts = cut(random.Random(seed), len(graph.w), size)
         found = forest_of_chunks(graph.n, iter(chunks_of(graph.held, cuts)), maximum=maximum)
         wanted = by_key(graph, maximum)
@@ -91,23 +91,24 @@ class Drawn(unittest.TestCase):
                 self.expect_forest(graph, size, maximum, seed)
                 self.assertEqual([it.tobytes() for it in graph.held], before)
 
-    def test_with_many_ties_in_few_places(self):
+    def test_with_many_ties_between_few_vertices(self):
         for seed in range(240, 300):
             graph = Graph(seed, ["ties", "yes and no"])
             with self.subTest(seed=seed), bounded(2):
                 self.expect_forest(graph, 7, seed % 2 == 1, seed)
 
     def test_at_the_bound(self):
-        """As many edges as are kept, one more and one less, in one chunk, in two and one by one."""
+        """As many edges as can be stored, one more and one less: in one chunk, in two, and one by one."""
         most = 64
-        with mock.patch.multiple(_chunks, _A_VERTEX=8, _AT_LEAST=1):
+        with mock.patch.multiple(_chunks, _PER_VERTEX=8, _AT_LEAST=1):
             for m in [*range(most - 1, most + 2), *range(most + 56, most + 60)]:
                 for seed in range(6):
                     graph = Graph(0)
                     draw = random.Random(seed)
                     graph.n = 8
                     graph.u, graph.v = ([draw.randrange(8) for _ in range(m)] for _ in "uv")
-                    # falling, rising, and all equal: then each edge, the first few or those of the least ends are taken
+                    # descending, ascending, and all equal: then every edge, the first few, or those with the least
+                    # endpoints are chosen
                     graph.w = [(-place, place, 3)[seed % 3] for place in range(m)]
                     graph.held = [np.array(it) for it in (graph.u, graph.v, graph.w)]
                     for size in (1, m // 2, m):
@@ -120,13 +121,13 @@ class Drawn(unittest.TestCase):
         graph.n, m = 9000, 200_000
         graph.held = [draw.integers(0, graph.n, m), draw.integers(0, graph.n, m), draw.integers(0, 50, m)]
         graph.u, graph.v, graph.w = (it.tolist() for it in graph.held)
-        self.assertGreater(m, 2 * max(_chunks._A_VERTEX * graph.n, _chunks._AT_LEAST))
+        self.assertGreater(m, 2 * max(_chunks._PER_VERTEX * graph.n, _chunks._AT_LEAST))
         for size in (m, 30_000):
             self.expect_forest(graph, size, False, size)
 
 
 class Kept(unittest.TestCase):
-    """What it keeps meanwhile."""
+    """The memory used during a call."""
 
     def test_no_more_than_the_bound_and_a_chunk(self):
         n, rows, parts = 2000, 20_000, 100
@@ -141,16 +142,16 @@ class Kept(unittest.TestCase):
             sizes.append(len(w))
             return reduced(count, u, v, w)
 
-        reduced = _chunks.places_of_own
-        most = max(_chunks._A_VERTEX * n, _chunks._AT_LEAST)
+        reduced = _chunks.indices_of_checked
+        most = max(_chunks._PER_VERTEX * n, _chunks._AT_LEAST)
         tracemalloc.start()
         self.addCleanup(tracemalloc.stop)
-        with mock.patch.object(_chunks, "places_of_own", places):
+        with mock.patch.object(_chunks, "indices_of_checked", places):
             forest = forest_of_chunks(n, chunks())
         peak = tracemalloc.get_traced_memory()[1]
         self.assertEqual((len(forest), max(sizes)), (n - 1, most))
         self.assertLess(len(sizes), 2 + rows * parts / (most - n))
-        # (what the library itself takes isn't traced; all edges at once are 32 MB)
+        # (the library's own memory isn't traced; all edges at once are 32 MB)
         self.assertLess(peak, 60 * most + 3 * 16 * rows)
 
     def test_forests_of_parts_are_chunks(self):
@@ -190,27 +191,27 @@ class Kept(unittest.TestCase):
 
         self.assertEqual(listed(forest_of_chunks(4, chunks())), [[0, 2, 1], [3, 3, 2], [6, 7, 8], [[1, 1], [1, 0], [0, 1]]])
 
-    def test_what_is_answered_is_its_own(self):
+    def test_results_share_no_memory(self):
         given = [np.tile(it, 1000) for it in SMALL]
         for it in given:
             it.flags.writeable = False
         forest = forest_of_chunks(6, [given])
         self.assertEqual(listed(forest)[:3], SMALL_FOREST[:3])
         self.assertFalse(any(np.shares_memory(one, other) for one in forest for other in given))
-        # (nor does it hold what was kept for it)
+        # (nor does it refer to the capacity of the stored columns)
         self.assertTrue(all(it.base is None or it.base.nbytes < 1000 for it in forest))
 
 
 class Weights(unittest.TestCase):
-    """Of chunks that hold them in different dtypes."""
+    """The weights of chunks of different dtypes."""
 
-    def forest(self, *weights, **words):
-        """Of a path, each edge of which is a chunk; and what its weights are by their chunks."""
-        forest = forest_of_chunks(len(weights) + 1, [([i], [i + 1], it) for i, it in enumerate(weights)], **words)
+    def forest(self, *weights, **pattern):
+        """For a path with one edge per chunk: the chunks, and the weights expected."""
+        forest = forest_of_chunks(len(weights) + 1, [([i], [i + 1], it) for i, it in enumerate(weights)], **pattern)
         held = dict(zip(forest.index[:, 0].tolist(), forest.w.tolist()))
         return forest, [held[i] for i in range(len(weights))]
 
-    def test_a_dtype_that_holds_all(self):
+    def test_a_dtype_for_all_weights(self):
         for dtypes, wanted in [
             ("bb", "b"), ("bB", "h"), ("iI", "l"), ("lL", "l"), ("Ll", "l"), ("bL", "l"), ("LL", "L"), ("??", "?"), ("?b", "b"), ("?d", "d"),
             ("ef", "f"), ("be", "e"), ("he", "f"), ("if", "d"), ("fi", "d"), ("lf", "d"), ("dL", "d"), ("Lbl", "l"), ("BhI", "l"), ("lLd", "d"),
@@ -236,7 +237,7 @@ class Weights(unittest.TestCase):
         self.assertEqual(self.forest(np.array([2**63 - 1024], np.uint64), [0.5])[1], [2**63 - 1024, 0.5])
 
     def test_no_whole_number_is_rounded(self):
-        """Nor does any overflow, which numpy warns of."""
+        """No conversion overflows, of which numpy would warn."""
         strict = warnings.catch_warnings()
         strict.__enter__()
         self.addCleanup(strict.__exit__, None, None, None)
@@ -245,13 +246,13 @@ class Weights(unittest.TestCase):
             for held in ([0, whole], np.array([0, whole]), np.array([0, abs(whole)], np.uint64)):
                 bad = ([0, 1], [1, 2], held)
                 fine, floats = ([0], [1], [1]), ([0], [1], [1.0])
-                told = rf"w\[1\] of chunk {{}} is {held[1]}, and would be rounded beside the floats of chunk {{}}: give one dtype$"
+                output = rf"w\[1\] of chunk {{}} is {held[1]}, which would be rounded, because chunk {{}} has floats: use one dtype$"
                 for chunks, number, row, first in [
                     ([bad, floats], 1, 0, 1), ([floats, bad], 1, 1, 0), ([fine, bad, fine, floats], 3, 1, 3), ([fine, floats, floats, bad], 3, 3, 1),
                 ]:  # fmt: skip
-                    # (whether it is still kept or not)
+                    # (whether it is still stored or not)
                     for most in (2, 100):
-                        with bounded(most), self.assertRaisesRegex(ValueError, f"^chunk {number}: {told.format(row, first)}"):
+                        with bounded(most), self.assertRaisesRegex(ValueError, f"^chunk {number}: {output.format(row, first)}"):
                             forest_of_chunks(3, chunks)
 
     def test_a_weight_that_was_left_out_counts_too(self):
@@ -271,23 +272,23 @@ class Weights(unittest.TestCase):
             self.assertTrue(forest.w.dtype.isnative)
 
 
-class Refused(unittest.TestCase):
+class Rejected(unittest.TestCase):
     FINE = ([0, 1], [1, 2], [1, 1])
 
-    def expect(self, error, words, *chunks, n=3):
-        with self.assertRaisesRegex(error, words):
+    def expect(self, error, pattern, *chunks, n=3):
+        with self.assertRaisesRegex(error, pattern):
             forest_of_chunks(n, chunks)
 
     def test_what_is_no_vertex_no_weight_or_no_column(self):
-        for error, words, chunk in [
-            (ValueError, r"u\[1\] is 3, and a vertex is at least 0 and below n = 3$", ([0, 3], [1, 2], [1, 1])),
+        for error, pattern, chunk in [
+            (ValueError, r"u\[1\] is 3, but a vertex is at least 0 and below n = 3$", ([0, 3], [1, 2], [1, 1])),
             (ValueError, r"v\[0\] is -1, ", ([0, 1], [-1, 2], [1, 1])),
             (ValueError, r"v\[1\] is 4294967296, ", ([0, 1], [1, 2**32], [1, 1])),
             (ValueError, r"v\[1\] is 3, .*: are they numbered from 1\?$", ([1, 2], [2, 3], [1, 1])),
             (TypeError, r"u has the dtype float64, .*: \.astype\(int\)", ([0.0, 1.0], [1, 2], [1, 1])),
             (TypeError, r"v has the dtype <U1, .*: boruvka.from_edges", ([0, 1], ["a", "b"], [1, 1])),
-            (ValueError, r"w\[1\] is NaN, which has no place", ([0, 1], [1, 2], [1, math.nan])),
-            (ValueError, r"w\[0\] is 9223372036854775808, past", ([0], [1], np.array([2**63], np.uint64))),
+            (ValueError, r"w\[1\] is NaN, which can't be ordered", ([0, 1], [1, 2], [1, math.nan])),
+            (ValueError, r"w\[0\] is 9223372036854775808, but a weight", ([0], [1], np.array([2**63], np.uint64))),
             (ValueError, r"w\[0\] is 9007199254740993, which numpy would round", ([0, 1], [1, 2], [2**53 + 1, 0.5])),
             (TypeError, r"w has the dtype complex128", ([0], [1], [1j])),
             (TypeError, r"w has the dtype object", ([0], [1], [None])),
@@ -295,44 +296,44 @@ class Refused(unittest.TestCase):
             (ValueError, r"u has masked entries", (np.ma.array([0, 1], mask=[0, 1]), [1, 2], [1, 1])),
             (ValueError, r"u, v and w differ in length: 2, 2 and 1$", ([0, 1], [1, 2], [1])),
             (ValueError, r"u, v and w differ in length: 2, 1 and 2$", ([0, 1], [1], [1, 1])),
-            (TypeError, r"it has numbers instead of columns: is it a column\? \[\(u, v, w\)\] has one chunk$", (0, 1, 5)),
-            (ValueError, r"u is 0, and has to be an array or a list", (0, [1], [5])),
+            (TypeError, r"it has numbers instead of columns, so it may be a column: \[\(u, v, w\)\] has one chunk$", (0, 1, 5)),
+            (ValueError, r"u is 0, but has to be an array or a list", (0, [1], [5])),
             (ValueError, r"u has 2 dimensions", ([[0, 1]], [[1, 2]], [[1, 1]])),
-            (TypeError, r"it has the length 2, and needs three columns", ([[0, 1], [1, 2]], [1, 1])),
+            (TypeError, r"it has the length 2, but needs three columns", ([[0, 1], [1, 2]], [1, 1])),
             (TypeError, r"it has the length 4, ", tuple(minimum_spanning_forest(3, *self.FINE))),
             (TypeError, r"it has the length 0, ", ()),
             (TypeError, r"it is a NoneType, ", None),
             (ValueError, r"it is a maximum forest, which lacks edges that a minimum forest may need: find both with", minimum_spanning_forest(3, *self.FINE, maximum=True)),
             (ValueError, r"it is a forest with names, .*: boruvka\.from_edges takes pandas\.concat", from_edges({"u": ["a"], "v": ["b"], "w": [1]})),
-            (ValueError, r"v\[0\] is 8, and a vertex is at least 0 and below n = 3", minimum_spanning_forest([0], [8], [1])),
+            (ValueError, r"v\[0\] is 8, but a vertex is at least 0 and below n = 3", minimum_spanning_forest([0], [8], [1])),
             (TypeError, r"it is a ndarray, ", np.zeros((3, 3), int)),
             (TypeError, r"it is a dict, ", dict(zip("uvw", self.FINE))),
             (TypeError, r"it is a str, ", "uvw"),
         ]:
-            with self.subTest(words=words):
-                self.expect(error, f"^chunk 0: {words}", chunk)
-                self.expect(error, f"^chunk 2: {words}", self.FINE, ([], [], []), chunk, self.FINE)
+            with self.subTest(pattern=pattern):
+                self.expect(error, f"^chunk 0: {pattern}", chunk)
+                self.expect(error, f"^chunk 2: {pattern}", self.FINE, ([], [], []), chunk, self.FINE)
 
     def test_chunks_are_not_asked_for_before_n_is_judged(self):
-        for error, words, n in [
-            (TypeError, "^n is None, and has to be a whole number", None),
+        for error, pattern, n in [
+            (TypeError, "^n is None, but has to be a whole number", None),
             (TypeError, "^n is 3.0, ", 3.0),
             (TypeError, r"^n is \[", [[0, 1]]),
-            (ValueError, "^n is -1, and has to be from 0 to 2\\^26$", -1),
+            (ValueError, "^n is -1, but has to be from 0 to 2\\^26$", -1),
             (ValueError, "^n is 67108865, ", 2**26 + 1),
         ]:
-            with self.assertRaisesRegex(error, words):
+            with self.assertRaisesRegex(error, pattern):
                 forest_of_chunks(n, iter(lambda: self.fail("a chunk was asked for"), 0))
         self.expect(ValueError, r"^chunk 0: u\[0\] is 0, .*n = 0$", ([0], [0], [1]), n=0)
 
     def test_what_are_no_chunks(self):
         for chunks in (None, 5, forest_of_chunks):
-            with self.assertRaisesRegex(TypeError, "^chunks are .*, and have to be an iterable of"):
+            with self.assertRaisesRegex(TypeError, "^chunks is .*, but has to be an iterable of"):
                 forest_of_chunks(3, chunks)
-        # (three columns in place of chunks)
-        with self.assertRaisesRegex(TypeError, "^chunk 0: it has numbers instead of columns: is it a column"):
+        # (three columns instead of chunks)
+        with self.assertRaisesRegex(TypeError, "^chunk 0: it has numbers instead of columns, so it may be a column"):
             forest_of_chunks(3, ([0, 1, 2], [1, 2, 0], [1, 1, 1]))
-        with self.assertRaisesRegex(TypeError, r"^chunks are <Forest of .*, and have to be an iterable of .*: \[\(u, v, w\)\] has one chunk$"):
+        with self.assertRaisesRegex(TypeError, r"^chunks is <Forest of .*, but has to be an iterable of .*: \[\(u, v, w\)\] has one chunk$"):
             forest_of_chunks(3, minimum_spanning_forest(3, *self.FINE))
         with self.assertRaisesRegex(TypeError, "^chunk 0: it is a ndarray"):
             forest_of_chunks(3, tuple(map(np.array, self.FINE)))
@@ -360,7 +361,7 @@ class Refused(unittest.TestCase):
 
 
 class Pairs(unittest.TestCase):
-    """A forest whose places are pairs."""
+    """A forest whose `index` has chunks and rows."""
 
     def setUp(self):
         self.forest = forest_of_chunks(7, chunks_of(SMALL, [0, 3, 8]))
@@ -386,16 +387,16 @@ class Pairs(unittest.TestCase):
 
     def test_no_other_shape(self):
         for index in (np.zeros((2, 3), int), np.zeros((1, 2), int), np.zeros((2, 2, 2), int), 0):
-            with self.assertRaisesRegex(ValueError, "^the arrays of the forest have the shapes"):
+            with self.assertRaisesRegex(ValueError, "^u, v, w and index have the shapes"):
                 Forest([0, 1], [1, 2], [5, 6], index)
 
 
 class Documents(unittest.TestCase):
     def test_the_examples_and_the_parts_of_the_docstring(self):
-        told = io.StringIO()
-        with contextlib.redirect_stdout(told):
+        output = io.StringIO()
+        with contextlib.redirect_stdout(output):
             failed, tried = doctest.testmod(_chunks, verbose=False)
-        self.assertEqual((failed, told.getvalue()), (0, ""))
+        self.assertEqual((failed, output.getvalue()), (0, ""))
         self.assertGreaterEqual(tried, 5)
         for part in ("Parameters", "Returns", "Raises", "Notes", "Examples"):
             self.assertIn(f"    {part}\n    ---", forest_of_chunks.__doc__)
@@ -404,7 +405,7 @@ class Documents(unittest.TestCase):
 class Threads(unittest.TestCase):
     """`threads` of `minimum_spanning_forest`."""
 
-    def test_the_same_forest_at_the_same_places(self):
+    def test_the_same_forest_and_indices(self):
         for seed in range(200):
             graph = Graph(seed)
             maximum = seed % 2 == 1
@@ -424,7 +425,7 @@ class Threads(unittest.TestCase):
             self.assertEqual(minimum_spanning_forest(*graph.held, threads=threads).index.tolist(), wanted)
 
     def test_as_many_as_are_worth_it(self):
-        """Each has a part of the edges, all of which are at work at once; then one call merges their forests."""
+        """Each thread has a part of the edges, and all run at once; then one call merges their forests."""
         n, calls = 50, []
 
         def places(count, u, v, w):
@@ -433,7 +434,7 @@ class Threads(unittest.TestCase):
                 together.wait(30)
             return whole(count, u, v, w)
 
-        whole = _library.places
+        whole = _library.indices
         few = [(1, 4, 9, 1), (15, 4, 9, 1), (15, 2, 9, 1), (16, 4, 9, 2), (16, 2, 9, 2), (18, 9, 9, 3), (24, 4, 9, 4), (24, 9, 9, 4)]
         many = [(64, 1, 9, 1), (64, 3, 9, 3), (64, 10**6, 9, 9), (64, 10**6, 5, 5), (64, 10**30, 1, 1), (64, 4, 2, 2), (24, 10**6, 9, 4)]
         for edges, threads, processors, parts in few + many:
@@ -441,7 +442,7 @@ class Threads(unittest.TestCase):
             ends = np.arange(m) % n
             together = threading.Barrier(parts)
             calls.clear()
-            with mock.patch.object(_library, "places", places), mock.patch.object(_threads, "_processors", lambda: processors):
+            with mock.patch.object(_library, "indices", places), mock.patch.object(_threads, "_processors", lambda: processors):
                 forest = minimum_spanning_forest(n, ends, (ends + 1) % n, np.arange(m), threads=threads)
             self.assertEqual(forest.index.tolist(), list(range(n - 1)))
             self.assertEqual([it[0] for it in calls], [m // parts] * parts + [parts * (n - 1)] * (parts > 1))
@@ -449,16 +450,16 @@ class Threads(unittest.TestCase):
 
     def test_no_more_than_processors(self):
         self.assertEqual(_threads._processors(), len(os.sched_getaffinity(0)))
-        # (of two vertices ten thousand parts would be worth a thread)
+        # (with two vertices, ten thousand parts would each be large enough for a thread)
         m = 120_000
         before, most = threading.active_count(), []
-        whole = _library.places
+        whole = _library.indices
 
         def places(count, u, v, w):
             most.append(threading.active_count() - before)
             return whole(count, u, v, w)
 
-        with mock.patch.object(_library, "places", places):
+        with mock.patch.object(_library, "indices", places):
             weights = np.arange(m, 0, -1, np.int64)
             forest = minimum_spanning_forest(2, np.zeros(m, np.int32), np.ones(m, np.int32), weights, threads=10**6)
         self.assertEqual(forest.index.tolist(), [m - 1])
@@ -466,25 +467,25 @@ class Threads(unittest.TestCase):
 
     def test_errors_name_the_rows_of_the_whole(self):
         with each_part_is_worth_a_thread():
-            for words, column, wrong in [(r"^u\[17\] is 9, ", 0, 9), (r"^v\[17\] is -1, ", 1, -1), (r"^w\[17\] is NaN", 2, math.nan)]:
+            for pattern, column, wrong in [(r"^u\[17\] is 9, ", 0, 9), (r"^v\[17\] is -1, ", 1, -1), (r"^w\[17\] is NaN", 2, math.nan)]:
                 columns = [[0] * 20, [1] * 20, [0.5] * 20]
                 columns[column][17] = wrong
-                with self.assertRaisesRegex(ValueError, words):
+                with self.assertRaisesRegex(ValueError, pattern):
                     minimum_spanning_forest(3, *columns, threads=4)
 
     def test_no_number_of_threads(self):
         for threads in (0, -1):
-            with self.assertRaisesRegex(ValueError, f"^threads is {threads}, and has to be at least 1$"):
+            with self.assertRaisesRegex(ValueError, f"^threads is {threads}, but has to be at least 1$"):
                 minimum_spanning_forest(2, [0], [1], [1], threads=threads)
         for threads in (1.0, None, "2", True):
-            with self.assertRaisesRegex(TypeError, "^threads is .*, and has to be a whole number$"):
+            with self.assertRaisesRegex(TypeError, "^threads is .*, but has to be a whole number$"):
                 minimum_spanning_forest(2, [0], [1], [1], threads=threads)
 
-    def test_a_refusal_in_a_thread_is_passed_on(self):
+    def test_an_error_in_a_thread_is_passed_on(self):
         def places(count, u, v, w):
             raise MemoryError("no memory for the forest")
 
-        with mock.patch.object(_library, "places", places), each_part_is_worth_a_thread():
+        with mock.patch.object(_library, "indices", places), each_part_is_worth_a_thread():
             with self.assertRaises(MemoryError):
                 minimum_spanning_forest(2, [0, 0], [1, 1], [1, 2], threads=2)
 

@@ -1,10 +1,11 @@
-"""The examples of the docstrings, of README.md, and of examples/, as they stand there."""
+"""The examples of the docstrings, of README.md and of examples/, exactly as they are shown."""
 
 import contextlib
 import csv
 import doctest
 import io
 import os
+import re
 import subprocess
 import sys
 import tempfile
@@ -18,10 +19,12 @@ from boruvka import _chunks, _forest, _frames, _gr, _result, linkage
 TOP = os.path.dirname(os.path.dirname(os.path.abspath(__file__)))
 EXAMPLES = f"{TOP}/examples"
 PNG = b"\x89PNG\r\n\x1a\n"
+# the packages that examples of README.md need, by what they mention
+NEEDED = {"boruvka.sparse": "scipy", "boruvka.cluster": "sklearn", "pandas": "pandas", "forest_of_chunks": "pandas", "dask": "dask"}
 
 
 def there(*names):
-    """Whether all of these packages are there."""
+    """Whether all of these packages are installed."""
     for name in names:
         try:
             __import__(name)
@@ -41,11 +44,11 @@ def in_new_folder():
             os.chdir(here)
 
 
-def printed(name, *words):
+def printed(name, *pattern):
     """The lines that an example prints."""
     path = [os.path.dirname(os.path.dirname(boruvka.__file__)), *filter(None, [os.environ.get("PYTHONPATH")])]
     env = {**os.environ, "PYTHONPATH": os.pathsep.join(path)}
-    ended = subprocess.run([sys.executable, "-B", f"{EXAMPLES}/{name}.py", *words], env=env, capture_output=True, text=True, timeout=60, check=False)
+    ended = subprocess.run([sys.executable, "-B", f"{EXAMPLES}/{name}.py", *pattern], env=env, capture_output=True, text=True, timeout=60, check=False)
     if ended.returncode:
         raise AssertionError(ended.stderr)
     return ended.stdout.splitlines()
@@ -53,11 +56,11 @@ def printed(name, *words):
 
 class Docstrings(unittest.TestCase):
     def expect_examples(self, module, least):
-        """In a folder of their own, as some write files."""
-        told = io.StringIO()
-        with in_new_folder(), contextlib.redirect_stdout(told):
+        """In a temporary folder, because some examples write files."""
+        output = io.StringIO()
+        with in_new_folder(), contextlib.redirect_stdout(output):
             failed, tried = doctest.testmod(module, verbose=False)
-        self.assertEqual((failed, told.getvalue()), (0, ""))
+        self.assertEqual((failed, output.getvalue()), (0, ""))
         self.assertGreaterEqual(tried, least)
 
     def test_modules(self):
@@ -85,20 +88,21 @@ class Docstrings(unittest.TestCase):
 
 class Readme(unittest.TestCase):
     def test_what_it_shows(self):
-        """Each line after `>>>`, in a folder that has its points.csv; what needs scipy is left out where it isn't there."""
+        """Each line after `>>>`, in a folder that has its files; examples that need a missing package are left out."""
         with open(f"{TOP}/README.md", encoding="utf-8") as it:
-            blocks = it.read().split("```")[1::2]
-        shown = [it.removeprefix("pycon\n") for it in blocks if it.startswith("pycon\n")]
-        kept = "\n".join(it for it in shown if ("boruvka.sparse" not in it or there("scipy")) and ("boruvka.cluster" not in it or there("sklearn")))
-        (points,) = [it.removeprefix("text\n") for it in blocks if it.startswith("text\n")]
-        self.assertGreaterEqual(len(shown), 3)
+            text = it.read()
+        shown = re.findall(r"^```pycon\n(.*?)^```$", text, re.M | re.S)
+        kept = "\n".join(it for it in shown if all(module not in it or there(package) for module, package in NEEDED.items()))
+        files = re.findall(r"^(?:[^\n]* )?`(\w+\.csv)` [^\n]*:\n\n```text\n(.*?)^```$", text, re.M | re.S)
+        self.assertEqual(([name for name, _ in files], len(shown) >= 8), (["points.csv", "trips.csv"], True))
         test = doctest.DocTestParser().get_doctest(kept, {}, "README.md", "README.md", 0)
-        told = io.StringIO()
+        output = io.StringIO()
         with in_new_folder():
-            with open("points.csv", "w", encoding="utf-8") as it:
-                it.write(points)
-            doctest.DocTestRunner(verbose=False).run(test, out=told.write)
-        self.assertEqual(told.getvalue(), "")
+            for name, content in files:
+                with open(name, "w", encoding="utf-8") as it:
+                    it.write(content)
+            doctest.DocTestRunner(verbose=False).run(test, out=output.write)
+        self.assertEqual(output.getvalue(), "")
         self.assertGreaterEqual(len(test.examples), 5)
 
 
@@ -107,18 +111,18 @@ class ComingFrom(unittest.TestCase):
     def test_what_it_shows(self):
         with open(f"{TOP}/COMING_FROM.md", encoding="utf-8") as it:
             shown = [block.removeprefix("pycon\n") for block in it.read().split("```")[1::2]]
-        test, told = doctest.DocTestParser().get_doctest("\n".join(shown), {}, "COMING_FROM.md", "COMING_FROM.md", 0), io.StringIO()
-        doctest.DocTestRunner(verbose=False, optionflags=doctest.NORMALIZE_WHITESPACE).run(test, out=told.write)
-        self.assertEqual((told.getvalue(), len(test.examples) >= 6), ("", True))
+        test, output = doctest.DocTestParser().get_doctest("\n".join(shown), {}, "COMING_FROM.md", "COMING_FROM.md", 0), io.StringIO()
+        doctest.DocTestRunner(verbose=False, optionflags=doctest.NORMALIZE_WHITESPACE).run(test, out=output.write)
+        self.assertEqual((output.getvalue(), len(test.examples) >= 6), ("", True))
 
 
 class Examples(unittest.TestCase):
-    def expect_picture(self, name, wanted, *packages):
-        """The lines that it prints; and the same with a picture, if its packages are there."""
-        self.assertEqual(printed(name), wanted)
+    def expect_picture(self, name, expected, *packages):
+        """The lines that it prints; and the same with a picture, if its packages are installed."""
+        self.assertEqual(printed(name), expected)
         if there("matplotlib", *packages):
             with tempfile.TemporaryDirectory() as folder:
-                self.assertEqual(printed(name, f"{folder}/picture.png"), wanted)
+                self.assertEqual(printed(name, f"{folder}/picture.png"), expected)
                 with open(f"{folder}/picture.png", "rb") as it:
                     picture = it.read()
             self.assertEqual(picture[:8], PNG)
@@ -131,8 +135,8 @@ class Examples(unittest.TestCase):
         self.assertEqual(list(islands), ["Azores", "Madeira", "Canaries", "Cape Verde"])
         self.expect_picture("towns", [", ".join(it["town"] for it in rows if it["archipelago"] == name) for name in islands])
 
-    def test_points_fall_into_their_places(self):
-        # (as many as were drawn around each place)
+    def test_points_are_assigned_to_their_centres(self):
+        # (the numbers of points drawn around each centre)
         self.expect_picture("dendrogram", ["12 9 15 6"], "scipy")
 
     @unittest.skipUnless(there("sklearn"), "there is no scikit-learn")
@@ -146,14 +150,14 @@ class Examples(unittest.TestCase):
         points = mutual_reachability.drawn_points()
         found = DBSCAN(eps=mutual_reachability.HEIGHT, min_samples=mutual_reachability.NEAREST).fit(points)
         core = found.core_sample_indices_
-        # what reaches no five points is noise in the tree, at the border of a cluster in DBSCAN
-        wanted = np.full(len(points), -1)
-        wanted[core] = found.labels_[core]
+        # a point without five near neighbours is noise in the tree, but may be a border point of a cluster in DBSCAN
+        expected = np.full(len(points), -1)
+        expected[core] = found.labels_[core]
         tree, cluster = mutual_reachability.clustered(points)
         self.assertEqual(len(tree.w), len(points) - 1)
-        self.assertEqual(cluster.tolist(), wanted.tolist())
-        sizes = sorted(np.bincount(wanted[core]), reverse=True)
-        self.expect_picture("mutual_reachability", [f"clusters of {' '.join(map(str, sizes))}", f"noise {(wanted < 0).sum()}"])
+        self.assertEqual(cluster.tolist(), expected.tolist())
+        sizes = sorted(np.bincount(expected[core]), reverse=True)
+        self.expect_picture("mutual_reachability", [f"clusters of {' '.join(map(str, sizes))}", f"noise {(expected < 0).sum()}"])
 
 
 if __name__ == "__main__":

@@ -20,7 +20,7 @@ class Drawn(unittest.TestCase):
         self.assertEqual((len({*kinds}), len(kinds)), (27, 27 * 14))
 
     def test_mismatches_are_reported(self):
-        """Each wrong forest of one that gives up an edge, and of one that takes the last of parallel edges."""
+        """A function that leaves out an edge, and one that returns the last of parallel edges, are both noticed."""
         own = drawn_edges.minimum_spanning_forest
 
         def short(*given, **more):
@@ -34,14 +34,14 @@ class Drawn(unittest.TestCase):
             return forest._replace(index=np.array([last[it] for it in zip(forest.u.tolist(), forest.v.tolist(), forest.w.tolist())], int))
 
         for wrong in (short, late):
-            told = 0
+            output = 0
             with mock.patch.object(drawn_edges, "minimum_spanning_forest", wrong):
                 for seed in range(27 * 6):
                     try:
                         drawn_edges.expect_edges(np.random.default_rng(seed))
                     except (AssertionError, ValueError, IndexError):
-                        told += 1
-            self.assertGreater(told, 5, wrong.__name__)
+                        output += 1
+            self.assertGreater(output, 5, wrong.__name__)
 
 
 if __name__ == "__main__":

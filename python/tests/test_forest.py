@@ -1,4 +1,4 @@
-"""`minimum_spanning_forest`, over the graphs of the documents, at its limits, and over drawn graphs."""
+"""`minimum_spanning_forest` on the graphs of the documents, at its limits, and on drawn graphs."""
 
 import contextlib
 import ctypes
@@ -27,7 +27,7 @@ try:
 except ImportError:
     sparse = None
 
-# examples/small.gr, whose forest README.md shows, with its vertices from 0
+# examples/small.gr, whose forest README.md shows; vertices are numbered from 0
 SMALL = ([0, 0, 1, 2, 3, 3, 4, 4], [1, 2, 3, 4, 2, 5, 1, 5], [17, 10, 2, 0, 0, 3, 0, 20])
 SMALL_FOREST = [[1, 2, 2, 3, 0], [4, 3, 4, 5, 2], [0, 0, 0, 3, 10], [6, 4, 3, 5, 1]]
 
@@ -38,7 +38,7 @@ def listed(forest):
 
 @contextlib.contextmanager
 def without_subnormals():
-    """Has the processor take floats next to 0 for 0, as a library built for speed may; for this thread."""
+    """Make the processor treat denormal floats as 0 in this thread, as a library built for speed may do."""
     with mmap.mmap(-1, mmap.PAGESIZE, prot=mmap.PROT_READ | mmap.PROT_WRITE | mmap.PROT_EXEC) as page:
         page.write(bytes.fromhex("0fae17c3"))  # ldmxcsr [rdi]; ret
         start = ctypes.c_char.from_buffer(page)
@@ -57,7 +57,7 @@ class Documented(unittest.TestCase):
         self.assertEqual(listed(forest), SMALL_FOREST)
         self.assertEqual([it.dtype for it in forest], [np.intp, np.intp, np.int64, np.intp])
 
-    def test_ties_go_by_the_ends_and_then_by_the_place(self):
+    def test_ties_go_by_the_endpoints_and_then_by_the_index(self):
         forest = minimum_spanning_forest(4, [3, 2, 1, 0, 3, 1, 0], [2, 3, 2, 3, 1, 0, 1], [5] * 7)
         self.assertEqual(listed(forest), [[0, 0, 1], [1, 3, 2], [5, 5, 5], [5, 3, 2]])
 
@@ -71,12 +71,12 @@ class Documented(unittest.TestCase):
 
 
 class Knowing(unittest.TestCase):
-    """What a forest tells of itself."""
+    """The properties and methods of a forest."""
 
     def setUp(self):
         self.forest = minimum_spanning_forest(7, *SMALL)
 
-    def test_what_it_holds(self):
+    def test_its_attributes(self):
         forest = self.forest
         self.assertEqual((forest.n, len(forest), forest.components, forest.total, forest.maximum), (7, 5, 2, 13, False))
         u, v, w, index = forest
@@ -130,7 +130,7 @@ class Knowing(unittest.TestCase):
         for w in ([0.1] * 3, [1e308, 1e308, -1e308], [1e16, 1.0, -1e16]):
             forest = minimum_spanning_forest(4, [0, 1, 2], [1, 2, 3], w)
             self.assertEqual(forest.total, float(sum(map(fractions.Fraction, w))))
-        # (a part of the sum is past all doubles)
+        # (a partial sum overflows)
         for w, total in (([-1e308] * 2 + [1e308] * 2 + [5.0], 5.0), ([-1.5e308] * 2 + [math.inf], math.inf), ([-1.5e308] * 3 + [1.0], -math.inf)):
             self.assertEqual(minimum_spanning_forest(None, range(len(w)), range(1, len(w) + 1), w).total, total)
         self.assertEqual(Forest([0, 1], [1, 2], np.array([2**63, 2**64 - 1], np.uint64), [0, 1]).total, 2**63 + 2**64 - 1)
@@ -139,15 +139,15 @@ class Knowing(unittest.TestCase):
         self.assertEqual(minimum_spanning_forest(3, [], [], []).total, 0)
 
     def test_ways_and_their_bottlenecks(self):
-        # (as README.md draws the small net)
+        # (as README.md draws the small graph)
         self.assertEqual(self.forest.path(0, 5), [0, 2, 4, 3, 5][:1] + self.forest.path(2, 5))
         for seed in range(60):
             graph = Graph(seed)
             for maximum in (False, True):
                 forest = minimum_spanning_forest(graph.n, *graph.held, maximum=maximum)
-                beside = {frozenset(it[:2]): i for i, it in enumerate(zip(forest.u.tolist(), forest.v.tolist()))}
+                position_of = {frozenset(it[:2]): i for i, it in enumerate(zip(forest.u.tolist(), forest.v.tolist()))}
                 components = Components(graph.n)
-                for it in beside:
+                for it in position_of:
                     components.join(*it)
                 for a, b in [(0, graph.n - 1), (graph.n // 2, 0), (0, 0)]:
                     if components.root(a) != components.root(b):
@@ -157,7 +157,7 @@ class Knowing(unittest.TestCase):
                         continue
                     way = forest.path(a, b)
                     self.assertEqual((way[0], way[-1], len(set(way))), (a, b, len(way)))
-                    places = [beside[frozenset(it)] for it in zip(way, way[1:])]
+                    places = [position_of[frozenset(it)] for it in zip(way, way[1:])]
                     if places:
                         best = min if maximum else max
                         self.assertEqual(forest.bottleneck(a, b).w, best(forest.w[places]))
@@ -166,7 +166,7 @@ class Knowing(unittest.TestCase):
                             forest.bottleneck(a, b)
         for call in (self.forest.path, self.forest.bottleneck):
             for wrong in (-1, 7):
-                with self.assertRaisesRegex(ValueError, f"^{wrong} is no vertex"):
+                with self.assertRaisesRegex(ValueError, f"^{wrong} isn't a vertex"):
                     call(0, wrong)
 
     def test_clusters(self):
@@ -174,7 +174,7 @@ class Knowing(unittest.TestCase):
         self.assertEqual(self.forest.labels(height=0).tolist(), [0, 1, 1, 1, 1, 2, 3])
         self.assertEqual(self.forest.labels(height=0, min_size=2).tolist(), [-1, 0, 0, 0, 0, -1, -1])
         self.assertEqual(self.forest.labels(clusters=4, min_size=9).tolist(), [-1] * 7)
-        # likes, of which the strongest count
+        # similarities, of which the greatest count
         likes = minimum_spanning_forest(5, [0, 1, 2, 3, 0], [1, 2, 3, 4, 4], [9, 1, 8, 7, 2], maximum=True)
         self.assertEqual(likes.w.tolist(), [9, 8, 7, 2])
         self.assertEqual(likes.labels(clusters=2).tolist(), [0, 0, 1, 1, 1])
@@ -207,11 +207,11 @@ class Knowing(unittest.TestCase):
         self.assertEqual(list(graph), list("abcdefg"))
         self.assertEqual(sorted(graph.edges(data="weight")), [("a", "c", 10), ("b", "e", 0), ("c", "d", 0), ("c", "e", 0), ("d", "f", 3)])
         self.assertEqual(nx.number_connected_components(self.forest.to_networkx()), 2)
-        with self.assertRaisesRegex(ValueError, "^there are 2 names, and 7 vertices"):
+        with self.assertRaisesRegex(ValueError, "^there are 2 names for 7 vertices"):
             self.forest.to_networkx("ab")
-        with self.assertRaisesRegex(ValueError, r"^names\[3\] is 'b', as names\[1\] is: networkx would make one vertex of both$"):
+        with self.assertRaisesRegex(ValueError, r"^names\[3\] and names\[1\] are both 'b': networkx would make one vertex of both$"):
             self.forest.to_networkx("abcbefg")
-        with self.assertRaisesRegex(TypeError, r"^names\[2\] is a list, which can't be a key of a dict, as vertices of networkx are$"):
+        with self.assertRaisesRegex(TypeError, r"^names\[2\] is a list, which isn't hashable, as vertices of networkx have to be$"):
             self.forest.to_networkx([0, 1, [2], 3, 4, 5, 6])
 
     def test_ends_that_are_no_vertices_of_it(self):
@@ -219,7 +219,7 @@ class Knowing(unittest.TestCase):
             forest = Forest(u, v, [1], [0], n=2, names=["a", "b"])
             for call, module in [(forest.to_frame, "pandas"), (forest.to_networkx, "networkx"), (lambda: forest.plot([[0, 0], [1, 1]]), "matplotlib"), (lambda: forest.path("a", "b"), "numpy")]:
                 if importlib.util.find_spec(module):
-                    with self.assertRaisesRegex(ValueError, "^an edge of the forest has an end that is none of its 2 vertices$"):
+                    with self.assertRaisesRegex(ValueError, "^an edge of the forest has an endpoint that isn't one of its 2 vertices$"):
                         call()
 
     def test_as_a_picture(self):
@@ -236,15 +236,15 @@ class Knowing(unittest.TestCase):
         self.assertEqual(len(np.unique(grey, axis=0)), 5)
         with self.assertRaisesRegex(ValueError, "shape"):
             self.forest.plot(points[:3])
-        with self.assertRaisesRegex(ValueError, r"^points has masked entries, as points\[\d, \d\] is: leave them out first$"):
+        with self.assertRaisesRegex(ValueError, r"^points has masked entries, such as points\[\d, \d\]: leave them out first$"):
             self.forest.plot(np.ma.masked_less(points, 0.5))
-        with self.assertRaisesRegex(ValueError, r"^labels has the shape \(2,\), and 7 points have one each$"):
+        with self.assertRaisesRegex(ValueError, r"^labels has the shape \(2,\), but has to be \(7,\), a label for each point$"):
             self.forest.plot(points, labels=[0, 1])
 
 
 class Called(unittest.TestCase):
     def test_in_each_way(self):
-        wanted = minimum_spanning_forest(6, *SMALL)
+        expected = minimum_spanning_forest(6, *SMALL)
         edges = np.array(SMALL[:2]).T
         u, v, w = SMALL
         for found in [
@@ -265,21 +265,21 @@ class Called(unittest.TestCase):
             minimum_spanning_forest(6, u=u, v=v, w=w),
             minimum_spanning_forest(n=6, u=u, v=v, w=w),
         ]:
-            self.assertEqual(found, wanted)
+            self.assertEqual(found, expected)
         self.assertEqual(minimum_spanning_forest([], [], []).n, 0)
         self.assertEqual(minimum_spanning_forest(9, edges, w).n, 9)
         self.assertEqual(minimum_spanning_forest(np.empty((0, 2), int), []).n, 0)
 
     def test_wrongly(self):
-        for given, words in [
+        for given, pattern in [
             ((), "n may be left out"),
             (([0, 1],), "n may be left out"),
             ((3, [0, 1], [1, 2]), r"^edges have the shape \(2,\)"),
             (([[0, 1, 2]], [1]), r"^edges have the shape \(1, 3\)"),
-            ((3.0, [0], [1], [1]), "^n is 3.0, and has to be a whole number"),
+            ((3.0, [0], [1], [1]), "^n is 3.0, but has to be a whole number"),
             (("3", [0], [1], [1]), "^n is '3', "),
         ]:
-            with self.assertRaisesRegex(TypeError, words):
+            with self.assertRaisesRegex(TypeError, pattern):
                 minimum_spanning_forest(*given)
         with self.assertRaisesRegex(ValueError, "^u\\[1\\] is -1, "):
             minimum_spanning_forest([0, -1], [1, 1], [1, 2])
@@ -325,9 +325,9 @@ class Limits(unittest.TestCase):
         self.assertEqual(listed(forest)[3], [6, 5, 3, 4, 2, 1, 0])
 
 
-class Refused(unittest.TestCase):
-    def expect(self, error, words, *given):
-        with self.assertRaisesRegex(error, words):
+class Rejected(unittest.TestCase):
+    def expect(self, error, pattern, *given):
+        with self.assertRaisesRegex(error, pattern):
             minimum_spanning_forest(*given)
 
     def test_ends_that_are_no_vertices(self):
@@ -373,7 +373,7 @@ class Refused(unittest.TestCase):
             for held in self.containers(weights):
                 self.expect(ValueError, rf"^w\[{place}\] is {weights[place]}, which numpy would round", 3, [0, 0, 1], [1, 1, 2], held)
 
-    def test_what_numpy_holds(self):
+    def test_every_kind_of_sequence(self):
         for weights in ([2**60, 0.5, 1], [2**53, 0.5, 1], [-(2**63), 2.5, 2], [2**62, -1.5, 2**1000 * 1.0], [2**54 + 4, 0.5, True], [np.int64(2**60), np.float32(0.1), 3]):
             for held in self.containers(weights):
                 forest = minimum_spanning_forest(4, [0, 1, 2], [1, 2, 3], held)
@@ -391,7 +391,7 @@ class Refused(unittest.TestCase):
             self.assertEqual(boruvka.linkage.spanning_tree(memoryview(points)).w.tolist(), [2.0**59])
 
     def containers(self, numbers):
-        """The same numbers in whatever may hold them one by one."""
+        """The same numbers in every kind of sequence."""
         whole = np.empty(len(numbers), object)
         whole[:] = numbers
         return [numbers, tuple(numbers), deque(numbers), [np.array(it) for it in numbers], deque(map(np.array, numbers)), whole, whole[::-1][::-1]]
@@ -408,7 +408,7 @@ class Refused(unittest.TestCase):
             for place, name in enumerate("uvw"):
                 given = [[0, 1], [1, 2], [1, 1]]
                 given[place] = wrong
-                self.expect(ValueError, f"^{name} (has 2 dimensions|is 0, and )", 3, *given)
+                self.expect(ValueError, f"^{name} (has 2 dimensions|is 0, but )", 3, *given)
         for given in ([[0], [1, 2], [1, 2]], [[0, 1], [1], [1, 2]], [[0, 1], [1, 2], [1]], [[], [], [1]]):
             self.expect(ValueError, "^u, v and w differ in length: ", 3, *given)
 
@@ -427,7 +427,7 @@ class Arrays(unittest.TestCase):
         whole = np.frombuffer(b"x" + np.array(SMALL[2], "i8").tobytes(), "i8", offset=1)
         self.assertEqual(listed(minimum_spanning_forest(6, *SMALL[:2], whole)), SMALL_FOREST)
 
-    def test_one_array_for_both_ends(self):
+    def test_one_array_for_both_endpoints(self):
         ends = np.arange(5, dtype=np.uint32)
         self.assertEqual(listed(minimum_spanning_forest(5, ends, ends, np.ones(5, np.int64))), [[]] * 4)
         table = np.array([0, 1, 2, 3], np.uint32)
@@ -453,11 +453,11 @@ class Drawn(unittest.TestCase):
             kinds.add(graph.kind)
             before = [it.tobytes() for it in graph.held]
             with self.subTest(seed=seed, kind=graph.kind):
-                forest, wanted = minimum_spanning_forest(graph.n, *graph.held), by_key(graph)
-                self.assertEqual(forest.index.tolist(), wanted)
-                ends = [(min(graph.u[i], graph.v[i]), max(graph.u[i], graph.v[i])) for i in wanted]
+                forest, expected = minimum_spanning_forest(graph.n, *graph.held), by_key(graph)
+                self.assertEqual(forest.index.tolist(), expected)
+                ends = [(min(graph.u[i], graph.v[i]), max(graph.u[i], graph.v[i])) for i in expected]
                 self.assertEqual(list(zip(forest.u.tolist(), forest.v.tolist())), ends)
-                self.assertEqual(forest.w.tobytes(), graph.held[2][wanted].tobytes())
+                self.assertEqual(forest.w.tobytes(), graph.held[2][expected].tobytes())
                 self.assertEqual([it.tobytes() for it in graph.held], before)
                 if sparse:
                     self.expect_scipys(graph, forest)
@@ -474,9 +474,9 @@ class Drawn(unittest.TestCase):
                 self.assertEqual([it.tobytes() for it in graph.held], before)
 
     def expect_scipys(self, graph, forest):
-        """As many edges as scipy finds components to join, and as heavy one by one, as far as doubles tell."""
+        """The number of edges that connect scipy's components, and scipy's total weight, as far as doubles are exact."""
         weights = np.array(graph.w, np.float64)
-        # (scipy keeps no edge of weight 0, and adds up parallel ones unless they stand in a csr_matrix by hand)
+        # (scipy drops edges of weight 0, and adds up parallel ones unless a csr_matrix is built with them)
         order = np.argsort(graph.u, kind="stable")
         starts = np.concatenate([[0], np.cumsum(np.bincount(graph.u, minlength=graph.n))]) if graph.u else np.zeros(graph.n + 1, int)
         matrix = sparse.csr_matrix((weights[order], np.array(graph.v, int)[order], starts), shape=(graph.n, graph.n))
@@ -517,14 +517,14 @@ class Drawn(unittest.TestCase):
             step = float(np.finfo(dtype).smallest_subnormal)
             weights = np.array([3 * step, -2 * step, step, 0, -0.0, -step, 2 * step], dtype)
             ends = np.arange(7)
-            wanted = sorted(range(7), key=lambda i: weights[i])
+            expected = sorted(range(7), key=lambda i: weights[i])
             with without_subnormals():
                 is_off = float(np.float64(5e-324) + np.float64(0)) == 0
                 found = minimum_spanning_forest(8, ends, ends + 1, weights).index.tolist()
             self.assertTrue(is_off)
-            self.assertEqual(found, wanted)
-        # (the order of equal ones is that of their ends)
-        self.assertEqual(wanted, [1, 5, 3, 4, 2, 6, 0])
+            self.assertEqual(found, expected)
+        # (equal edges are in the order of their endpoints)
+        self.assertEqual(expected, [1, 5, 3, 4, 2, 6, 0])
 
 
 # another thread writes an array while calls read it
@@ -548,15 +548,15 @@ def write():
 thread = threading.Thread(target=write, daemon=True)
 thread.start()
 end = time.monotonic() + 2.5
-told = set()
+seen = set()
 while time.monotonic() < end:
     try:
         minimum_spanning_forest(n, u, v, w)
     except ValueError as error:
-        told.add(str(error).split(" ")[-1])
+        seen.add(str(error).split(" ")[-1])
 is_over = True
 thread.join()
-print("whole", *sorted(told))
+print("whole", *sorted(seen))
 """
 
 
@@ -567,15 +567,15 @@ class Threads(unittest.TestCase):
             self.assertEqual((name, ended.returncode, ended.stdout[:5], ended.stderr), (name, 0, "whole", ""))
 
     def test_the_library_reads_endpoints_of_its_own(self):
-        """So that what it checked is what it uses; and an array that no one can write isn't copied."""
+        """The checked copy is what the call uses; an array that nobody can write isn't copied."""
         read = []
 
         def places(n, u, v, w, threads):
             read[:] = u, v
-            return _threads.places_by_threads(n, u, v, w, threads)
+            return _threads.indices_by_threads(n, u, v, w, threads)
 
         u, v, w = (np.arange(it, it + 4, dtype=np.int32) for it in (0, 1, 0))
-        with mock.patch("boruvka._edges.places_by_threads", places):
+        with mock.patch("boruvka._edges.indices_by_threads", places):
             for ends in (u, u.view(np.uint32), u[::-1], u.astype(">i4"), np.repeat(u, 2)[::2]):
                 minimum_spanning_forest(5, ends, v, w)
                 self.assertFalse(np.shares_memory(read[0], ends) or np.shares_memory(read[1], v))
@@ -589,7 +589,7 @@ class Threads(unittest.TestCase):
 
     def test_four_at_once_over_the_same_arrays(self):
         graphs = [Graph(seed) for seed in range(40)]
-        wanted = [by_key(it) for it in graphs]
+        expected = [by_key(it) for it in graphs]
         found = [[] for _ in range(4)]
         together = threading.Barrier(4)
 
@@ -603,7 +603,7 @@ class Threads(unittest.TestCase):
             it.start()
         for it in threads:
             it.join()
-        self.assertEqual(found, [wanted * 5] * 4)
+        self.assertEqual(found, [expected * 5] * 4)
 
 
 class Names(unittest.TestCase):
@@ -611,7 +611,7 @@ class Names(unittest.TestCase):
         self.assertEqual(boruvka.__all__, ["Forest", "forest_of_chunks", "from_edges", "minimum_spanning_forest", "read_gr", "show", "write_gr"])
         self.assertIs(boruvka.linkage.labels, __import__("boruvka.linkage").linkage.labels)
         self.assertIn("sparse", dir(boruvka))
-        # (as it is installed, if it is)
+        # (the version that is installed, if any)
         if hasattr(boruvka, "__version__"):
             self.assertRegex(boruvka.__version__, r"^\d+\.\d+\.\d+$")
         with self.assertRaises(AttributeError):

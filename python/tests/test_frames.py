@@ -1,4 +1,4 @@
-"""`from_edges`, over dicts, arrays, frames of pandas, and frames that speak the interchange protocol alone."""
+"""`from_edges` on dicts, arrays, pandas frames, and frames that have only the interchange protocol."""
 
 import ctypes
 import datetime
@@ -28,7 +28,7 @@ class Buffer:
 
 
 class Column:
-    """A column of the protocol: a kind, how wide an entry is, its buffers, and how it says what is missing."""
+    """A column of the protocol: its kind, the width of an entry, its buffers, and how it marks missing entries."""
 
     def __init__(self, kind, bits, size, data, offset=0, offsets=None, null=(0, None), validity=None, categories=None, order="="):
         self.kind, self.dtype, self.size, self.offset, self.describe_null = kind, (kind, bits, "", order), size, offset, null
@@ -48,7 +48,7 @@ class Column:
 
 
 class Chunks:
-    """A column in several pieces."""
+    """A column in several chunks."""
 
     def __init__(self, *chunks):
         self.chunks = chunks
@@ -61,7 +61,7 @@ class Chunks:
 
 
 class Table:
-    """A frame that speaks the protocol alone."""
+    """A frame that has only the protocol."""
 
     def __init__(self, columns):
         self.columns = columns
@@ -110,21 +110,21 @@ class Frames(unittest.TestCase):
 
     def test_arrays(self):
         rows = np.array([[10, 20, 5], [20, 30, 4], [10, 30, 9], [7, 7, 1]])
-        wanted = boruvka.from_edges({"u": rows[:, 0], "v": rows[:, 1], "w": rows[:, 2]})
-        self.assertEqual((wanted.names, wanted.total), ([7, 10, 20, 30], 9))
+        expected = boruvka.from_edges({"u": rows[:, 0], "v": rows[:, 1], "w": rows[:, 2]})
+        self.assertEqual((expected.names, expected.total), ([7, 10, 20, 30], 9))
         for frame in (rows, np.asfortranarray(rows), rows.astype(np.int16), np.asmatrix(rows)):
-            self.assertEqual(boruvka.from_edges(frame, 0, 1, weight=2).index.tolist(), wanted.index.tolist())
+            self.assertEqual(boruvka.from_edges(frame, 0, 1, weight=2).index.tolist(), expected.index.tolist())
         fields = np.array([(10, 20, 5.0), (20, 30, 4.0), (10, 30, 9.0), (7, 7, 1.0)], [("u", "i4"), ("v", "i8"), ("w", "f4")])
-        self.assertEqual(boruvka.from_edges(fields).index.tolist(), wanted.index.tolist())
+        self.assertEqual(boruvka.from_edges(fields).index.tolist(), expected.index.tolist())
 
         class Held:
             def __array__(self, dtype=None, copy=None):
                 return fields
 
-        self.assertEqual(boruvka.from_edges(Held()).names, wanted.names)
+        self.assertEqual(boruvka.from_edges(Held()).names, expected.names)
 
         class Tensor:
-            """It has rows by `[]`, as those of torch and dask."""
+            """`[]` returns rows, as for tensors of torch and arrays of dask."""
 
             def __array__(self, dtype=None, copy=None):
                 return rows
@@ -135,11 +135,11 @@ class Frames(unittest.TestCase):
         self.assertEqual(boruvka.from_edges(Tensor(), 0, 1, weight=2).names, [7, 10, 20, 30])
 
     def test_texts_of_numbers_and_of_bytes(self):
-        """They are two vertices, as Python has it, and that is said."""
+        """They are two vertices, as in Python, and there is a warning."""
         for one, other in [(1, "1"), (2.0, "2"), (2, "2.0"), (7, " 7"), (1, np.str_("1"))]:
-            with self.assertWarnsRegex(UserWarning, f"^the text '{other}' and the number .* name two vertices: ") as told:
+            with self.assertWarnsRegex(UserWarning, f"^the text '{other}' and the number .* name two vertices: ") as output:
                 forest = boruvka.from_edges({"u": [one, 5], "v": ["a", other], "w": [1, 2]})
-            self.assertEqual((forest.names, told.filename), ([*sorted([one, 5]), *sorted(["a", other])], __file__))
+            self.assertEqual((forest.names, output.filename), ([*sorted([one, 5]), *sorted(["a", other])], __file__))
         for one, other in [
             (datetime.datetime(2020, 1, 2), "2020-01-02"),
             (datetime.datetime(2020, 1, 2), "2020-01-02T00:00:00"),
@@ -169,13 +169,13 @@ class Frames(unittest.TestCase):
         self.assertEqual(boruvka.from_edges(rows.assign(v=pandas.to_datetime(rows["v"]))).n, 2)
 
     @unittest.skipUnless(pandas, "there is no pandas")
-    def test_what_pandas_has_in_place_of_columns(self):
+    def test_what_pandas_returns_instead_of_columns(self):
         rows = pandas.DataFrame({"u": ["a", "b"], "v": ["b", "c"], "w": [2, 1]})
         for indexed in (rows.set_index(["u", "v"]), rows.set_index(["u", "v"])["w"]):
-            with self.assertRaisesRegex(KeyError, r"no column 'u', but .*; frame\.reset_index\(\) makes columns of its index"):
+            with self.assertRaisesRegex(KeyError, r"no column 'u'; it has .*; frame\.reset_index\(\) makes columns of its index"):
                 boruvka.from_edges(indexed)
             self.assertEqual(boruvka.from_edges(indexed.reset_index()).names, ["a", "b", "c"])
-        with self.assertRaisesRegex(KeyError, "no column 'u', but 0, 1"):
+        with self.assertRaisesRegex(KeyError, "no column 'u'; it has 0, 1"):
             boruvka.from_edges(rows.T)
         with self.assertRaisesRegex(TypeError, "^the column 'u' has a tuple in row 0"):
             boruvka.from_edges(rows.groupby("v"))
@@ -183,7 +183,7 @@ class Frames(unittest.TestCase):
         self.assertEqual((named.names, named.w.tolist()), (["a", "b", "c"], [1, 2]))
         with self.assertRaisesRegex(ValueError, "^row 1 has no name in the column 'u'"):
             boruvka.from_edges(rows.assign(u=pandas.Categorical(["a", None])))
-        with self.assertRaisesRegex(TypeError, r"^w has the dtype <U2, as w\[0\] is '10': weights are"):
+        with self.assertRaisesRegex(TypeError, r"^w has the dtype <U2, because w\[0\] is '10', but weights are"):
             boruvka.from_edges(rows.assign(w=pandas.Categorical(["10", "9"])))
         self.assertEqual(boruvka.from_edges(rows.assign(w=pandas.Categorical([10, 9]))).w.tolist(), [9, 10])
         for empty in (rows.iloc[:0], pandas.DataFrame(columns=["u", "v", "w"])):
@@ -191,7 +191,7 @@ class Frames(unittest.TestCase):
         days = pandas.Series(np.array(["2020-01-01", "2020-01-02"], "M8[ns]"))
         turned = days[::-1].reset_index(drop=True)
         self.assertEqual(boruvka.from_edges({"u": days, "v": turned, "w": [1, 2]}).n, 2)
-        with self.assertRaisesRegex(TypeError, r"^the ends are times of numpy \(datetime64\[ns\]\), and of the type Timestamp: "):
+        with self.assertRaisesRegex(TypeError, r"^some endpoints are times of numpy \(datetime64\[ns\]\), and some have the type Timestamp: "):
             boruvka.from_edges({"u": days.to_numpy(), "v": days[::-1], "w": [1, 2]})
         self.assertEqual(boruvka.from_edges({"u": days.to_numpy(), "v": np.asarray(days[::-1], "datetime64[ns]"), "w": [1, 2]}).n, 2)
 
@@ -210,7 +210,7 @@ class Frames(unittest.TestCase):
         numbers.loc[1, "v"] = pandas.NA
         with self.assertRaisesRegex(ValueError, "^row 1 has no name in the column 'v': leave such edges out first$"):
             boruvka.from_edges(numbers)
-        with self.assertRaisesRegex(ValueError, "^the column 'u' has 2 dimensions: do two have this name"):
+        with self.assertRaisesRegex(ValueError, "^the column 'u' has 2 dimensions: do two columns have this name"):
             boruvka.from_edges(pandas.DataFrame([[1, 2, 3, 4]], columns=["u", "u", "v", "w"]))
 
     @unittest.skipUnless(pandas and hasattr(pandas.DataFrame, "__dataframe__"), "there is no pandas that speaks the protocol")
@@ -240,7 +240,7 @@ class Frames(unittest.TestCase):
 
 class Protocol(unittest.TestCase):
     def names(self, column):
-        """What a column holds, by the names that it gives to vertices."""
+        """The entries of a column, by the names of the vertices that they become."""
         size = sum(it.size for it in column.chunks) if isinstance(column, Chunks) else column.size
         return boruvka.from_edges(Table({"u": column, "v": column, "w": whole(range(size))})).names
 
@@ -256,7 +256,7 @@ class Protocol(unittest.TestCase):
 
     def test_texts(self):
         for width in ("i4", "i8"):
-            with self.assertWarnsRegex(UserWarning, "^the text '' names a vertex, and is the text of a missing entry"):
+            with self.assertWarnsRegex(UserWarning, "^the text '' names a vertex, but it is the text of a missing entry"):
                 self.assertEqual(self.names(texts(["Ely", "", "Zürich", "東京"], width)), ["", "Ely", "Zürich", "東京"])
         cut = texts(["a", "bc", "def"])
         cut.offset, cut.size = 1, 2
@@ -292,14 +292,14 @@ class Protocol(unittest.TestCase):
         ]:
             with self.assertRaisesRegex(ValueError, "^row 1 has no name in the column 'u'"):
                 self.names(column)
-        # (marks that are there, and mark nothing)
+        # (marks exist, but mark nothing)
         self.assertEqual(self.names(whole([1, 2], null=(3, 0), validity=np.array([3], np.uint8))), [1, 2])
         self.assertEqual(self.names(whole([1, 2], null=(3, 0))), [1, 2])
 
     def test_weights(self):
         ends = {"u": whole([0, 1, 2]), "v": whole([1, 2, 0])}
         self.assertEqual(boruvka.from_edges(Table({**ends, "w": whole([2**62 + 1, 2**62, 2**62 + 2])})).w.tolist(), [2**62, 2**62 + 1])
-        with self.assertRaisesRegex(TypeError, r"^w has the dtype object, as w\[2\] is None: weights are"):
+        with self.assertRaisesRegex(TypeError, r"^w has the dtype object, because w\[2\] is None, but weights are"):
             boruvka.from_edges(Table({**ends, "w": whole([1, 2, 3], null=(2, 3))}))
 
     def test_buffers_that_are_too_short(self):
@@ -315,71 +315,71 @@ class Protocol(unittest.TestCase):
         self.assertEqual(names, [5, 6])
 
 
-class Refused(unittest.TestCase):
-    def expect(self, error, words, *given, **more):
-        with self.assertRaisesRegex(error, words):
+class Rejected(unittest.TestCase):
+    def expect(self, error, pattern, *given, **more):
+        with self.assertRaisesRegex(error, pattern):
             boruvka.from_edges(*given, **more)
 
     def test_columns_that_are_not_there(self):
-        self.expect(KeyError, "the frame has no column 'u', but 'from', 'to', 'km'", ROADS)
-        self.expect(KeyError, "no column 'w', but 'u', 'v'", Table({"u": whole([1]), "v": whole([1])}))
-        self.expect(KeyError, "no column 'w', but 'u', 'v'", np.zeros(3, [("u", "i4"), ("v", "i4")]))
-        self.expect(KeyError, r"no column 'u', but 0, 1, 2, 3, 4, 5, 6, 7, 8, 9, \.\.\"$", np.zeros((4, 30), int))
+        self.expect(KeyError, "the frame has no column 'u'; it has 'from', 'to', 'km'", ROADS)
+        self.expect(KeyError, "no column 'w'; it has 'u', 'v'", Table({"u": whole([1]), "v": whole([1])}))
+        self.expect(KeyError, "no column 'w'; it has 'u', 'v'", np.zeros(3, [("u", "i4"), ("v", "i4")]))
+        self.expect(KeyError, r"no column 'u'; it has 0, 1, 2, 3, 4, 5, 6, 7, 8, 9, \.\.\"$", np.zeros((4, 30), int))
         for name in (3, -1, "u", 1.5):
-            self.expect(KeyError, f"no column {name!r}, but 0, 1, 2", np.zeros((4, 3), int), name, 1, weight=2)
+            self.expect(KeyError, f"no column {name!r}; it has 0, 1, 2", np.zeros((4, 3), int), name, 1, weight=2)
 
     def test_entries_that_are_missing(self):
         for wrong in (None, math.nan, np.datetime64("NaT"), np.ma.masked):
             self.expect(ValueError, "^row 1 has no name in the column 'v'", {"u": [1, 2], "v": [3, wrong], "w": [1, 1]})
         self.expect(ValueError, "^row 0 has no name in the column 'u'", {"u": np.ma.masked_equal([1, 2], 1), "v": [3, 1], "w": [1, 1]})
         self.expect(ValueError, r"^w\[1\] is NaN", {"u": [1, 2], "v": [3, 1], "w": [1, math.nan]})
-        self.expect(TypeError, r"as w\[1\] is None", {"u": [1, 2], "v": [3, 1], "w": [1, None]})
-        # (weights are called by the name of their column)
-        for wrong, error, words in [
+        self.expect(TypeError, r"because w\[1\] is None", {"u": [1, 2], "v": [3, 1], "w": [1, None]})
+        # (errors call weights by the name of their column)
+        for wrong, error, pattern in [
             ([1, math.nan], ValueError, r"^km\[1\] is NaN"),
-            ([1, None], TypeError, r"^km has the dtype object, as km\[1\] is None"),
-            ([1, "2"], TypeError, r"^km has the dtype <U21, as km\[0\] is '1'"),
+            ([1, None], TypeError, r"^km has the dtype object, because km\[1\] is None"),
+            ([1, "2"], TypeError, r"^km has the dtype <U21, because km\[0\] is '1'"),
             ([1, 2, 3], ValueError, "^u, v and km differ in length: 2, 2 and 3$"),
-            (np.ma.masked_equal([1, 2], 2), ValueError, r"^km has masked entries, as km\[1\] is"),
+            (np.ma.masked_equal([1, 2], 2), ValueError, r"^km has masked entries, such as km\[1\]"),
             ([2**53 + 1, 0.5], ValueError, r"^km\[0\] is 9007199254740993, which numpy would round"),
-            (np.array([1, 2**63], np.uint64), ValueError, r"^km\[1\] is 9223372036854775808, past 2\^63 - 1$"),
+            (np.array([1, 2**63], np.uint64), ValueError, r"^km\[1\] is 9223372036854775808, but a weight is at most 2\^63 - 1$"),
         ]:
-            self.expect(error, words, {"u": [1, 2], "v": [3, 1], "km": wrong}, weight="km")
+            self.expect(error, pattern, {"u": [1, 2], "v": [3, 1], "km": wrong}, weight="km")
 
     def test_columns_that_do_not_fit(self):
         self.expect(ValueError, "^the columns 'u' and 'v' differ in length: 1 and 2$", {"u": [1], "v": [3, 1], "w": [1, 1]})
         self.expect(ValueError, "differ in length: 1, 1 and 2$", {"u": [1], "v": [3], "w": [1, 1]})
         for wrong, kind in [([1], "list"), ({}, "dict"), (np.array([1, 2]), "ndarray"), (np.array(1), "ndarray"), (([1], 2), "tuple")]:
-            words = f"^the column 'v' has a {kind} in row 1, which can't be a key of a dict: a tuple of texts or numbers can$"
-            self.expect(TypeError, words, {"u": [1, 2], "v": [3, wrong], "w": [1, 1]})
+            pattern = f"^the column 'v' has a {kind} in row 1, which isn't hashable: a tuple of texts or numbers is$"
+            self.expect(TypeError, pattern, {"u": [1, 2], "v": [3, wrong], "w": [1, 1]})
         for wrong in (5, None, True, "abc", b"ab", datetime.date(2020, 1, 1)):
-            words = f"^the column 'u' is {re.escape(repr(wrong))}, and has to be an array or a list$"
-            self.expect(TypeError, words, {"u": wrong, "v": [1, 2, 3], "w": [1, 1, 1]})
-        self.expect(TypeError, "^the column 'w' is 7, and has to be an array or a list$", {"u": [1], "v": [2], "w": 7})
-        self.expect(ValueError, "^the column 'u' has 0 dimensions, and needs one$", {"u": np.array(5), "v": [1], "w": [1]})
+            pattern = f"^the column 'u' is {re.escape(repr(wrong))}, but has to be an array or a list$"
+            self.expect(TypeError, pattern, {"u": wrong, "v": [1, 2, 3], "w": [1, 1, 1]})
+        self.expect(TypeError, "^the column 'w' is 7, but has to be an array or a list$", {"u": [1], "v": [2], "w": 7})
+        self.expect(ValueError, "^the column 'u' has 0 dimensions, but needs one$", {"u": np.array(5), "v": [1], "w": [1]})
         self.expect(TypeError, "^the column 'u' is a set, which has no order$", {"u": {1, 2}, "v": [1, 2], "w": [1, 1]})
         self.expect(TypeError, "^the column 'v' is a dict, ", {"u": [1], "v": {1: 2}, "w": [1]})
-        self.expect(ValueError, "^the column 'u' has 2 dimensions, and needs one$", {"u": np.zeros((2, 2)), "v": [1, 2], "w": [1, 1]})
-        self.expect(ValueError, "^the column 'u' has 2 dimensions, and needs one$", {"u": np.matrix([1, 2]), "v": [1, 2], "w": [1, 1]})
+        self.expect(ValueError, "^the column 'u' has 2 dimensions, but needs one$", {"u": np.zeros((2, 2)), "v": [1, 2], "w": [1, 1]})
+        self.expect(ValueError, "^the column 'u' has 2 dimensions, but needs one$", {"u": np.matrix([1, 2]), "v": [1, 2], "w": [1, 1]})
         days = np.array(["2020-01-01"], "M8[D]")
-        self.expect(TypeError, r"the dtypes datetime64\[D\] and datetime64\[s\]: \.astype makes one", {"u": days, "v": days.astype("M8[s]"), "w": [1]})
+        self.expect(TypeError, r"the endpoints have the dtypes datetime64\[D\] and datetime64\[s\]: \.astype converts one", {"u": days, "v": days.astype("M8[s]"), "w": [1]})
         self.expect(TypeError, r"the dtypes timedelta64\[D\] and timedelta64\[s\]", {"u": [np.timedelta64(1, "D")], "v": [np.timedelta64(86400, "s")], "w": [1]})
-        words = r"^the ends are times of numpy \(datetime64\[D\]\), and of the type datetime: numpy\.asarray\(column, 'datetime64\[D\]'\) of each makes one of them$"
-        self.expect(TypeError, words, {"u": days, "v": [datetime.datetime(2020, 1, 1)], "w": [1]})
+        pattern = r"^some endpoints are times of numpy \(datetime64\[D\]\), and some have the type datetime: numpy\.asarray\(column, 'datetime64\[D\]'\) converts a column$"
+        self.expect(TypeError, pattern, {"u": days, "v": [datetime.datetime(2020, 1, 1)], "w": [1]})
         zoned = datetime.datetime(2020, 1, 1, tzinfo=datetime.timezone.utc)
-        self.expect(TypeError, "^the ends are times with a zone, and times without", {"u": [zoned], "v": [zoned.replace(tzinfo=None)], "w": [1]})
+        self.expect(TypeError, "^some endpoints are times with a time zone, and some without", {"u": [zoned], "v": [zoned.replace(tzinfo=None)], "w": [1]})
 
-        words = r"^the ends are dates, and dates with a time of day: \.dt\.date makes dates of these$"
-        self.expect(TypeError, words, {"u": [datetime.date(2020, 1, 2)], "v": [datetime.datetime(2020, 1, 2)], "w": [1]})
+        pattern = r"^some endpoints are dates, and some have a time of day: \.dt\.date converts these to dates$"
+        self.expect(TypeError, pattern, {"u": [datetime.date(2020, 1, 2)], "v": [datetime.datetime(2020, 1, 2)], "w": [1]})
 
     def test_what_is_no_frame(self):
         for file in ("abc.csv", b"abc.csv", pathlib.Path("abc.csv")):
-            self.expect(TypeError, r"^a (str|bytes|PosixPath) is no frame: pandas\.read_csv makes one of a file, and boruvka\.read_gr reads a \.gr file$", file)
+            self.expect(TypeError, r"^a (str|bytes|PosixPath) isn't a frame: pandas\.read_csv reads one from a file, and boruvka\.read_gr reads a \.gr file$", file)
         for rows in ([("a", "b", 1)], (("a", "b", 1),)):
-            self.expect(TypeError, r"^a (list|tuple) is no frame: pandas\.DataFrame\(rows", rows)
-            self.expect(TypeError, "is no frame", rows, 0, 1, weight=2)
-        self.expect(TypeError, "^a int is no frame: it has no columns", 5)
-        self.expect(TypeError, r"^an array of the shape \(4,\) is no frame", np.zeros(4))
+            self.expect(TypeError, r"^a (list|tuple) isn't a frame: pass pandas\.DataFrame\(rows", rows)
+            self.expect(TypeError, "isn't a frame", rows, 0, 1, weight=2)
+        self.expect(TypeError, "^a int isn't a frame: it has no columns", 5)
+        self.expect(TypeError, r"^an array of the shape \(4,\) isn't a frame", np.zeros(4))
 
 
 if __name__ == "__main__":

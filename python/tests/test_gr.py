@@ -1,4 +1,4 @@
-"""`read_gr` and `write_gr`, over the texts of the repository's documents, drawn graphs, and files made to hurt."""
+"""`read_gr` and `write_gr` on the texts of the repository's documents, drawn graphs, and files made to do harm."""
 
 import gzip
 import os
@@ -15,12 +15,12 @@ import boruvka
 from graphs import Graph
 
 TOP = os.path.dirname(os.path.dirname(os.path.dirname(os.path.abspath(__file__))))
-# what README.md shows of the small net's forest
+# the forest of the small graph in README.md
 SMALL_FOREST = b"p sp 6 5\na 2 5 0\na 3 4 0\na 3 5 0\na 4 6 3\na 1 3 10\n"
 MOST, LEAST = 2**63 - 1, -(2**63)
 
-# by docs/GR_FORMAT.md: each fault, and where it is told
-FAULTS = [
+# each error of docs/GR_FORMAT.md, and the line that reports it
+ERRORS = [
     (b"x\n", "UnknownLine", 1),
     (b"p sp 2 0\n\xef\xbb\xbfc\n", "UnknownLine", 2),
     (b"from,to,km\n1,2,3\n", "UnknownLine", 1),
@@ -81,7 +81,7 @@ class InFolder(unittest.TestCase):
         listed = list(zip(*(it.tolist() for it in found[1:])))
         if len(edges) < 100:
             self.assertEqual((found.n, listed), (n, edges))
-        # (to tell how long lists differ takes minutes)
+        # (unittest takes minutes to show how long lists differ)
         self.assertTrue((found.n, listed) == (n, edges))
         self.assertEqual([it.dtype for it in found[1:]], [np.int32, np.int32, np.int64])
 
@@ -94,8 +94,8 @@ class Read(InFolder):
         edges = boruvka.read_gr(f"{TOP}/examples/small.gr")
         self.assertEqual((edges.n, edges.u.tolist()), (6, [0, 0, 1, 2, 3, 3, 4, 4]))
         forest = boruvka.minimum_spanning_forest(*edges)
-        wanted = [tuple(map(int, it.split()[1:])) for it in SMALL_FOREST.decode().splitlines()[1:]]
-        self.assertEqual(list(zip((forest.u + 1).tolist(), (forest.v + 1).tolist(), forest.w.tolist())), wanted)
+        expected = [tuple(map(int, it.split()[1:])) for it in SMALL_FOREST.decode().splitlines()[1:]]
+        self.assertEqual(list(zip((forest.u + 1).tolist(), (forest.v + 1).tolist(), forest.w.tolist())), expected)
 
     def test_what_a_line_may_have(self):
         one = [(0, 1, 7)]
@@ -124,16 +124,16 @@ class Read(InFolder):
         edges = [(draw.randrange(9000), draw.randrange(9000), draw.randint(LEAST, MOST)) for _ in range(250_000)]
         lines = [f"a {u + 1} {v + 1} {w}\n" + ("c a 1 1 1\n" if w % 7 == 0 else "") for u, v, w in edges]
         self.expect_edges(f"p sp 9000 {len(edges)}\n{''.join(lines)}".encode(), 9000, edges)
-        # a comment that is longer than a piece
+        # a comment that is longer than what is read at a time
         self.expect_edges(b"c" + b"a 1 2 3 p" * 1_000_000 + b"\np sp 2 1\na 2 1 5\n", 2, [(1, 0, 5)])
 
-    def test_each_fault_with_its_line(self):
-        for text, fault, line in FAULTS:
+    def test_each_error_with_its_line(self):
+        for text, name, line in ERRORS:
             for path in [self.written(text), self.written(gzip.compress(text), "packed")]:
                 with self.subTest(text=text[:40]):
-                    with self.assertRaises(ValueError) as refused:
+                    with self.assertRaises(ValueError) as raised:
                         boruvka.read_gr(path)
-                    self.assertEqual(str(refused.exception), f"{path}: line {line}: {fault}")
+                    self.assertEqual(str(raised.exception), f"{path}: line {line}: {name}")
 
     def test_compressed(self):
         text = self.data(f"{TOP}/examples/small.gr")
@@ -161,12 +161,12 @@ class Read(InFolder):
             writer.join()
             self.assertEqual((found.n, found.w.tolist()), (6, [17, 10, 2, 0, 0, 3, 0, 20]))
 
-    def test_compressed_data_that_is_cut_off_or_damaged(self):
+    def test_compressed_data_that_is_truncated_or_damaged(self):
         whole = gzip.compress(self.data(f"{TOP}/examples/small.gr"))
         wrong_sum = whole[:-8] + struct.pack("<I", 5) + whole[-4:]
         cut = [whole[:end] for end in range(2, len(whole))]
         for data in [*cut, wrong_sum, whole[:30] + b"\xff\xff\xff" + whole[33:], whole + b"rest", b"\x1f\x8b" + bytes(100)]:
-            with self.assertRaisesRegex(ValueError, "net.gr: its compressed data is cut off or damaged: "):
+            with self.assertRaisesRegex(ValueError, "net.gr: its compressed data is truncated or damaged: "):
                 self.read(data)
 
     def test_files_that_cannot_be_read(self):
@@ -176,13 +176,13 @@ class Read(InFolder):
             boruvka.read_gr(self.folder)
 
     def test_drawn_bytes(self):
-        """Whatever stands in a file, it is read as the few lines below read it, or refused with a line."""
+        """Any file is read as the few lines below read it, or rejected with the line of an error."""
         draw = random.Random(3)
-        words = [b"a 1 2 3\n", b"a 3 2 -1\n", b"\n", b"c x\n", b" ", b"\r", b"0", b"a 1 1 0", b"\xa0", b"a", b"9" * 30, b"\0"]
+        pattern = [b"a 1 2 3\n", b"a 3 2 -1\n", b"\n", b"c x\n", b" ", b"\r", b"0", b"a 1 1 0", b"\xa0", b"a", b"9" * 30, b"\0"]
         counts = {True: 0, False: 0}
         for _ in range(3000):
-            kinds = draw.choice([4, 8, len(words)])
-            after = b"".join(draw.choice(words[:kinds]) for _ in range(draw.randrange(6)))
+            kinds = draw.choice([4, 8, len(pattern)])
+            after = b"".join(draw.choice(pattern[:kinds]) for _ in range(draw.randrange(6)))
             text = b"p sp 3 %d\n" % draw.choice([after.count(b"a "), 2]) + after
             try:
                 found = self.read(text)
@@ -193,8 +193,8 @@ class Read(InFolder):
             counts[True] += 1
             lines = [it.replace(b"\r", b" ").replace(b"\t", b" ").split(b" ") for it in text.split(b"\n")]
             lines = [[it for it in line if it] for line in lines]
-            wanted = [tuple(map(int, line[1:])) for line in lines if line[:1] == [b"a"]]
-            self.assertEqual([(u + 1, v + 1, w) for u, v, w in zip(*(it.tolist() for it in found[1:]))], wanted)
+            expected = [tuple(map(int, line[1:])) for line in lines if line[:1] == [b"a"]]
+            self.assertEqual([(u + 1, v + 1, w) for u, v, w in zip(*(it.tolist() for it in found[1:]))], expected)
         self.assertGreater(min(counts.values()), 50)
 
 
@@ -205,14 +205,14 @@ class Write(InFolder):
         self.assertEqual(self.data(path), SMALL_FOREST)
 
     def test_edges_in_each_way(self):
-        wanted = b"p sp 3 2\na 1 2 7\na 3 2 -5\n"
+        expected = b"p sp 3 2\na 1 2 7\na 3 2 -5\n"
         u, v, w = np.array([0, 2], np.int8), [1, 1], np.array([7, -5], np.int16)
         path = f"{self.folder}/net.gr"
         for given in [(3, u, v, w), (None, u, v, w), (u, v, w), (3, np.array([u, v]).T, w), ([[0, 1], [2, 1]], w)]:
             boruvka.write_gr(path, *given)
-            self.assertEqual(self.data(path), wanted)
+            self.assertEqual(self.data(path), expected)
         boruvka.write_gr(path, u=u, v=v, w=w)
-        self.assertEqual(self.data(path), wanted)
+        self.assertEqual(self.data(path), expected)
         boruvka.write_gr(path, 2, [0], [1], [True])
         self.assertEqual(self.data(path), b"p sp 2 1\na 1 2 1\n")
         boruvka.write_gr(path, 5, [], [], [])
@@ -241,29 +241,29 @@ class Write(InFolder):
         boruvka.write_gr(path, *edges)
         with open(path, encoding="ascii") as it:
             head, *lines = it.read().splitlines()
-        wanted = [f"a {u + 1} {v + 1} {w}" for u, v, w in zip(*(it.tolist() for it in edges[1:]))]
-        # (to tell how long lists differ takes minutes)
-        self.assertTrue((head, lines) == ("p sp 5000 150000", wanted))
+        expected = [f"a {u + 1} {v + 1} {w}" for u, v, w in zip(*(it.tolist() for it in edges[1:]))]
+        # (unittest takes minutes to show how long lists differ)
+        self.assertTrue((head, lines) == ("p sp 5000 150000", expected))
 
     def test_packed_twice_it_is_the_same(self):
         for name in ("one.gr.gz", "other.gr.gz"):
             boruvka.write_gr(f"{self.folder}/{name}", 3, [0], [2], [5])
         self.assertEqual(self.data(f"{self.folder}/one.gr.gz"), self.data(f"{self.folder}/other.gr.gz"))
 
-    def test_what_is_refused_leaves_the_file(self):
+    def test_what_is_rejected_leaves_the_file(self):
         path = self.written(b"as it was")
         forest = boruvka.minimum_spanning_forest(3, [0, 1], [1, 2], [0.5, 1.5])
-        for error, words, given in [
+        for error, pattern, given in [
             (TypeError, r"^w has the dtype float64, .*round\(\)\.astype\(int\)", (forest,)),
             (TypeError, "^w has the dtype float32, ", (3, [0], [1], np.array([2], np.float32))),
             (ValueError, r"^w\[0\] is 9223372036854775808, ", (3, [0], [1], np.array([2**63], np.uint64))),
             (ValueError, r"^u\[0\] is 3, ", (3, [3], [1], [1])),
             (ValueError, "^n is ", (2**26 + 1, [0], [1], [1])),
             (ValueError, "differ in length", (3, [0], [1], [1, 2])),
-            (TypeError, r"^a Forest is no array: forest\.to_frame\(\) makes a frame", (forest, [0], [1])),
-            (TypeError, "^5 arguments are given, and a forest needs n, u, v and w$", (3, [0], [1], [2], 5)),
+            (TypeError, r"^a Forest isn't an array: forest\.to_frame\(\) makes a frame", (forest, [0], [1])),
+            (TypeError, "^5 arguments are passed, but a forest needs n, u, v and w$", (3, [0], [1], [2], 5)),
         ]:
-            with self.assertRaisesRegex(error, words):
+            with self.assertRaisesRegex(error, pattern):
                 boruvka.write_gr(path, *given)
             self.assertEqual(self.data(path), b"as it was")
         with self.assertRaises(FileNotFoundError):

@@ -1,4 +1,4 @@
-"""Ctrl-C ends a long call: the KeyboardInterrupt comes within a second or so of the processor's time."""
+"""Ctrl-C ends a long call: the KeyboardInterrupt comes within about a second of processor time."""
 
 import os
 import signal
@@ -9,7 +9,7 @@ import unittest
 
 from test_documents import there
 
-# it tells by `ready` that what is timed has begun; what a shell starts in the background would ignore SIGINT
+# `ready` says that the timed call begins; a process that a shell starts in the background would ignore SIGINT
 CODE = """
 import signal
 import numpy as np
@@ -25,7 +25,7 @@ TICKS = os.sysconf("SC_CLK_TCK")
 
 
 def used(process):
-    """Seconds of the processor that it took so far."""
+    """The processor time that it used so far, in seconds."""
     with open(f"/proc/{process.pid}/stat", encoding="ascii") as it:
         user, system = it.read().rsplit(")", 1)[1].split()[11:13]
     return (int(user) + int(system)) / TICKS
@@ -33,10 +33,10 @@ def used(process):
 
 class Interrupted(unittest.TestCase):
     def expect_interrupted(self, n, d, nearest=None, before=2.0):
-        """Once it has worked for so long, it ends soon after SIGINT, and not by itself."""
+        """After it has run for some time, it ends soon after SIGINT, and not before."""
         path = os.pathsep.join(filter(None, sys.path))
         code = CODE.format(n=n, d=d, nearest=nearest)
-        # (BLAS may take other processors, whose time counts as well)
+        # (BLAS may use other processors, whose time counts as well)
         env = {**os.environ, "PYTHONPATH": path, "OPENBLAS_NUM_THREADS": "1"}
         with subprocess.Popen([sys.executable, "-c", code], env=env, stdout=subprocess.PIPE, stderr=subprocess.PIPE, text=True) as process:
             try:
@@ -46,13 +46,13 @@ class Interrupted(unittest.TestCase):
                     time.sleep(0.01)
                 process.send_signal(signal.SIGINT)
                 sent = used(process)
-                told = process.stdout.readline()
-                # (both streams are closed: what it took stands there until it is waited for)
+                output = process.stdout.readline()
+                # (both streams are closed; the times stay readable until the process is waited for)
                 errors = process.stderr.read()
                 taken = used(process) - sent
             finally:
                 process.kill()
-        self.assertEqual((told, errors.splitlines()[-1:]), ("", ["KeyboardInterrupt"]))
+        self.assertEqual((output, errors.splitlines()[-1:]), ("", ["KeyboardInterrupt"]))
         self.assertLess(taken, 1.5)
 
     @unittest.skipUnless(there("scipy"), "there is no scipy")

@@ -1,4 +1,4 @@
-"""Single linkage and clusters, by worked examples, beside scipy's, and over drawn graphs."""
+"""Single linkage and clusters: worked examples, comparisons with scipy, and drawn graphs."""
 
 import math
 import unittest
@@ -15,7 +15,7 @@ from boruvka.linkage import labels, merges, single_linkage, spanning_tree
 
 
 def there(name):
-    """Whether a package is there."""
+    """Whether a package is installed."""
     try:
         __import__(name)
     except ImportError:
@@ -29,12 +29,12 @@ try:
 except ImportError:
     hierarchy = None
 
-# the vertices, roads and clusters of docs/RECIPES.md, with the vertices from 0
+# the vertices, roads and clusters of docs/RECIPES.md; vertices are numbered from 0
 ROADS = minimum_spanning_forest(10, [1, 6, 0, 3, 4, 8, 4, 2], [2, 7, 1, 4, 5, 9, 6, 3], [2, 2, 3, 3, 4, 6, 9, 11])
 
 
 def clouds(draw, n, dimensions):
-    """Points of several kinds, the first in no special place."""
+    """Points of several kinds, the first of them uniform."""
     apart = draw.normal(size=(n, dimensions))
     yield apart
     yield draw.integers(0, 5, (n, dimensions))
@@ -44,7 +44,7 @@ def clouds(draw, n, dimensions):
     yield draw.integers(0, 5, (n, dimensions)) + 1e-12 * apart
     yield np.repeat(apart[: 1 + n // 3], 3, axis=0)
     yield np.zeros((n, dimensions))
-    # almost in a line, in dense clusters, in clusters within clusters, and near the ends of doubles
+    # almost in a line, in dense clusters, in nested clusters, and near the limits of doubles
     yield np.outer(draw.random(n), np.ones(dimensions)) + 1e-13 * apart
     yield draw.integers(0, 4, (n, 1)) * 100 + 1e-3 * apart
     yield draw.integers(0, 3, (n, 1)) * 50 + apart * 10.0 ** draw.integers(-8, 1, (n, 1))
@@ -53,7 +53,7 @@ def clouds(draw, n, dimensions):
 
 
 def heights_of_all_pairs(points):
-    """The lengths of the tree by Kruskal's algorithm over all pairs, and the standard library's distance."""
+    """The lengths of the tree by Kruskal's algorithm on all pairs, and the standard library's distance."""
     rows = np.asarray(points).tolist()
     pairs = list(combinations(range(len(rows)), 2))
     lengths = [math.dist(rows[i], rows[j]) for i, j in pairs]
@@ -64,9 +64,9 @@ def heights_of_all_pairs(points):
 
 class Worked(unittest.TestCase):
     def test_points_of_a_line(self):
-        wanted = [[0, 1, 1, 2], [2, 3, 2, 2], [4, 5, 4, 4]]
-        self.assertEqual(single_linkage([[0.0], [1.0], [5.0], [7.0]]).tolist(), wanted)
-        self.assertEqual(single_linkage([1, 5, 7, 4, 6, 2]).tolist(), wanted)
+        expected = [[0, 1, 1, 2], [2, 3, 2, 2], [4, 5, 4, 4]]
+        self.assertEqual(single_linkage([[0.0], [1.0], [5.0], [7.0]]).tolist(), expected)
+        self.assertEqual(single_linkage([1, 5, 7, 4, 6, 2]).tolist(), expected)
 
     def test_a_tree_knows_the_pair_of_each_edge(self):
         draw = np.random.default_rng(2)
@@ -78,7 +78,7 @@ class Worked(unittest.TestCase):
                 self.assertTrue((np.diff(tree.w) >= 0).all())
 
     def test_the_clusters_of_the_roads(self):
-        # (by RECIPES' awk: each vertex beside the least of its cluster)
+        # (by awk in RECIPES: each vertex with the least vertex of its cluster)
         self.assertEqual(labels(10, ROADS, clusters=4).tolist(), [0, 0, 0, 1, 1, 1, 2, 2, 3, 3])
         self.assertEqual(labels(10, ROADS, clusters=10).tolist(), list(range(10)))
         self.assertEqual(labels(10, ROADS, clusters=2).tolist(), [0] * 8 + [1] * 2)
@@ -95,7 +95,7 @@ class Worked(unittest.TestCase):
                 self.assertEqual(parts, 4 - (weights <= height).sum(), (dtype, height))
 
     def test_a_forest_in_another_order(self):
-        # a maximum forest with its weights turned back; edges behind the heavier ones
+        # a maximum forest with negated weights; edges after heavier ones
         heaviest = minimum_spanning_forest(4, [0, 1, 2, 3], [1, 2, 3, 0], [-1.0, -5.0, -2.0, -4.0])
         heaviest = heaviest._replace(w=-heaviest.w)
         self.assertEqual(heaviest.w.tolist(), [5, 4, 2])
@@ -113,23 +113,23 @@ class Worked(unittest.TestCase):
         self.assertEqual(labels(1, minimum_spanning_forest(1, [], [], []), clusters=1).tolist(), [0])
 
 
-class Refused(unittest.TestCase):
+class Rejected(unittest.TestCase):
     def test_points_and_distances(self):
-        for wrong, words in [
-            (np.empty((0, 2)), "^there is no point$"),
-            ([], "^there is no point and no distance"),
+        for wrong, pattern in [
+            (np.empty((0, 2)), "^y has no points$"),
+            ([], "^y is empty: "),
             (np.ma.masked_equal([[0.0], [1.0]], 1), "masked"),
             (3.0, "shape"),
             (np.zeros((2, 2, 2)), "shape"),
-            ([1.0, 2.0], "^2 distances"),
+            ([1.0, 2.0], "^y has 2 entries, but"),
             ([[1, 1], [np.nan, 0]], "^a coordinate of the point 1 "),
             ([[np.inf], [0]], "^a coordinate of the point 0 "),
-            ([1, np.inf, 2], "distance isn't finite"),
-            ([1, np.nan, 2], "distance isn't finite"),
+            ([1, np.inf, 2], "but a distance is finite"),
+            ([1, np.nan, 2], "but a distance is finite"),
             ([1, -1, 2], "negative"),
         ]:
             for call in (single_linkage, spanning_tree):
-                with self.assertRaisesRegex(ValueError, words):
+                with self.assertRaisesRegex(ValueError, pattern):
                     call(wrong)
         with self.assertRaisesRegex(ValueError, "^points 0 and 1 are so far apart"):
             spanning_tree([[1.7e308, 0], [-1.7e308, 0]])
@@ -137,27 +137,27 @@ class Refused(unittest.TestCase):
             with self.assertRaises(TypeError):
                 single_linkage(wrong)
 
-    def test_what_looks_like_a_matrix_of_distances_is_told(self):
+    def test_what_looks_like_a_matrix_of_distances_is_reported(self):
         for call in (single_linkage, spanning_tree):
-            with self.assertWarnsRegex(UserWarning, "square") as told:
+            with self.assertWarnsRegex(UserWarning, "square") as output:
                 call([[0, 1, 2], [1, 0, 3], [2, 3, 0]])
-            self.assertEqual(told.filename, __file__)
+            self.assertEqual(output.filename, __file__)
             if hierarchy:
-                self.assertIs(told.warning.__class__, hierarchy.ClusterWarning)
+                self.assertIs(output.warning.__class__, hierarchy.ClusterWarning)
         with warnings.catch_warnings():
             warnings.simplefilter("error")
             single_linkage([[0, 1], [2, 0]])
             single_linkage([[0]])
 
     def test_a_matrix_of_distances_that_is_symmetric_up_to_rounding(self):
-        """What scikit-learn's pairwise_distances returns: scipy warns of it, by the same rule."""
+        """The result of scikit-learn's pairwise_distances: scipy warns about it, by the same rule."""
         draw = np.random.default_rng(30)
         points = draw.random((40, 3))
         square = np.sqrt(((points[:, None] - points[None]) ** 2).sum(axis=2))
         rounded = square * (1 + 1e-15 * draw.integers(-4, 5, square.shape))
         self.assertFalse((rounded == rounded.T).all())
         for given in (rounded, rounded + np.diag(np.full(40, 1e-12))):
-            with self.assertWarnsRegex(UserWarning, 'its rows are taken as points, not as distances, which metric="precomputed" takes$'):
+            with self.assertWarnsRegex(UserWarning, 'its rows are taken as points: pass metric="precomputed" if they are distances$'):
                 spanning_tree(given)
             if hierarchy:
                 with self.assertWarns(hierarchy.ClusterWarning):
@@ -171,39 +171,39 @@ class Refused(unittest.TestCase):
 
     def test_distances_that_are_none(self):
         square = np.array([[0.0, 1, 2], [1, 0, 3], [2, 3, 0]])
-        for change, words in [
-            ((0, 1, 1.1), r"^y\[0, 1\] is 1\.1, and y\[1, 0\] is 1\.0: a distance is the same both ways, as numpy\.minimum\(y, y\.T\) makes it$"),
-            ((2, 1, 2.9), r"^y\[1, 2\] is 3\.0, and y\[2, 1\] is 2\.9: "),
-            ((1, 1, 0.5), r"^y\[1, 1\] is 0\.5, and the distance of a point to itself is 0: "),
-            ((0, 2, -2), r"^y\[0, 2\] is -2\.0: a distance isn't finite, or is negative$"),
-            ((0, 2, np.inf), r"^y\[0, 2\] is inf: "),
-            ((0, 2, np.nan), r"^y\[0, 2\] is nan: "),
+        for change, pattern in [
+            ((0, 1, 1.1), r"^y\[0, 1\] is 1\.1, but y\[1, 0\] is 1\.0: a distance is the same in both directions, and numpy\.minimum\(y, y\.T\) makes it so$"),
+            ((2, 1, 2.9), r"^y\[1, 2\] is 3\.0, but y\[2, 1\] is 2\.9: "),
+            ((1, 1, 0.5), r"^y\[1, 1\] is 0\.5, but the distance of a point to itself is 0: "),
+            ((0, 2, -2), r"^y\[0, 2\] is -2\.0, but a distance is finite and not negative$"),
+            ((0, 2, np.inf), r"^y\[0, 2\] is inf, but a distance is finite"),
+            ((0, 2, np.nan), r"^y\[0, 2\] is nan, but a distance is finite"),
         ]:
             wrong = square.copy()
             wrong[change[:2]] = change[2]
-            with self.assertRaisesRegex(ValueError, words):
+            with self.assertRaisesRegex(ValueError, pattern):
                 spanning_tree(wrong, metric="precomputed")
         for wrong in (square[:, :2], square[None], np.empty((0, 0))):
             with self.assertRaisesRegex(ValueError, "^y has the shape .* takes a square matrix of distances"):
                 spanning_tree(wrong, metric="precomputed")
-        with self.assertRaisesRegex(ValueError, "^p is 3, and only"):
+        with self.assertRaisesRegex(ValueError, "^p is 3, but only"):
             spanning_tree(square, metric="precomputed", p=3)
         with self.assertRaisesRegex(ValueError, "^min_samples is 4, "):
             spanning_tree(square, metric="precomputed", min_samples=4)
-        with self.assertRaisesRegex(ValueError, "^2 distances aren't"):
+        with self.assertRaisesRegex(ValueError, "^y has 2 entries, but no number of points"):
             spanning_tree([1.0, 2.0], metric="precomputed", min_samples=2)
         with self.assertRaisesRegex(TypeError, "^y has the dtype"):
             spanning_tree([["a", "b"], ["c", "d"]], metric="precomputed")
 
     def test_clusters_of_a_negative_size(self):
         for call in (lambda it: labels(10, ROADS, clusters=4, min_size=it), lambda it: ROADS.labels(height=3, min_size=it)):
-            with self.assertRaisesRegex(ValueError, "^min_size is -1, and a cluster has at least 0 vertices: "):
+            with self.assertRaisesRegex(ValueError, "^min_size is -1, but has to be at least 0: "):
                 call(-1)
             self.assertEqual(call(0).tolist(), call(1).tolist())
 
     def test_clusters_that_cannot_be(self):
         for clusters in (-1, 0, 1, 11):
-            with self.assertRaisesRegex(ValueError, f"^{clusters} clusters .* 2 to 10$"):
+            with self.assertRaisesRegex(ValueError, f"^clusters is {clusters}, but has to be from 2 to 10$"):
                 labels(10, ROADS, clusters=clusters)
         for given in ({}, {"clusters": 3, "height": 2}, {"clusters": 2.5}):
             with self.assertRaises(TypeError):
@@ -211,7 +211,7 @@ class Refused(unittest.TestCase):
         with self.assertRaisesRegex(ValueError, "NaN"):
             labels(10, ROADS, height=np.nan)
         for height in (1j, "1", [1, 2], np.array([4])):
-            with self.assertRaisesRegex(TypeError, "^the height is a "):
+            with self.assertRaisesRegex(TypeError, "^height is a "):
                 labels(10, ROADS, height=height)
         for n in (-1, 2**26 + 1, 2**32 + 10):
             with self.assertRaisesRegex(ValueError, f"^n is {n}, "):
@@ -230,18 +230,18 @@ class Refused(unittest.TestCase):
                     labels(4, wrong, height=3)
                 with self.assertRaisesRegex(ValueError, f"is {end}, "):
                     merges(4, wrong)
-        # that is seen wherever it is cut
+        # this is noticed wherever the forest is cut
         for given in ({"clusters": 1}, {"clusters": 2}, {"height": 9}, {"height": 0}):
             with self.assertRaisesRegex(ValueError, "^3 edges between 3 vertices close a cycle$"):
                 labels(3, cycle, **given)
             with self.assertRaisesRegex(ValueError, r"^forest.v\[2\] is 9, "):
                 labels(5, cycle._replace(v=np.array([1, 2, 9])), **given)
-            with self.assertRaisesRegex(ValueError, r"shapes \(1,\), \(3,\), \(3,\), \(3,\)$"):
+            with self.assertRaisesRegex(ValueError, r"shapes \(1,\), \(3,\), \(3,\), \(3,\), but need one length$"):
                 labels(5, cycle._replace(u=np.array([0])), **given)
         for call in (lambda it: labels(3, it, clusters=2), lambda it: merges(3, it), lambda it: labels(it, 3, clusters=2)):
-            with self.assertRaisesRegex(TypeError, "^a (ndarray|int) is no Forest"):
+            with self.assertRaisesRegex(TypeError, "^forest is a (ndarray|int), but has to be a Forest"):
                 call(single_linkage([[0], [1], [3]]))
-        with self.assertRaisesRegex(ValueError, "one tree"):
+        with self.assertRaisesRegex(ValueError, "edges don't connect"):
             merges(10, ROADS)
 
 
@@ -251,14 +251,14 @@ class Exact(unittest.TestCase):
 
         It does both if few points are compared pair by pair and if they aren't.
         """
-        wanted = heights_of_all_pairs(points)
+        expected = heights_of_all_pairs(points)
         for few in (_points.FEW, 0):
             with warnings.catch_warnings(), mock.patch("boruvka.linkage.FEW", few):
                 # (two equal points of a plane look like distances)
                 warnings.simplefilter("ignore", UserWarning)
                 tree = spanning_tree(points)
             self.assertEqual(len(np.unique(labels(len(points), tree, height=np.inf))), 1)
-            np.testing.assert_allclose(tree.w, wanted, rtol=1e-13, atol=0)
+            np.testing.assert_allclose(tree.w, expected, rtol=1e-13, atol=0)
 
     def test_points_of_all_kinds_in_1_to_50_dimensions(self):
         draw = np.random.default_rng(8)
@@ -269,7 +269,7 @@ class Exact(unittest.TestCase):
                         self.expect_all_pairs(points)
 
     def test_by_a_grid_too(self):
-        """It is for many points, and so is made here for few. Which it fits depends on how they lie."""
+        """The grid is for many points, so here it is forced for few. Whether a grid fits depends on the points."""
         draw, fitting = np.random.default_rng(10), []
 
         def fitting_grid(columns):
@@ -293,13 +293,13 @@ class Exact(unittest.TestCase):
         for points in (draw.random((5000, 2)), draw.normal(size=(5000, 3)), np.round(draw.random((5000, 2)), 2)):
             if there("scipy"):
                 self.assertIsNotNone(_rounds.fitting_grid(points.T))
-            for words in WORDS:
-                found = spanning_tree(points, **words).w
+            for pattern in WORDS:
+                found = spanning_tree(points, **pattern).w
                 with mock.patch("boruvka._rounds.fitting_grid", lambda _: None):
-                    np.testing.assert_allclose(found, spanning_tree(points, **words).w, rtol=1e-13, atol=0)
+                    np.testing.assert_allclose(found, spanning_tree(points, **pattern).w, rtol=1e-13, atol=0)
             if hierarchy:
-                wanted = hierarchy.linkage(points, "single")[:, 2]
-                np.testing.assert_allclose(spanning_tree(points).w, wanted, rtol=1e-12, atol=0)
+                expected = hierarchy.linkage(points, "single")[:, 2]
+                np.testing.assert_allclose(spanning_tree(points).w, expected, rtol=1e-12, atol=0)
 
     def test_pieces_of_work_are_all_points_in_their_order(self):
         points = np.arange(3000)
@@ -330,18 +330,18 @@ class Exact(unittest.TestCase):
                 self.expect_all_pairs(draw.random((200, dimensions)) * scale)
             sizes = 10.0 ** draw.integers(-320, 300, (80, 1))
             self.expect_all_pairs(draw.normal(size=(80, dimensions)) * sizes)
-        for beside in ([[1e-300, 0], [3e-300, 0], [1e300, 0], [1e300, 2e290]], [[5e-324, 0], [0, 5e-324], [1e308, 0]], [[1e200, 0], [0, 1], [0, 2]]):
-            self.expect_all_pairs(beside)
-        # each step can be held, though the whole way can't
+        for points_given in ([[1e-300, 0], [3e-300, 0], [1e300, 0], [1e300, 2e290]], [[5e-324, 0], [0, 5e-324], [1e308, 0]], [[1e200, 0], [0, 1], [0, 2]]):
+            self.expect_all_pairs(points_given)
+        # each coordinate of the vector is a double, but its length isn't
         self.assertEqual(spanning_tree([[-1.5e308], [0], [1.5e308]]).w.tolist(), [1.5e308] * 2)
         with warnings.catch_warnings():
             warnings.simplefilter("error")
-            for tiny, words in [(0, {"metric": "minkowski", "p": 18}), (1e-300, {}), (1e-300, {"metric": "manhattan"}), (1e-300, {"min_samples": 2})]:
-                tree = spanning_tree([[-1.5e308, tiny], [0, 0], [1.5e308, 0]], **words)
+            for tiny, pattern in [(0, {"metric": "minkowski", "p": 18}), (1e-300, {}), (1e-300, {"metric": "manhattan"}), (1e-300, {"min_samples": 2})]:
+                tree = spanning_tree([[-1.5e308, tiny], [0, 0], [1.5e308, 0]], **pattern)
                 self.assertEqual(tree.w.tolist(), [1.5e308] * 2)
 
     def test_when_all_pairs_are_looked_at(self):
-        """As the notes of spanning_tree tell it, by p and by how many times sizes of coordinates differ; zeros don't count."""
+        """By p and by the ratio of coordinates, as the notes of spanning_tree say; zeros don't count."""
         if not hierarchy:
             self.skipTest("there is no scipy")
         for p, bits, is_fast in [
@@ -371,23 +371,23 @@ class Exact(unittest.TestCase):
             self.assertEqual(heights.tolist(), [0.0] * (3000 - len(places)) + [1.0] * (len(places) - 1))
 
     @unittest.skipUnless(hierarchy, "there is no scipy")
-    def test_larger_ones_beside_scipys(self):
+    def test_larger_ones_compared_with_scipys(self):
         draw = np.random.default_rng(17)
         for dimensions in (2, 4, 8, 30):
             for kind, points in enumerate(clouds(draw, 2000, dimensions)):
                 with self.subTest(dimensions=dimensions, kind=kind):
                     scale = 2.0 ** np.frexp(np.abs(points).max())[1]
-                    wanted = hierarchy.linkage(points / scale, "single")[:, 2] * scale
-                    np.testing.assert_allclose(spanning_tree(points).w, wanted, rtol=1e-12, atol=0)
+                    expected = hierarchy.linkage(points / scale, "single")[:, 2] * scale
+                    np.testing.assert_allclose(spanning_tree(points).w, expected, rtol=1e-12, atol=0)
 
 
 @unittest.skipUnless(hierarchy, "there is no scipy")
 class Clustered(unittest.TestCase):
-    """Points in clusters that lie apart, in a few groups: bounds between these tell which pairs are compared."""
+    """Points in separated clusters, in a few groups: bounds between these select the pairs that are compared."""
 
-    def heights(self, points, nearest=None, **words):
-        """By scipy's distances and its single linkage."""
-        distances = pdist(points, **words)
+    def heights(self, points, nearest=None, **pattern):
+        """By scipy's distances and single linkage."""
+        distances = pdist(points, **pattern)
         if nearest:
             square = squareform(distances)
             core = np.sort(square, axis=1)[:, nearest - 1]
@@ -395,7 +395,7 @@ class Clustered(unittest.TestCase):
         return hierarchy.linkage(distances, "single")[:, 2]
 
     def groups(self, draw, n, dimensions):
-        """Points in groups of several kinds, which lie apart but for the last."""
+        """Points in groups of several kinds, all of them separated except the last."""
         centres, which = draw.random((7, dimensions)) * 30, draw.integers(0, 7, n)
         apart = draw.normal(size=(n, dimensions))
         yield centres[which] + apart
@@ -403,7 +403,7 @@ class Clustered(unittest.TestCase):
         yield 1e9 + centres[which] + apart
         yield np.round(centres[which] + apart)
         yield np.where(which[:, None] < 3, centres[which] + apart, 100 * apart)
-        # rings within rings, whose centres are in one place
+        # concentric rings
         yield (1 + which[:, None] // 2 * 3) * apart / np.linalg.norm(apart, axis=1)[:, None]
         yield apart * [9] + which[:, None] / 2
 
@@ -418,11 +418,11 @@ class Clustered(unittest.TestCase):
         with mock.patch.object(Across, "lightest", lightest), mock.patch("boruvka._across._WORTH", 0):
             for dimensions in (2, 3, 6, 9):
                 for kind, points in enumerate(self.groups(draw, 500, dimensions)):
-                    for words in ({}, {"metric": "cityblock"}, {"metric": "chebyshev"}, {"metric": "minkowski", "p": 1.5}):
+                    for pattern in ({}, {"metric": "cityblock"}, {"metric": "chebyshev"}, {"metric": "minkowski", "p": 1.5}):
                         for nearest in (None, 6):
-                            with self.subTest(dimensions=dimensions, kind=kind, nearest=nearest, **words):
-                                found = spanning_tree(points, **words, min_samples=nearest).w
-                                np.testing.assert_allclose(found, self.heights(points, nearest, **words), rtol=1e-9 if kind == 2 else 1e-12, atol=0)
+                            with self.subTest(dimensions=dimensions, kind=kind, nearest=nearest, **pattern):
+                                found = spanning_tree(points, **pattern, min_samples=nearest).w
+                                np.testing.assert_allclose(found, self.heights(points, nearest, **pattern), rtol=1e-9 if kind == 2 else 1e-12, atol=0)
         self.assertGreater(len(compared), 100)
 
     def test_where_few_pairs_are_compared_or_all(self):
@@ -446,14 +446,14 @@ class Clustered(unittest.TestCase):
                     one, other = np.triu_indices(90, 1)
                     with self.subTest(p=p, dimensions=dimensions, kind=kind):
                         self.assertTrue((gaps[group[one], group[other]] <= space.lengths(one, other)).all())
-                        # (two groups of a point each are as far apart as these)
+                        # (for two groups of one point each the bound is their distance)
                         two = _points.Space(points[:2], p)
                         alone = Across(two, None, np.array([0, 1], np.int32), 2).gaps[0, 1]
                         self.assertGreater(alone, two.lengths(np.array([0]), np.array([1]))[0] * (1 - 1e-6) - 1e-9)
 
 
 class Lengths(unittest.TestCase):
-    """A length depends on its two points alone, and lengths from two sources are compared with room."""
+    """A length depends on its two points alone, and lengths from two sources are compared with a margin."""
 
     def test_a_length_depends_on_its_two_points_alone(self):
         draw = np.random.default_rng(26)
@@ -462,15 +462,15 @@ class Lengths(unittest.TestCase):
             for p in (1.0, 2.0, 2.5, np.inf):
                 space = _points.Space(points, p)
                 steps = space.columns[:, 1:] - space.columns[:, :1]
-                wanted = space.norms(steps.copy()).tolist()
+                expected = space.norms(steps.copy()).tolist()
                 with self.subTest(dimensions=dimensions, p=p):
-                    self.assertEqual(space.norms(steps.copy(order="F")).tolist(), wanted)
-                    self.assertEqual([space.norms(steps[:, it : it + 1].copy())[0] for it in range(39)], wanted)
-                    self.assertEqual([space.norms(steps[:, it - 1 : it + 1].copy())[-1] for it in range(1, 39)], wanted[1:])
-                    self.assertEqual(space.norms(-steps).tolist(), wanted)
+                    self.assertEqual(space.norms(steps.copy(order="F")).tolist(), expected)
+                    self.assertEqual([space.norms(steps[:, it : it + 1].copy())[0] for it in range(39)], expected)
+                    self.assertEqual([space.norms(steps[:, it - 1 : it + 1].copy())[-1] for it in range(1, 39)], expected[1:])
+                    self.assertEqual(space.norms(-steps).tolist(), expected)
 
     def test_heights_are_lengths_of_the_pairs_to_the_last_bit(self):
-        """Those of trees, of a grid and of rows too; and so are core distances."""
+        """So do the lengths from trees, from a grid and from rows, and core distances."""
         draw = np.random.default_rng(27)
         for dimensions, n in [(2, 5000), (3, 5000), (5, 400), (9, 400), (40, 400)]:
             points = draw.normal(size=(n, dimensions))
@@ -487,25 +487,25 @@ class Lengths(unittest.TestCase):
 
     @unittest.skipUnless(hierarchy, "there is no scipy")
     def test_lengths_that_differ_by_the_last_bit_around_the_reach_of_a_grid(self):
-        """Two clouds, and a way between them that numpy finds as long as the grid's reach, and a k-d tree a bit shorter."""
+        """Two clouds, and an edge between them whose length is the grid's reach for numpy, and a bit less for a k-d tree."""
         for seed in (1, 3, 4):
             points = self.beside_the_reach(seed, 2.5)
             self.assertIsNotNone(points)
-            # (turned round too, as the way is noted by one of its ends)
+            # (also reversed, because only one endpoint notes the edge)
             for given in (points, [2.04, 0] + points * [-1, 1]):
-                wanted = hierarchy.linkage(pdist(given, "minkowski", p=2.5), "single")[:, 2]
+                expected = hierarchy.linkage(pdist(given, "minkowski", p=2.5), "single")[:, 2]
                 found = spanning_tree(given, metric="minkowski", p=2.5).w
-                np.testing.assert_allclose(found, wanted, rtol=1e-12, atol=0)
+                np.testing.assert_allclose(found, expected, rtol=1e-12, atol=0)
 
     def beside_the_reach(self, seed, p):
-        """About 5,000 points in two clouds, of which one near each other's edge are so far apart; or None."""
+        """About 5,000 points in two clouds, with a pair at their facing edges that is so far apart; or None."""
         from scipy.spatial import cKDTree
 
         draw = np.random.default_rng(seed)
         left, right = draw.random((2600, 2)), draw.random((2400, 2)) + [1.04, 0]
         left = left[(left[:, 0] < 0.97) | (left[:, 0] < 0.985) & (abs(left[:, 1] - 0.5) < 0.1)]
         right = right[(right[:, 0] > 1.06) | (right[:, 0] > 1.045) & (abs(right[:, 1] - 0.5) < 0.1)]
-        # (so that the grid doesn't depend on the last two)
+        # (so that the last two points don't change the grid)
         left[0], right[0] = (0, 0), (2.04, 1)
         one = np.array([1.0, 0.5])
         made = [np.concatenate([left, right, [one, [1.03, 0.5]]])]
@@ -542,7 +542,7 @@ METRICS = {
 
 class Metrics(unittest.TestCase):
     def heights(self, points, metric, nearest=1):
-        """The lengths of the tree of mutual reachability by Kruskal's algorithm over all pairs."""
+        """The heights of the tree of mutual reachability by Kruskal's algorithm on all pairs."""
         rows = points.tolist()
         lengths = [[METRICS[metric](a, b) if a is not b else 0.0 for b in rows] for a in rows]
         core = [sorted(it)[nearest - 1] for it in lengths]
@@ -559,14 +559,14 @@ class Metrics(unittest.TestCase):
                     continue
                 points = draw.normal(size=(50, dimensions)) * 0.4
                 points[40:] = points[:10]
-                words = {"metric": metric, "p": 3} if metric == "minkowski" else {"metric": metric}
+                pattern = {"metric": metric, "p": 3} if metric == "minkowski" else {"metric": metric}
                 for nearest in (1, 4, 50):
                     with self.subTest(metric=metric, dimensions=dimensions, nearest=nearest):
-                        found = spanning_tree(points, **words, min_samples=nearest).w
+                        found = spanning_tree(points, **pattern, min_samples=nearest).w
                         np.testing.assert_allclose(found, self.heights(points, metric, nearest), rtol=1e-7, atol=1e-12)
-                plain = spanning_tree(points, **words)
+                plain = spanning_tree(points, **pattern)
                 np.testing.assert_allclose(plain.w, self.heights(points, metric), rtol=1e-7, atol=1e-12)
-                self.assertEqual(single_linkage(points, **words)[:, 2].tolist(), plain.w.tolist())
+                self.assertEqual(single_linkage(points, **pattern)[:, 2].tolist(), plain.w.tolist())
 
     def test_mutual_reachability_of_points_of_all_kinds(self):
         draw = np.random.default_rng(19)
@@ -577,7 +577,7 @@ class Metrics(unittest.TestCase):
                     np.testing.assert_allclose(found, self.heights(np.asarray(points, float), "euclidean", 4), rtol=1e-13)
 
     def test_distances_of_all_pairs(self):
-        """As a square, up to rounding, and as a row, with mutual reachability too."""
+        """As a square, up to rounding, and in one dimension, with mutual reachability too."""
         draw = np.random.default_rng(31)
         for n in (2, 3, 30):
             points = draw.normal(size=(n, 4))
@@ -585,15 +585,15 @@ class Metrics(unittest.TestCase):
             rounded = square * (1 + 1e-14 * draw.integers(0, 9, square.shape)) + np.diag(1e-9 * draw.random(n))
             low, high = np.triu_indices(n, 1)
             for nearest in (None, 1, 2, n):
-                wanted = self.heights(points, "euclidean", nearest or 1)
+                expected = self.heights(points, "euclidean", nearest or 1)
                 for given in (square, rounded, square[low, high], square.tolist()):
                     with self.subTest(n=n, nearest=nearest):
                         tree = spanning_tree(given, metric="precomputed", min_samples=nearest)
-                        np.testing.assert_allclose(tree.w, wanted, rtol=1e-12)
+                        np.testing.assert_allclose(tree.w, expected, rtol=1e-12)
                         self.assertEqual((low[tree.index].tolist(), high[tree.index].tolist()), (tree.u.tolist(), tree.v.tolist()))
             self.assertEqual(single_linkage(square, metric="precomputed").tolist(), single_linkage(square[low, high]).tolist())
         self.assertEqual(len(spanning_tree([[0.0]], metric="precomputed")), 0)
-        # (more of them, which are looked at a block at a time)
+        # (more of them, which are compared block by block)
         points = draw.normal(size=(600, 2))
         one, other = np.triu_indices(600, 1)
         square = np.zeros((600, 600))
@@ -604,17 +604,17 @@ class Metrics(unittest.TestCase):
             wrong[place] = number
             with self.assertRaisesRegex(ValueError, rf"y\[{place[0]}, {place[1]}\] is {number}"):
                 spanning_tree(wrong, metric="precomputed")
-        # (of (i, j) and (j, i) the lesser, and what is given stays)
+        # (the lesser of (i, j) and (j, i) counts, and the array isn't written)
         given = np.array([[0, 1 + 1e-7], [1.0, 1e-9]])
         self.assertEqual(spanning_tree(given, metric="precomputed").w.tolist(), [1.0])
         self.assertEqual(given.tolist(), [[0, 1 + 1e-7], [1.0, 1e-9]])
 
     def test_latitudes_and_longitudes(self):
-        """Munich, Paris and London, by a table of air distances in kilometres."""
+        """Munich, Paris and London, compared with a table of air distances in kilometres."""
         latitude, longitude = np.radians([48.137, 48.857, 51.507]), np.radians([11.575, 2.351, -0.128])
-        wanted = [344, 685]
+        expected = [344, 685]
         rows = np.column_stack([latitude, longitude])
-        np.testing.assert_allclose(spanning_tree(rows, metric="haversine").w * 6371, wanted, rtol=0.01)
+        np.testing.assert_allclose(spanning_tree(rows, metric="haversine").w * 6371, expected, rtol=0.01)
 
     @unittest.skipUnless(there("pandas"), "there is no pandas")
     def test_names_of_columns_say_which_is_the_latitude(self):
@@ -628,39 +628,52 @@ class Metrics(unittest.TestCase):
                     tree = spanning_tree(pandas.DataFrame(columns), metric="haversine")
                 np.testing.assert_allclose(tree.w * 6371, [344, 685], rtol=0.01)
         for names in (("x", "y"), ("X", "Y"), ("east", "north"), ("easting", "northing")):
-            with self.assertWarnsRegex(UserWarning, f"^the columns '{names[0]}' and '{names[1]}' are taken as latitude and longitude: ") as told:
+            with self.assertWarnsRegex(UserWarning, f"^the columns '{names[0]}' and '{names[1]}' are taken as latitude and longitude: ") as output:
                 spanning_tree(pandas.DataFrame(dict(zip(names, (longitude, latitude)))), metric="haversine")
-            self.assertEqual(told.filename, __file__)
+            self.assertEqual(output.filename, __file__)
         with warnings.catch_warnings():
             warnings.simplefilter("error")
             spanning_tree(pandas.DataFrame({"y": latitude, "x": longitude}), metric="haversine")
             spanning_tree(pandas.DataFrame({"x": latitude, "y": longitude}))
             spanning_tree(pandas.DataFrame({"a": latitude, "b": longitude}), metric="haversine")
 
-    def test_refused(self):
+    def test_swapped_columns_without_names(self):
+        """There is a warning if a latitude is near a pole, and every longitude could be a latitude."""
+        chicago, saint_louis, oslo, tromso, suva = np.radians([[41.9, -87.6], [38.6, -90.2], [59.9, 10.8], [69.6, 19.0], [-18.1, 178.4]])
+        with self.assertWarnsRegex(UserWarning, r"^the latitude of the point 1 is -1\.528\d*, near a pole, and every longitude could be a latitude: the columns may be swapped\. The latitude comes first$") as caught:
+            spanning_tree([saint_louis[::-1] + [0.1, 0], chicago[::-1]], metric="haversine")
+        self.assertEqual(caught.filename, __file__)
+        with self.assertRaisesRegex(ValueError, r"^the latitude of the point 0 is -1\.574\d*, beyond a right angle: y\[:, ::-1\] puts latitudes before longitudes$"):
+            spanning_tree([saint_louis[::-1], chicago[::-1]], metric="haversine")
+        with warnings.catch_warnings():
+            warnings.simplefilter("error")
+            for points in ([chicago, saint_louis], [oslo, tromso, suva], [oslo[::-1], tromso[::-1]], np.radians([[89.0, 10.0], [80.0, -170.0]]), np.radians([[75.0, 0.0], [-75.0, 1.0]])):
+                spanning_tree(points, metric="haversine")
+
+    def test_rejected(self):
         points = np.zeros((4, 3))
-        for words, given in [
+        for pattern, given in [
             ("^there is no metric 'euclid': it is one of euclidean, ", {"metric": "euclid"}),
             ("^p is 0.5, ", {"metric": "minkowski", "p": 0.5}),
             ("^p is nan, ", {"metric": "minkowski", "p": math.nan}),
-            ("^min_samples is 0, and has to be from 1 to 4", {"min_samples": 0}),
+            ("^min_samples is 0, but has to be from 1 to 4", {"min_samples": 0}),
             ("^min_samples is 5, ", {"min_samples": 5}),
-            ("^y has 3 columns: haversine takes two", {"metric": "haversine"}),
-            ("^the point 0 is 0, and has no direction", {"metric": "cosine"}),
+            ("^y has 3 columns, but haversine takes two", {"metric": "haversine"}),
+            ("^the point 0 is 0, which has no direction", {"metric": "cosine"}),
         ]:
             for call in (spanning_tree, single_linkage):
-                with self.assertRaisesRegex(ValueError, words):
+                with self.assertRaisesRegex(ValueError, pattern):
                     call(points, **given)
         with self.assertRaisesRegex(ValueError, "^the latitude of the point 1 is 51.5, .*radians"):
             spanning_tree([[0, 0], [51.5, 0.1]], metric="haversine")
-        with self.assertRaisesRegex(ValueError, "^the latitude of the point 0 is 1.6, past a right angle"):
+        with self.assertRaisesRegex(ValueError, "^the latitude of the point 0 is 1.6, beyond a right angle"):
             spanning_tree([[1.6, 0], [0, 0]], metric="haversine")
-        with self.assertRaisesRegex(ValueError, r"^the latitude of the point 1 is -2.5, past a right angle: y\[:, ::-1\] puts latitudes before longitudes$"):
+        with self.assertRaisesRegex(ValueError, r"^the latitude of the point 1 is -2.5, beyond a right angle: y\[:, ::-1\] puts latitudes before longitudes$"):
             spanning_tree([[0.5, 0.7], [-2.5, 0.6]], metric="haversine")
         poles = spanning_tree([[np.pi / 2, 0], [-np.pi / 2, 0]], metric="haversine")
         self.assertEqual(poles.w.tolist(), [np.pi])
         for given in ({"metric": "cosine"}, {"min_samples": 2}, {"p": 3}, {"p": "2"}):
-            with self.assertRaisesRegex(TypeError, "^y is distances, "):
+            with self.assertRaisesRegex(TypeError, "^y is an array of one dimension, so it has distances: "):
                 spanning_tree([1.0, 2.0, 3.0], **given)
         with self.assertRaises(TypeError):
             spanning_tree(points, min_samples=2.5)
@@ -678,10 +691,10 @@ class Drawn(unittest.TestCase):
                     for u, v in zip(forest.u[:kept].tolist(), forest.v[:kept].tolist()):
                         components.join(u, v)
                     roots = [components.root(it) for it in range(graph.n)]
-                    wanted = [sorted(set(roots)).index(it) for it in roots]
-                    self.assertEqual(labels(graph.n, forest, clusters=graph.n - kept).tolist(), wanted)
+                    expected = [sorted(set(roots)).index(it) for it in roots]
+                    self.assertEqual(labels(graph.n, forest, clusters=graph.n - kept).tolist(), expected)
                     backwards = Forest(*(it[:kept][::-1] for it in forest))
-                    self.assertEqual(labels(graph.n, backwards, clusters=graph.n - kept).tolist(), wanted)
+                    self.assertEqual(labels(graph.n, backwards, clusters=graph.n - kept).tolist(), expected)
 
 
 @unittest.skipUnless(hierarchy, "there is no scipy")
@@ -702,25 +715,25 @@ class Scipys(unittest.TestCase):
                 self.assertEqual(found[:, 2].tolist(), hierarchy.linkage(distances, "single")[:, 2].tolist())
 
     def expect_scipys(self, found, distances, is_exact):
-        """Scipy's matrix if no two distances are equal; else the same clusters at each height."""
-        wanted = hierarchy.linkage(distances, "single")
+        """Scipy's matrix if no two distances are equal; otherwise the same clusters at each height."""
+        expected = hierarchy.linkage(distances, "single")
         self.assertTrue(hierarchy.is_valid_linkage(found))
-        np.testing.assert_allclose(found[:, 2], wanted[:, 2], rtol=1e-9, atol=1e-9)
+        np.testing.assert_allclose(found[:, 2], expected[:, 2], rtol=1e-9, atol=1e-9)
         if is_exact:
-            self.assertEqual(found[:, [0, 1, 3]].tolist(), wanted[:, [0, 1, 3]].tolist())
-        np.testing.assert_allclose(hierarchy.cophenet(found), hierarchy.cophenet(wanted), rtol=1e-9, atol=1e-9)
+            self.assertEqual(found[:, [0, 1, 3]].tolist(), expected[:, [0, 1, 3]].tolist())
+        np.testing.assert_allclose(hierarchy.cophenet(found), hierarchy.cophenet(expected), rtol=1e-9, atol=1e-9)
 
     @unittest.skipUnless(there("fastcluster"), "there is no fastcluster")
-    def test_points_beside_fastclusters(self):
+    def test_points_compared_with_fastclusters(self):
         import fastcluster
 
         draw = np.random.default_rng(32)
         for n, dimensions in [(100, 2), (400, 3), (400, 10), (400, 40)]:
             centres = draw.random((8, dimensions)) * 10
             points = centres[draw.integers(8, size=n)] + draw.normal(size=(n, dimensions))
-            found, wanted = single_linkage(points), fastcluster.linkage_vector(points, "single")
-            self.assertEqual(found[:, [0, 1, 3]].tolist(), wanted[:, [0, 1, 3]].tolist())
-            np.testing.assert_allclose(found[:, 2], wanted[:, 2], rtol=1e-12)
+            found, expected = single_linkage(points), fastcluster.linkage_vector(points, "single")
+            self.assertEqual(found[:, [0, 1, 3]].tolist(), expected[:, [0, 1, 3]].tolist())
+            np.testing.assert_allclose(found[:, 2], expected[:, 2], rtol=1e-12)
 
     def test_distances_of_a_sparse_matrix(self):
         from scipy.sparse import coo_matrix
@@ -742,10 +755,10 @@ class Scipys(unittest.TestCase):
             lightest = np.minimum(matrix, matrix.T)[low, high]
             order = [int(it) for it in np.argsort(lightest) if np.isfinite(lightest[it])]
             self.assertEqual(forest.w.tolist(), [lightest[it] for it in kruskal(60, low.tolist(), high.tolist(), order)])
-        for wrong, words in [(coo_matrix((2, 3)), "square"), (coo_matrix(([-1.0], ([0], [1])), shape=(2, 2)), "negative"), (coo_matrix(([np.nan], ([0], [1])), shape=(2, 2)), "finite")]:
-            with self.assertRaisesRegex(ValueError, words):
+        for wrong, pattern in [(coo_matrix((2, 3)), "square"), (coo_matrix(([-1.0], ([0], [1])), shape=(2, 2)), "negative"), (coo_matrix(([np.nan], ([0], [1])), shape=(2, 2)), "finite")]:
+            with self.assertRaisesRegex(ValueError, pattern):
                 spanning_tree(wrong)
-        with self.assertRaisesRegex(TypeError, "^y is distances, as a sparse matrix says"):
+        with self.assertRaisesRegex(TypeError, "^y is a sparse matrix, so it has distances"):
             spanning_tree(coo_matrix((3, 3)), min_samples=2)
 
     @unittest.skipUnless(there("sklearn"), "there is no scikit-learn")
@@ -777,9 +790,9 @@ class Scipys(unittest.TestCase):
 
     def test_without_scipy(self):
         points = np.random.default_rng(7).normal(size=(200, 2))
-        wanted = single_linkage(points)
+        expected = single_linkage(points)
         with mock.patch.dict("sys.modules", {"scipy": None, "scipy.spatial": None}):
-            np.testing.assert_allclose(single_linkage(points), wanted, rtol=1e-12)
+            np.testing.assert_allclose(single_linkage(points), expected, rtol=1e-12)
 
 
 if __name__ == "__main__":

@@ -1,4 +1,4 @@
-"""Names of vertices: their order, which rows they choose, which of them are rejected, and which are suspicious."""
+"""Names of vertices: their order, the rows that they choose, and names that are rejected or suspicious."""
 
 import datetime
 import decimal
@@ -25,7 +25,7 @@ except ImportError:
     dask = None
 
 TOWNS = ["Bath", "Ely", "Rye", "York", "bath", "Äskö", "東京", "Zürich", "a", "aa", "ab", "10", "9", "𝔸", "\uffee"]
-# kinds of names, each in ascending order by hand
+# kinds of names, each sorted by hand
 KINDS = {
     "near numbers": list(range(-7, 8)),
     "far numbers": [it * 10**15 for it in range(-7, 8)],
@@ -49,7 +49,7 @@ KINDS = {
 
 
 def rows_of(seed, kind):
-    """A table with many ties, no two rows of which are equal, as lists; and the graph over the ranks of its names."""
+    """A table with many ties and no equal rows, as lists; and the numbers of the names in it."""
     draw = random.Random(f"{seed} {kind}")
     names = KINDS[kind]
     rows = {}
@@ -67,7 +67,7 @@ class Ranked(unittest.TestCase):
         return {"u": [names[it[0]] for it in rows], "v": [names[it[1]] for it in rows], "w": [it[2] for it in rows]}
 
     def frames(self, kind, table):
-        """The same rows in what may hold them."""
+        """The same rows in every kind of table that can have them."""
         yield table
         if pandas:
             yield pandas.DataFrame(table)
@@ -75,23 +75,23 @@ class Ranked(unittest.TestCase):
             yield {**table, "u": np.array(table["u"]), "v": np.array(table["v"])}
 
     def test_the_order_of_rows_and_of_their_ends_changes_nothing(self):
-        """Each forest is that of Kruskal's algorithm over the ranks of the names."""
+        """Each forest is that of Kruskal's algorithm on the ranks of the names."""
         for seed in range(14):
             for kind in KINDS:
                 draw, rows, there = rows_of(seed, kind)
                 for turn in range(3):
                     graph = Graph(0)
                     graph.n, (graph.u, graph.v, graph.w) = len(KINDS[kind]), (list(it) for it in zip(*rows))
-                    wanted = [rows[it] for it in by_key(graph)]
+                    expected = [rows[it] for it in by_key(graph)]
                     for frame in self.frames(kind, self.table(kind, rows)):
                         with self.subTest(kind=kind, seed=seed, turn=turn, frame=type(frame)), warnings.catch_warnings():
                             warnings.simplefilter("ignore")
                             forest = boruvka.from_edges(frame)
                             self.assertEqual(forest.names, [it for place, it in enumerate(KINDS[kind]) if place in there])
-                            self.assertEqual([rows[it] for it in forest.index.tolist()], wanted)
+                            self.assertEqual([rows[it] for it in forest.index.tolist()], expected)
                     if turn == 0:
-                        first = {(min(it[:2]), max(it[:2]), it[2]) for it in wanted}
-                    self.assertEqual({(min(it[:2]), max(it[:2]), it[2]) for it in wanted}, first)
+                        first = {(min(it[:2]), max(it[:2]), it[2]) for it in expected}
+                    self.assertEqual({(min(it[:2]), max(it[:2]), it[2]) for it in expected}, first)
                     draw.shuffle(rows)
                     rows = [(b, a, w) if draw.random() < 0.5 else (a, b, w) for a, b, w in rows]
 
@@ -104,13 +104,13 @@ class Ranked(unittest.TestCase):
         table = {"u": ["b", "a", "b"], "v": ["a", "b", "a"], "w": [2, 1, 1]}
         self.assertEqual(boruvka.from_edges(table).index.tolist(), [1])
 
-    def test_names_that_python_calls_equal_are_one_wherever_they_stand(self):
+    def test_names_that_python_calls_equal_are_one_vertex(self):
         one = [1, 1.0, True, np.int8(1), fractions.Fraction(1), decimal.Decimal(1), 1 + 0j]
         for name in one:
             forest = boruvka.from_edges({"u": [name, "a", 0.5], "v": [0.5, name, "a"], "w": [1, 1, 1]})
             self.assertEqual((forest.names, forest.index.tolist()), ([0.5, 1, "a"], [0, 2]))
 
-    def test_whole_numbers_beside_floats_are_compared_exactly(self):
+    def test_whole_numbers_and_floats_are_compared_exactly(self):
         u, v = np.array([2**53 + 1, 2**53 + 3]), np.array([0.5, 1.5])
         self.assertEqual(boruvka.from_edges({"u": u, "v": v, "w": [1, 2]}).names, [0.5, 1.5, 2**53 + 1, 2**53 + 3])
         wide = np.array([2**63 + 1, 5], np.uint64)
@@ -126,9 +126,9 @@ class Ranked(unittest.TestCase):
             u, v = draw.choice(names, (2, 100)).astype(dtype)
             with self.subTest(dtype=dtype):
                 forest = boruvka.from_edges({"u": u, "v": v, "w": np.ones(100)})
-                wanted = sorted({*u.tolist(), *v.tolist()})
-                self.assertEqual(forest.names, wanted)
-                self.assertEqual([{wanted[a], wanted[b]} for a, b in zip(forest.u, forest.v)], [{u[it].item(), v[it].item()} for it in forest.index])
+                expected = sorted({*u.tolist(), *v.tolist()})
+                self.assertEqual(forest.names, expected)
+                self.assertEqual([{expected[a], expected[b]} for a, b in zip(forest.u, forest.v)], [{u[it].item(), v[it].item()} for it in forest.index])
         near = np.array([-(2**63), -(2**63) + 5, -(2**63) + 2])
         self.assertEqual(boruvka.from_edges({"u": near, "v": near[::-1], "w": [1, 2, 3]}).names, sorted(near.tolist()))
 
@@ -139,16 +139,16 @@ class Ranked(unittest.TestCase):
         draw = np.random.default_rng(3)
         for names in (draw.integers(-(2**62), 2**62, 50), draw.random(50)):
             u, v = draw.choice(names, (2, 200))
-            told = []
+            output = []
             for modules in ({}, {"pandas": pandas} if pandas else {}):
                 kept = {it: held for it, held in sys.modules.items() if it != "pandas"}
                 with mock.patch.dict(sys.modules, {**kept, **modules}, clear=True):
-                    told.append(_names.numbered([("u", u), ("v", v)]))
-            wanted = sorted({*u.tolist(), *v.tolist()})
-            for found, (tails, heads) in told:
-                self.assertEqual(found, wanted)
-                self.assertEqual([wanted[it] for it in tails], u.tolist())
-                self.assertEqual([wanted[it] for it in heads], v.tolist())
+                    output.append(_names.numbered([("u", u), ("v", v)]))
+            expected = sorted({*u.tolist(), *v.tolist()})
+            for found, (tails, heads) in output:
+                self.assertEqual(found, expected)
+                self.assertEqual([expected[it] for it in tails], u.tolist())
+                self.assertEqual([expected[it] for it in heads], v.tolist())
 
     @unittest.skipUnless(dask, "there is no dask")
     def test_frames_of_dask(self):
@@ -162,9 +162,9 @@ class Ranked(unittest.TestCase):
             pass
 
         one, other = Place(), Place()
-        with self.assertWarnsRegex(UserWarning, "^names of the type Place have no order, so that the order of rows decides") as told:
+        with self.assertWarnsRegex(UserWarning, "^names of the type Place can't be ordered, so the order of the rows decides") as output:
             self.assertEqual(boruvka.from_edges({"u": [one], "v": [other], "w": [1]}).n, 2)
-        self.assertEqual(told.filename, __file__)
+        self.assertEqual(output.filename, __file__)
         groups = [frozenset("ab"), frozenset("cda"), frozenset("b")]
         for order in ([0, 1, 2], [2, 1, 0]):
             table = {"u": [groups[it] for it in order], "v": [groups[it] for it in order[::-1]], "w": [1, 1, 1]}
@@ -172,15 +172,15 @@ class Ranked(unittest.TestCase):
 
 
 class Rejected(unittest.TestCase):
-    def expect(self, error, words, table):
-        with self.assertRaisesRegex(error, words):
+    def expect(self, error, pattern, table):
+        with self.assertRaisesRegex(error, pattern):
             boruvka.from_edges(table)
 
     def test_floats_that_may_stand_for_several_whole_numbers(self):
         ids = 1234567890123456789 + np.arange(3)
-        words = r"^row 0 of the column 'u' is .*1\.2345678901234568e\+18.*, and from 2\^53 on a float may stand for several whole numbers: read .* nullable integers \(dtype 'Int64'\) or as text$"
+        pattern = r"^row 0 of the column 'u' is .*1\.2345678901234568e\+18.*, but from 2\^53 on a float may stand for several whole numbers: read .* nullable integers \(dtype 'Int64'\) or as text$"
         for floats in (ids.astype(float), ids.astype(float).tolist(), [*ids.astype(float)], [ids.astype(float)[0], "a", "b"]):
-            self.expect(ValueError, words, {"u": floats, "v": np.roll(ids, 1), "w": [1, 2, 3]})
+            self.expect(ValueError, pattern, {"u": floats, "v": np.roll(ids, 1), "w": [1, 2, 3]})
         self.expect(ValueError, "^row 1 of the column 'v' is .*9007199254740992", {"u": [1.0, 2.0], "v": [3.0, 2.0**53], "w": [1, 2]})
         self.expect(ValueError, r"^row 1 of the column 'u' is .*16777216.*from 2\^24 on", {"u": np.float32([1, 2**24]), "v": np.float32([3, 4]), "w": [1, 2]})
         self.expect(ValueError, r"^row 0 of the column 'u' is .*from 2\^11 on", {"u": [np.float16(2048)], "v": ["a"], "w": [1]})
@@ -196,27 +196,27 @@ class Rejected(unittest.TestCase):
 
     def test_names_that_are_missing(self):
         self.expect(ValueError, "^row 0 has no name in the column 'u'", {"u": [(1, math.nan)], "v": [(1, 2)], "w": [1]})
-        self.expect(ValueError, r"^row 0 of the column 'u' is \(1, 1e\+16\), and from 2\^53 on", {"u": [(1, 1e16)], "v": [(1, 2)], "w": [1]})
-        self.expect(TypeError, "^the column 'u' has a Decimal in row 0, which can't be a key", {"u": [decimal.Decimal("sNaN")], "v": ["a"], "w": [1]})
+        self.expect(ValueError, r"^row 0 of the column 'u' is \(1, 1e\+16\), but from 2\^53 on", {"u": [(1, 1e16)], "v": [(1, 2)], "w": [1]})
+        self.expect(TypeError, "^the column 'u' has a Decimal in row 0, which isn't hashable", {"u": [decimal.Decimal("sNaN")], "v": ["a"], "w": [1]})
         self.assertEqual(boruvka.from_edges({"u": [(1, None)], "v": [(1, "a")], "w": [1]}).n, 2)
         for missing in (math.nan, np.float32("nan")):
             self.expect(ValueError, "^row 1 has no name in the column 'v'", {"u": [1.0, 2.0], "v": [3.0, missing], "w": [1, 1]})
             self.expect(ValueError, "^row 1 has no name in the column 'v'", {"u": np.array([1.0, 2.0]), "v": np.array([3.0, missing]), "w": [1, 1]})
         self.expect(ValueError, "^row 1 has no name in the column 'u'", {"u": np.ma.masked_equal([1, 2], 2), "v": [3, 1], "w": [1, 1]})
 
-    def test_spans_of_time_beside_numbers(self):
-        """To numpy a span is equal to its number."""
+    def test_spans_of_time_and_numbers(self):
+        """To numpy, a timedelta64 equals its number."""
         span = np.timedelta64(7, "s")
         for number in (5, 5.5, np.int8(1), True):
-            words = r"^the ends are times of numpy \(timedelta64\[s\]\), and of the type \w+: numpy\.asarray\(column, 'timedelta64\[s\]'\) of each makes"
-            self.expect(TypeError, words, {"u": [number, span], "v": ["a", "b"], "w": [1, 2]})
+            pattern = r"^some endpoints are times of numpy \(timedelta64\[s\]\), and some have the type \w+: numpy\.asarray\(column, 'timedelta64\[s\]'\) converts"
+            self.expect(TypeError, pattern, {"u": [number, span], "v": ["a", "b"], "w": [1, 2]})
 
     @unittest.skipUnless(pandas, "there is no pandas")
     def test_columns_whose_rows_have_other_labels(self):
         frame = pandas.DataFrame({"u": list("abc"), "v": list("bca"), "w": [3, 1, 2]})
         u, v, w = (frame[it] for it in "uvw")
-        words = r"^the columns 'u' and 'w' are Series with different indexes: pandas\.DataFrame aligns their rows by the labels, and \.to_numpy\(\) of each"
-        self.expect(ValueError, words, {"u": u, "v": v, "w": w.sort_values()})
+        pattern = r"^the columns 'u' and 'w' are Series with different indexes: pandas\.DataFrame aligns their rows by the labels, and \.to_numpy\(\) of each"
+        self.expect(ValueError, pattern, {"u": u, "v": v, "w": w.sort_values()})
         self.expect(ValueError, "^the columns 'u' and 'v' are Series", {"u": u, "v": v[1:], "w": w})
         ends = u.map("abc".index), v.map("abc".index)
         for call in (lambda w: boruvka.minimum_spanning_forest(*ends, w), lambda w: boruvka.forest_of_chunks(3, [(*ends, w)])):
@@ -230,17 +230,17 @@ class Rejected(unittest.TestCase):
 
 
 class Suspicious(unittest.TestCase):
-    """Two vertices where there is probably one, and vertices where there is probably none."""
+    """Two vertices that should probably be one, and vertices that should probably not exist."""
 
-    def expect(self, words, *names):
+    def expect(self, pattern, *names):
         table = {"u": [*names], "v": [*names[1:], "z"], "w": [1] * len(names)}
-        with self.assertWarnsRegex(UserWarning, words) as told:
+        with self.assertWarnsRegex(UserWarning, pattern) as output:
             forest = boruvka.from_edges(table)
-        self.assertEqual((told.filename, forest.n), (__file__, len(names) + 1))
+        self.assertEqual((output.filename, forest.n), (__file__, len(names) + 1))
 
     def test_texts_of_missing_entries(self):
         for text in ("", "nan", "NaN", "None", "NaT", "<NA>"):
-            self.expect(f"^the text {text!r} names a vertex, and is the text of a missing entry: leave", "a", text)
+            self.expect(f"^the text {text!r} names a vertex, but it is the text of a missing entry: leave", "a", text)
         self.expect("^the text 'nan' names a vertex", 1, "nan")
         if pandas:
             column = pandas.Series(["a", None, "b"]).astype(str)
@@ -250,7 +250,7 @@ class Suspicious(unittest.TestCase):
     def test_texts_that_differ_in_outer_spaces_alone(self):
         for one, other in [("Ely", "Ely "), (" Ely", "Ely"), ("Ely\t", " Ely"), ("Ely\xa0", "Ely")]:
             first, second = sorted([one, other])
-            self.expect(f"^the texts {first!r} and {second!r} name two vertices: .str.strip.. of both".replace("\\", r"\\"), one, other)
+            self.expect(f"^the texts {first!r} and {second!r} name two vertices: .str.strip.. on both".replace("\\", r"\\"), one, other)
 
     def test_what_is_not_suspicious(self):
         with warnings.catch_warnings():

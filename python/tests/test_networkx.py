@@ -1,4 +1,4 @@
-"""The backend of networkx, beside networkx's own functions: the same edges in the same order."""
+"""The backend of networkx, compared with networkx's own functions: the same edges in the same order."""
 
 import fractions
 import math
@@ -9,7 +9,7 @@ import numpy as np
 from _boruvka_networkx import info
 from graphs import Graph
 
-import boruvka  # noqa: F401 (that it can be imported is no matter of networkx)
+import boruvka  # noqa: F401 (it can be imported without networkx)
 
 try:
     import networkx as nx
@@ -20,7 +20,7 @@ else:
 
 
 def is_found():
-    """Whether networkx finds the backend by its entry points, as it does once the package is installed."""
+    """Whether networkx finds the backend by its entry points, as it does after the package is installed."""
     backends = getattr(getattr(nx, "utils", None), "backends", None)
     return "boruvka" in getattr(backends, "backends", {})
 
@@ -29,28 +29,28 @@ def graph_of(drawn, kind):
     graph = kind(name="drawn")
     graph.add_nodes_from(((i, "a vertex"), {"place": i}) for i in range(drawn.n))
     for i, (u, v, w) in enumerate(zip(drawn.u, drawn.v, drawn.w)):
-        # (each tenth edge has the weight that networkx takes where there is none)
+        # (every tenth edge has no weight, so networkx uses its default)
         graph.add_edge((u, "a vertex"), (v, "a vertex"), place=i, **({} if i % 10 == 9 else {"weight": w}))
     return graph
 
 
 def whole(graph):
-    """All that a graph holds, in its order."""
+    """Everything in a graph, in its order."""
     edges = graph.edges(keys=True, data=True) if graph.is_multigraph() else graph.edges(data=True)
     return type(graph), graph.graph, list(graph.nodes(data=True)), list(edges)
 
 
 @unittest.skipUnless(nx, "there is no networkx")
 class Functions(unittest.TestCase):
-    def expect_the_same(self, graph, **words):
+    def expect_the_same(self, graph, **pattern):
         for name in ("minimum_spanning_edges", "maximum_spanning_edges"):
             for keys in (True, False):
                 for data in (True, False):
-                    wanted = list(getattr(nx, name)(graph, keys=keys, data=data, **words))
-                    self.assertEqual(list(getattr(backend, name)(graph, keys=keys, data=data, **words)), wanted)
+                    expected = list(getattr(nx, name)(graph, keys=keys, data=data, **pattern))
+                    self.assertEqual(list(getattr(backend, name)(graph, keys=keys, data=data, **pattern)), expected)
         for name in ("minimum_spanning_tree", "maximum_spanning_tree"):
-            wanted = whole(getattr(nx, name)(graph, **words))
-            self.assertEqual(whole(getattr(backend, name)(graph, **words)), wanted)
+            expected = whole(getattr(nx, name)(graph, **pattern))
+            self.assertEqual(whole(getattr(backend, name)(graph, **pattern)), expected)
 
     def test_drawn_graphs(self):
         for seed in range(150):
@@ -140,7 +140,7 @@ class Functions(unittest.TestCase):
                         for name in ("minimum_spanning_edges", "maximum_spanning_edges"):
                             self.assertEqual(list(getattr(backend, name)(view)), list(getattr(nx, name)(view)))
 
-    def test_directed_graphs_are_refused(self):
+    def test_directed_graphs_are_rejected(self):
         for kind in (nx.DiGraph, nx.MultiDiGraph):
             for name in info()["functions"]:
                 with self.assertRaisesRegex(nx.NetworkXNotImplemented, "directed"):
@@ -157,7 +157,7 @@ class Found(unittest.TestCase):
         caught = warnings.catch_warnings()
         caught.__enter__()
         self.addCleanup(caught.__exit__, None, None, None)
-        # (networkx says that it kept the arrays)
+        # (networkx says that it cached the arrays)
         warnings.filterwarnings("ignore", "Note: conversions to backend graphs are saved")
 
     def test_by_its_name(self):
@@ -181,7 +181,7 @@ class Found(unittest.TestCase):
         graph.remove_edge(0, 1)
         self.assertEqual(sorted(nx.minimum_spanning_edges(graph, data=False, backend="boruvka")), [(0, 3), (1, 2), (2, 3)])
 
-    def test_weights_that_were_changed_in_place(self):
+    def test_weights_that_changed_between_calls(self):
         for kind, key in ((nx.Graph, []), (nx.MultiGraph, [0])):
             graph = nx.cycle_graph(4, create_using=kind)
             for heavy in ((0, 1), (2, 3), (1, 2), (3, 0)):
@@ -221,7 +221,7 @@ class Found(unittest.TestCase):
         kept.add(2)
         self.assertEqual(list(nx.minimum_spanning_tree(view, backend="boruvka").edges), [(0, 1), (1, 2)])
 
-    def test_what_networkx_answers_itself(self):
+    def test_what_networkx_finds_itself(self):
         graph = nx.Graph([(1, 2, {"weight": 2**70}), (2, 3, {"weight": 0.5}), (1, 3, {"weight": 2**70 + 1})])
         self.assertEqual(list(nx.minimum_spanning_edges(graph, data=False, backend="boruvka")), [(2, 3), (1, 2)])
         with self.assertRaises(nx.NetworkXNotImplemented):
@@ -239,7 +239,7 @@ class Found(unittest.TestCase):
                 self.assertEqual((list(nx.maximum_spanning_edges(graph)), whole(nx.minimum_spanning_tree(graph))), own)
             self.assertIn("boruvka", graph.__networkx_cache__["backends"])
 
-    def test_told_by_networkx(self):
+    def test_dispatched_by_networkx(self):
         self.assertEqual(nx.utils.backends.backend_info["boruvka"]["backend_name"], "boruvka")
 
 

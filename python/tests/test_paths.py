@@ -1,4 +1,7 @@
-"""Paths, their heaviest edges, labels and replacements: by names and by numbers, one and many, beside searches and Kruskal."""
+"""Paths, their heaviest edges, labels and replacements: by name and by number, one and many.
+
+They are compared with searches and with Kruskal's algorithm.
+"""
 
 import copy
 import pickle
@@ -51,7 +54,7 @@ class ByNames(unittest.TestCase):
         self.assertEqual(forest.path(30, 20), [30, 10, 20])
         self.assertEqual(forest.path((1, 2), "a"), [(1, 2), "a"])
         self.assertEqual(forest.path(np.int64(30), 20.0), [30, 10, 20])
-        with self.assertRaisesRegex(ValueError, r"^0 is no vertex: they have names, as 10, 20, 30$"):
+        with self.assertRaisesRegex(ValueError, r"^0 isn't a vertex: their names are such as 10, 20, 30$"):
             forest.path(0, 10)
 
     def test_labels(self):
@@ -75,40 +78,40 @@ class ByNames(unittest.TestCase):
 
     def test_what_is_no_vertex(self):
         for call in (self.forest.path, self.forest.bottleneck):
-            for given, words in [
-                (("Bth", "York"), "^'Bth' is no vertex: 'Bath' is one$"),
-                (("Bath", "Oslo"), "^'Oslo' is no vertex: they have names, as 'Bath', 'Ely', 'Hove'$"),
-                ((0, 1), "^0 is no vertex: they have names, as 'Bath', "),
-                (("Bath", None), "^None is no vertex: "),
-                (("Bath", ("York",)), r"^\('York',\) is no vertex: "),
-                ((["Bath", "Yrk"], "Ely"), r"^a\[1\] is 'Yrk', which is no vertex: 'York' is one$"),
-                (("Bath", [["York"]]), r"^b\[0\] is \['York'\], which is no vertex: "),
+            for given, pattern in [
+                (("Bth", "York"), "^'Bth' isn't a vertex: did you mean 'Bath'\?$"),
+                (("Bath", "Oslo"), "^'Oslo' isn't a vertex: their names are such as 'Bath', 'Ely', 'Hove'$"),
+                ((0, 1), "^0 isn't a vertex: their names are such as 'Bath', "),
+                (("Bath", None), "^None isn't a vertex: "),
+                (("Bath", ("York",)), r"^\('York',\) isn't a vertex: "),
+                ((["Bath", "Yrk"], "Ely"), r"^a\[1\] is 'Yrk', which isn't a vertex: did you mean 'York'\?$"),
+                (("Bath", [["York"]]), r"^b\[0\] is \['York'\], which isn't a vertex: "),
                 ((["Bath"], ["York", "Ely"]), "^a and b differ in length: 1 and 2$"),
                 (("Bath", "Rye"), "^'Bath' and 'Rye' are in different components$"),
                 ((["Bath", "Ely"], ["York", "Hove"]), "^'Ely' and 'Hove' are in different components$"),
             ]:
-                with self.subTest(given), self.assertRaisesRegex(ValueError, words):
+                with self.subTest(given), self.assertRaisesRegex(ValueError, pattern):
                     call(*given)
-        with self.assertRaisesRegex(ValueError, "^from 'Ely' to itself there is no edge$"):
+        with self.assertRaisesRegex(ValueError, "^there is no edge from 'Ely' to itself$"):
             self.forest.bottleneck(["Bath", "Ely"], ["York", "Ely"])
-        with self.assertRaisesRegex(ValueError, "^'1' is no vertex: 1 is one$|^'1' is no vertex: they have names"):
+        with self.assertRaisesRegex(ValueError, "^'1' isn't a vertex: did you mean 1\?$|^'1' isn't a vertex: their names are such as 1, 2$"):
             from_edges({"u": [1], "v": [2], "w": [3]}).path("1", 2)
         twice = self.forest._replace(names=["a", "b", "c", "b", "d"])
-        with self.assertRaisesRegex(ValueError, r"^names\[3\] is 'b', as names\[1\] is: "):
+        with self.assertRaisesRegex(ValueError, r"^names\[3\] and names\[1\] are both 'b': "):
             twice.path("a", "b")
         plain = self.forest._replace(names=None)
-        for given, error, words in [
-            (("Bath", 1), TypeError, "^a is 'Bath', and has to be a whole number: the forest has no names$"),
-            (((0, 1), 1), TypeError, r"^a is \(0, 1\), and has to be a whole number"),
-            (([0, 9], 1), ValueError, r"^a\[1\] is 9, and a vertex is at least 0 and below n = 5"),
-            (([0.5], 1), TypeError, r"^a has the dtype float64, as a\[0\] is 0\.5, and vertices are whole numbers$"),
+        for given, error, pattern in [
+            (("Bath", 1), TypeError, "^a is 'Bath', but has to be a whole number: the forest has no names$"),
+            (((0, 1), 1), TypeError, r"^a is \(0, 1\), but has to be a whole number"),
+            (([0, 9], 1), ValueError, r"^a\[1\] is 9, but a vertex is at least 0 and below n = 5"),
+            (([0.5], 1), TypeError, r"^a has the dtype float64, because a\[0\] is 0\.5, but vertices are whole numbers$"),
         ]:
-            with self.subTest(given), self.assertRaisesRegex(error, words):
+            with self.subTest(given), self.assertRaisesRegex(error, pattern):
                 plain.path(*given)
 
 
 class Drawn(unittest.TestCase):
-    def test_paths_and_bottlenecks_beside_a_search(self):
+    def test_paths_and_bottlenecks_compared_with_a_search(self):
         for seed in range(150):
             graph = Graph(seed)
             maximum = seed % 2 == 1
@@ -140,15 +143,15 @@ class Drawn(unittest.TestCase):
             graph = Graph(seed)
             forest = minimum_spanning_forest(graph.n, *graph.held)
             pairs = np.random.default_rng(seed).integers(0, graph.n, (2, 10)).tolist()
-            told = []
+            output = []
             for least in (0, 10**9):
                 with mock.patch.object(_paths, "_LARGE", least):
                     rooted = _paths.Rooted(forest)
-                    told.append([rooted.path(*it) for it in zip(*pairs)])
-            self.assertEqual(*told)
+                    output.append([rooted.path(*it) for it in zip(*pairs)])
+            self.assertEqual(*output)
 
     def test_forests_in_another_order(self):
-        """Of a forest that isn't sorted the heaviest edge is found all the same."""
+        """The heaviest edge is found in a forest that isn't sorted, too."""
         forest = Forest([0, 1, 2], [1, 2, 3], [5, 9, 1], [0, 1, 2])
         self.assertEqual(forest.bottleneck(0, 3), (1, 2, 9, 1, 1))
         self.assertEqual(forest._replace(maximum=True).bottleneck(0, 3), (2, 3, 1, 2, 2))
@@ -173,7 +176,7 @@ class Drawn(unittest.TestCase):
 
 
 class Replaced(unittest.TestCase):
-    def test_500_graphs_beside_forests_without_the_edge(self):
+    def test_500_graphs_compared_with_forests_without_the_edge(self):
         kinds, tried = set(), 0
         for seed in range(700):
             graph = Graph(seed, ("ties", "yes and no", "special doubles", "all of 64 bits"))
@@ -207,21 +210,21 @@ class Replaced(unittest.TestCase):
         u, v, w = [0, 1, 2, 3, 0], [1, 2, 3, 0, 2], [1.5, 0.5, 2.5, 3.5, 1.0]
         forest = minimum_spanning_forest(6, u, v, w)
         self.assertEqual(forest.replacements(u, v, w).tolist(), [0, 0, 3])
-        for given, words in [
-            ((u[:2], v[:2], w[:2]), "^the forest has the edge 4, and 2 edges are given: give all edges of the graph$"),
-            ((v[::-1], u[::-1], w[::-1]), "^the edge [124] isn't the one of the forest with this index: give the edges in the order"),
-            ((u, v, [1.5, 0.25, 2.5, 3.5, 1.0]), "^the edge 1 isn't the one of the forest"),
-            (([*u, 0], [*v, 5], [*w, 9]), "^the edge 5 joins two components of the forest, so that it isn't the forest of these edges$"),
-            (([*u, 0], [*v, 6], [*w, 9]), r"^v\[5\] is 6, and a vertex is at least 0 and below n = 6"),
+        for given, pattern in [
+            ((u[:2], v[:2], w[:2]), "^the forest has the edge 4, but only 2 edges are passed: pass all edges of the graph$"),
+            ((v[::-1], u[::-1], w[::-1]), "^the edge [124] differs from the forest's edge with this index: pass the edges in the order"),
+            ((u, v, [1.5, 0.25, 2.5, 3.5, 1.0]), "^the edge 1 differs from the forest's edge"),
+            (([*u, 0], [*v, 5], [*w, 9]), "^the edge 5 joins two components of the forest, so this isn't the forest of these edges$"),
+            (([*u, 0], [*v, 6], [*w, 9]), r"^v\[5\] is 6, but a vertex is at least 0 and below n = 6"),
             ((u, v, w[:4]), "^u, v and w differ in length"),
-            (([*u, 2], [*v, 0], [*w, 0.75]), "^an edge that isn't in the forest is better than one that it would replace, so that it isn't the forest"),
+            (([*u, 2], [*v, 0], [*w, 0.75]), "^an edge outside the forest is better than one that it could replace, so this isn't the forest"),
         ]:
-            with self.subTest(words), self.assertRaisesRegex(ValueError, words):
+            with self.subTest(pattern), self.assertRaisesRegex(ValueError, pattern):
                 forest.replacements(*given)
         with self.assertRaisesRegex(ValueError, "^index has chunks and rows"):
             boruvka.forest_of_chunks(6, [(u, v, w)]).replacements(u, v, w)
         named = from_edges(ROADS, "from", "to", weight="km")
-        with self.assertRaisesRegex(ValueError, r"^u\[1\] is 'Oslo', which is no vertex"):
+        with self.assertRaisesRegex(ValueError, r"^u\[1\] is 'Oslo', which isn't a vertex"):
             named.replacements(["Ely", "Oslo", "Ely", "Rye"], ROADS["to"], ROADS["km"])
 
     def test_no_edges(self):
@@ -230,7 +233,7 @@ class Replaced(unittest.TestCase):
 
 class Quick(unittest.TestCase):
     def test_a_question_costs_little_once_one_was_asked(self):
-        """So far below the time of the first that all is computed once; the figures are in bench.py."""
+        """It takes far less than the first question, so everything else is computed once. bench.py measures the times."""
         n = 100_000
         draw = np.random.default_rng(1)
         u, v = np.arange(1, n), draw.integers(0, np.arange(1, n))

@@ -1,4 +1,4 @@
-"""Mistakes that `mypy --strict` finds: in each line that says so, and in no other. Nobody runs them."""
+"""Mistakes that `mypy --strict` finds: exactly the lines marked as wrong. Nobody runs them."""
 
 import numpy as np
 

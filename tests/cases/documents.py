@@ -726,7 +726,7 @@ def the_manual_page_names_what_the_help_does(_room):
 
 
 # the documents whose sentences are counted
-DOCUMENTS = ["README.md", "SECURITY.md", "CONTRIBUTING.md", "CHANGELOG.md", "man/boruvka.1", "python/README.md", "python/PARTS.md", "python/COMING_FROM.md"]
+DOCUMENTS = ["README.md", "SECURITY.md", "CONTRIBUTING.md", "CHANGELOG.md", "man/boruvka.1", "python/README.md", "python/COMING_FROM.md"]
 DOCUMENTS += [f"docs/{name}.md" for name in ("ARCHITECTURE", "DECISIONS", "GR_FORMAT", "HEADLINE", "PERFORMANCE", "PROMISES", "PROTOCOL", "RECIPES")]
 # the most words of a sentence
 MOST_IN_A_SENTENCE = 30

@@ -1,9 +1,12 @@
-"""Peers' own tests, as they are installed, over the package for Python: python/tests/peers/stand_ins.py says which of
-their functions it stands in for. All of them have to pass. A suite is skipped where its peer isn't there."""
+"""Peers' own tests, as they are installed, on the package for Python. All of them have to pass.
+
+python/tests/peers/stand_ins.py replaces functions of the peers by those of the package. A suite is skipped if its peer
+isn't installed.
+"""
 import os
 import re
 
-from cases.python import PACKAGE, PYTHONS, WITHOUT, lent_networkx, site
+from cases.python import PACKAGE, PYTHONS, WITHOUT, borrowed_networkx, site
 from cases.running import Skipped, case, run
 
 HAS = "import importlib.util, sys; sys.exit(not all(map(importlib.util.find_spec, sys.argv[1:])))"
@@ -18,14 +21,14 @@ def with_packages(*names):
 
 
 def expect_peers_tests(room, python, peer, tests, path=(), **more):
-    """Its tests all pass, and calls were answered by the package."""
+    """Its tests all pass, and the package answered some of their calls."""
     path = os.pathsep.join([site(room), f"{PACKAGE}/tests/peers", *path])
     env = {**WITHOUT, "PYTHONPATH": path, "PYTHONDONTWRITEBYTECODE": "1", "PEER": peer, **more}
-    words = ["-m", "pytest", "-q", "-ra", "-p", "no:cacheprovider", "-p", "stand_ins", "--pyargs", tests]
-    status, told, errors = run([python, *words], env=env, cwd=room, seconds=120)
-    last = re.search(r"^(\d+) passed(?:, \d+ (?:skipped|warnings?))* in .*\n+(\d+) calls answered by boruvka$", told.decode(), re.M)
+    arguments = ["-m", "pytest", "-q", "-ra", "-p", "no:cacheprovider", "-p", "stand_ins", "--pyargs", tests]
+    status, output, errors = run([python, *arguments], env=env, cwd=room, seconds=120)
+    last = re.search(r"^(\d+) passed(?:, \d+ (?:skipped|warnings?))* in .*\n+(\d+) calls answered by boruvka$", output.decode(), re.M)
     if status or not last or last[1] == "0" or last[2] == "0":
-        raise AssertionError((told + errors).decode()[-3000:])
+        raise AssertionError((output + errors).decode()[-3000:])
 
 
 @case
@@ -47,4 +50,4 @@ def scikit_learns_own_tests_of_agglomerative_clustering(room):
 def networkxs_own_tests_of_spanning_trees(room):
     python = with_packages("numpy", "pytest", "scipy")
     more = {"NETWORKX_TEST_BACKEND": "boruvka", "NETWORKX_FALLBACK_TO_NX": "True"}
-    expect_peers_tests(room, python, "networkx", "networkx.algorithms.tree.tests.test_mst", [lent_networkx(room, python)], **more)
+    expect_peers_tests(room, python, "networkx", "networkx.algorithms.tree.tests.test_mst", [borrowed_networkx(room, python)], **more)

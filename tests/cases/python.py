@@ -1,5 +1,8 @@
-"""The package for Python: what its wheel has, that pip installs it, and its own tests over the wheel. They are run by a
-Python that has numpy, and are skipped where there is none; so is a part that wants one more package than is there."""
+"""The package for Python: what its wheel has, that pip installs it, and its own tests on the wheel.
+
+They run in a Python that has numpy, and are skipped if there is none. A test that needs another missing package is
+skipped too.
+"""
 import ast
 import base64
 import configparser
@@ -25,7 +28,7 @@ USED = ("numpy", "scipy", "networkx", "sklearn", "matplotlib", "pandas", "dask",
 WITHOUT = {it: word for it, word in PLAIN.items() if it != "BORUVKA_LIBRARY"}
 
 
-# the version of a Python, that of its networkx, the folder of this, and the one that describes it
+# prints the version of Python, that of its networkx, the folder of networkx, and the one that describes it
 NETWORKX = """
 import importlib.metadata, networkx, os, sys
 print(*sys.version_info[:2])
@@ -40,16 +43,16 @@ def python():
     code = "import importlib.util, sys; print(*(importlib.util.find_spec(it) is not None for it in sys.argv[1:]))"
     found = []
     for path in filter(os.path.exists, PYTHONS):
-        told = run([path, "-c", code, *USED], env=WITHOUT)[1].decode().split()
-        if told[:1] == ["True"]:
-            found.append((told.count("True"), path))
+        printed = run([path, "-c", code, *USED], env=WITHOUT)[1].decode().split()
+        if printed[:1] == ["True"]:
+            found.append((printed.count("True"), path))
     if not found:
         raise Skipped("no Python has numpy")
     return max(found, key=lambda it: it[0])[1]
 
 
 def wheel(room):
-    """The path of the wheel; packed once."""
+    """The path of the wheel, which is built once."""
     folder = f"{os.path.dirname(room)}/wheel"
     if not os.path.exists(folder):
         packed(f"{room}/packed")
@@ -62,42 +65,45 @@ def wheel(room):
 
 
 def site(room):
-    """The wheel, unpacked into a folder."""
+    """A folder with the unpacked wheel."""
     with zipfile.ZipFile(wheel(room)) as it:
         it.extractall(f"{room}/site")
     return f"{room}/site"
 
 
-def lent_networkx(room, python):
-    """A folder with a networkx that has backends, of any Python of the same version: no part of it is compiled."""
-    wanted = run([python, "-c", "import sys; print(*sys.version_info[:2])"], env=WITHOUT)[1].decode().strip()
-    told = [run([it, "-c", NETWORKX], env=WITHOUT)[1].decode().splitlines() for it in filter(os.path.exists, PYTHONS)]
-    folders = next((it[2:] for it in told if it and it[0] == wanted and tuple(map(int, it[1].split())) >= (3, 2)), None)
+def borrowed_networkx(room, python):
+    """A folder with a networkx that has backends, from any Python of the same version: it has no compiled parts."""
+    expected = run([python, "-c", "import sys; print(*sys.version_info[:2])"], env=WITHOUT)[1].decode().strip()
+    printed = [run([it, "-c", NETWORKX], env=WITHOUT)[1].decode().splitlines() for it in filter(os.path.exists, PYTHONS)]
+    folders = next((it[2:] for it in printed if it and it[0] == expected and tuple(map(int, it[1].split())) >= (3, 2)), None)
     if not folders:
-        raise Skipped(f"no Python {wanted} has networkx 3.2 or later")
-    os.mkdir(f"{room}/lent")
+        raise Skipped(f"no Python {expected} has networkx 3.2 or later")
+    os.mkdir(f"{room}/borrowed")
     for it in folders:
-        os.symlink(it, f"{room}/lent/{os.path.basename(it)}")
-    return f"{room}/lent"
+        os.symlink(it, f"{room}/borrowed/{os.path.basename(it)}")
+    return f"{room}/borrowed"
 
 
 def networkx_if_there(room):
-    """Its folder, for tests a few of which need it."""
+    """Its folder, for tests of which only a few need it."""
     try:
-        return [lent_networkx(room, python())]
+        return [borrowed_networkx(room, python())]
     except Skipped:
         return []
 
 
 def expect_tests(room, *names, more=()):
-    """These of the package's tests pass over the wheel. If all of them are skipped, so is the case; why some are is printed."""
+    """These of the package's tests pass on the wheel.
+
+    The reasons of skipped tests are printed; if all are skipped, so is the case.
+    """
     path = os.pathsep.join([site(room), *more, *filter(None, [os.environ.get("PYTHONPATH")])])
     env = {**WITHOUT, "PYTHONPATH": path, "PYTHONDONTWRITEBYTECODE": "1", "MPLCONFIGDIR": os.path.dirname(room)}
-    status, _, told = run([python(), "-m", "unittest", "-v", *names], env=env, cwd=f"{PACKAGE}/tests", seconds=300)
-    shape = re.search(r"^Ran (\d+) tests? in .*\n\nOK(?: \(skipped=(\d+)\))?\s*$", told.decode(), re.M)
+    status, _, printed = run([python(), "-m", "unittest", "-v", *names], env=env, cwd=f"{PACKAGE}/tests", seconds=300)
+    shape = re.search(r"^Ran (\d+) tests? in .*\n\nOK(?: \(skipped=(\d+)\))?\s*$", printed.decode(), re.M)
     if status or not shape or shape[1] == "0":
-        raise AssertionError(told.decode()[-3000:])
-    reasons = {*re.findall(r"\.\.\. skipped ['\"](.*)['\"]$", told.decode(), re.M)}
+        raise AssertionError(printed.decode()[-3000:])
+    reasons = {*re.findall(r"\.\.\. skipped ['\"](.*)['\"]$", printed.decode(), re.M)}
     if shape[1] == shape[2]:
         raise Skipped(min(reasons))
     for why in sorted(reasons):
@@ -121,9 +127,9 @@ def the_wheel_is_whole(room):
             is_so(files[name] == it.read(), True)
     rows = list(csv.reader(io.StringIO(files[f"{about}/RECORD"].decode())))
     is_so(sorted(it[0] for it in rows), sorted(files))
-    for name, told, size in rows:
+    for name, printed, size in rows:
         found = base64.urlsafe_b64encode(hashlib.sha256(files[name]).digest()).decode().rstrip("=")
-        is_so((told, size), ("", "") if name.endswith("RECORD") else (f"sha256={found}", str(len(files[name]))))
+        is_so((printed, size), ("", "") if name.endswith("RECORD") else (f"sha256={found}", str(len(files[name]))))
     head, _, readme = files[f"{about}/METADATA"].decode().partition("\n\n")
     fields = [tuple(it.split(": ", 1)) for it in head.splitlines()]
     is_so([it for it in fields if it[0] in ("Name", "Version")], [("Name", "boruvka"), ("Version", version())])
@@ -134,7 +140,7 @@ def the_wheel_is_whole(room):
     is_so([re.fullmatch(r'(\S+?)>=[\d.]+; extra == "(\S+)"', it).groups() for it in needed], [(it, it) for it in extras])
     with open(f"{PACKAGE}/README.md", encoding="utf-8") as it:
         is_so(readme, it.read())
-    # by these networkx finds the backend, and what it tells of it
+    # networkx finds the backend and its description by these
     entries = configparser.ConfigParser()
     entries.read_string(files[f"{about}/entry_points.txt"].decode())
     found = {(section, *it) for section in entries.sections() for it in entries.items(section)}
@@ -146,10 +152,10 @@ def the_wheel_is_whole(room):
 
 @case
 def the_page_is_in_the_wheel(room):
-    """It is that of the other packages, and `boruvka.show` finds it."""
+    """It is the page of the other packages, and `boruvka.show` finds it."""
     expect(run([sys.executable, f"{ROOT}/tools/page.py", module(), f"{room}/page.html"]), 0, b"", b"")
-    with open(f"{site(room)}/boruvka/boruvka.html", "rb") as found, open(f"{room}/page.html", "rb") as wanted:
-        is_so(found.read() == wanted.read(), True)
+    with open(f"{site(room)}/boruvka/boruvka.html", "rb") as found, open(f"{room}/page.html", "rb") as expected:
+        is_so(found.read() == expected.read(), True)
     code = "import boruvka; print(boruvka.show([[0, 0], [3, 4]], into='shown.html'))"
     os.mkdir(f"{room}/home")
     expect(run([python(), "-c", code], env={**WITHOUT, "PYTHONPATH": f"{room}/site", "HOME": f"{room}/home"}, cwd=room), 0, b"shown.html\n", b"")
@@ -159,7 +165,7 @@ def the_page_is_in_the_wheel(room):
 
 @case
 def the_debian_package_of_python_is_whole_and_runs(room):
-    """Beside the package that has the library, as `dpkg -i` of both puts them; for Debian's own Python."""
+    """With the package of the library, as `dpkg -i` of both installs them, in Debian's own Python."""
     needs("dpkg-deb")
     packed(f"{room}/packed")
     root, name = f"{room}/empty", f"python3-boruvka_{version()}_all.deb"
@@ -187,7 +193,7 @@ def the_debian_package_of_python_is_whole_and_runs(room):
 def debians_python():
     """The Python for which Debian's packages are, with numpy."""
     if run(["/usr/bin/python3", "-c", "import numpy"], env=WITHOUT)[0]:
-        raise Skipped("Debian's Python isn't there, or has no numpy")
+        raise Skipped("Debian's Python isn't installed, or has no numpy")
     return "/usr/bin/python3"
 
 
@@ -195,14 +201,14 @@ def debians_python():
 def lintian_finds_no_error_in_the_debian_package_of_python(room):
     needs("dpkg-deb")
     packed(f"{room}/packed")
-    words = [needs("lintian"), "--allow-root", "--no-cfg", "--fail-on", "error", f"{room}/packed/python3-boruvka_{version()}_all.deb"]
-    status, output, errors = run(words, env={**PLAIN, "LC_ALL": "C.UTF-8"}, seconds=300)
+    command = [needs("lintian"), "--allow-root", "--no-cfg", "--fail-on", "error", f"{room}/packed/python3-boruvka_{version()}_all.deb"]
+    status, output, errors = run(command, env={**PLAIN, "LC_ALL": "C.UTF-8"}, seconds=300)
     is_so((status, re.findall(rb"^[EW]: .*", output + errors, re.M)), (0, []))
 
 
 @case
-def the_wheel_asks_for_no_more_than_its_tag_says(_room):
-    """By the symbols of the library: manylinux2014 has the C library of the version 2.17."""
+def the_wheel_needs_no_more_than_its_tag_says(_room):
+    """By the symbols of the library: manylinux2014 has version 2.17 of the C library."""
     if not shutil.which("objdump"):
         raise Skipped("there is no objdump")
     shared = f"{LIBRARIES}/libboruvka.so"
@@ -215,7 +221,7 @@ def the_wheel_asks_for_no_more_than_its_tag_says(_room):
 
 @case
 def a_fresh_environment_installs_the_wheel(room):
-    """By pip and without a network, over a system that has numpy."""
+    """By pip, without a network, on a system that has numpy."""
     made = run([python(), "-m", "venv", "--system-site-packages", f"{room}/fresh"], env=WITHOUT)
     if made[0]:
         raise Skipped("this Python makes no environment with pip")
@@ -261,25 +267,25 @@ def gr_files(room):
 
 
 @case
-def faults_as_the_program_tells_them(room):
-    """The line and the name of each fault that test_gr has, after the file's name."""
-    code = "import sys; sys.path.insert(0, sys.argv[1]); import test_gr; print([it[0] for it in test_gr.FAULTS])"
-    status, told, errors = run([python(), "-c", code, f"{PACKAGE}/tests"], env={**WITHOUT, "PYTHONPATH": site(room)})
-    texts = ast.literal_eval(told.decode()) if status == 0 else []
+def errors_as_the_program_reports_them(room):
+    """The line and the name of each error in test_gr, after the name of the file."""
+    code = "import sys; sys.path.insert(0, sys.argv[1]); import test_gr; print([it[0] for it in test_gr.ERRORS])"
+    status, printed, errors = run([python(), "-c", code, f"{PACKAGE}/tests"], env={**WITHOUT, "PYTHONPATH": site(room)})
+    texts = ast.literal_eval(printed.decode()) if status == 0 else []
     is_so((status, errors, len(texts) > 20), (0, b"", True))
     code = "import boruvka, sys\nfor it in sys.argv[1:]:\n    try:\n        boruvka.read_gr(it)\n    except ValueError as error:\n        print(error)"
     paths = [f"{room}/{number}.gr" for number in range(len(texts))]
     for path, text in zip(paths, texts):
         written(path, text)
-    told = run([python(), "-c", code, *paths], env={**WITHOUT, "PYTHONPATH": f"{room}/site"})[1].decode().splitlines()
-    wanted = [run([Program.path, "--plain", it])[2].decode() for it in paths]
-    is_so([f"{it}\n" for it in told], [f"{path}{it.removeprefix('boruvka')}" for path, it in zip(paths, wanted)])
+    printed = run([python(), "-c", code, *paths], env={**WITHOUT, "PYTHONPATH": f"{room}/site"})[1].decode().splitlines()
+    expected = [run([Program.path, "--plain", it])[2].decode() for it in paths]
+    is_so([f"{it}\n" for it in printed], [f"{path}{it.removeprefix('boruvka')}" for path, it in zip(paths, expected)])
 
 
 @case
-def refusals_as_the_library_tells_them(room):
+def errors_as_the_library_names_them(room):
     env = {**WITHOUT, "PYTHONPATH": site(room), "PYTHONDONTWRITEBYTECODE": "1"}
-    code = "from boruvka import _library\nfor code in range(-22, 4):\n    print(code, _library._named(code))"
+    code = "from boruvka import _library\nfor code in range(-22, 4):\n    print(code, _library.error_text(code))"
     expect(run([python(), "-c", code], env=env), 0, TEXTS, b"")
 
 
@@ -290,25 +296,25 @@ def mistakes_that_people_make(room):
 
 @case
 def typical_uses(room):
-    """They run, whether or not mypy is there to look at their types."""
+    """They run, whether mypy is installed or not."""
     expect(run([python(), f"{PACKAGE}/tests/typed_uses.py"], env={**WITHOUT, "PYTHONPATH": site(room)}, cwd=room), 0, b"", b"")
 
 
 @case
 def types_by_mypy(room):
-    """`mypy --strict` finds nothing in the package, nothing in typical uses, and just the lines that say so in mistakes."""
+    """`mypy --strict` finds nothing in the package and in typical uses, and exactly the marked lines in mistakes."""
     if run([python(), "-m", "mypy", "--version"], env=WITHOUT)[0]:
         raise Skipped("the Python that has numpy has no mypy")
     written(f"{room}/mypy.ini", f"[mypy]\nstrict = True\ncache_dir = {room}/cache\n[mypy-{'.*,'.join(USED)}.*,pandas.*]\nignore_missing_imports = True\n".encode())
     env = {**WITHOUT, "MYPYPATH": site(room)}
-    words = [python(), "-m", "mypy", "--config-file", f"{room}/mypy.ini", "--no-error-summary"]
-    expect(run([*words, f"{room}/site/boruvka"], env=env, cwd=room, seconds=300), 0, b"", b"")
-    expect(run([*words, f"{PACKAGE}/tests/typed_uses.py"], env=env, cwd=room, seconds=300), 0, b"", b"")
+    command = [python(), "-m", "mypy", "--config-file", f"{room}/mypy.ini", "--no-error-summary"]
+    expect(run([*command, f"{room}/site/boruvka"], env=env, cwd=room, seconds=300), 0, b"", b"")
+    expect(run([*command, f"{PACKAGE}/tests/typed_uses.py"], env=env, cwd=room, seconds=300), 0, b"", b"")
     mistakes = f"{PACKAGE}/tests/typed_mistakes.py"
-    told = run([*words, mistakes], env=env, cwd=room, seconds=300)[1].decode()
+    printed = run([*command, mistakes], env=env, cwd=room, seconds=300)[1].decode()
     with open(mistakes, encoding="utf-8") as lines:
-        wanted = {number for number, line in enumerate(lines, 1) if "# wrong" in line}
-    is_so(({int(it) for it in re.findall(r"^\S+\.py:(\d+): error: ", told, re.M)}, len(wanted) > 20), (wanted, True))
+        expected = {number for number, line in enumerate(lines, 1) if "# wrong" in line}
+    is_so(({int(it) for it in re.findall(r"^\S+\.py:(\d+): error: ", printed, re.M)}, len(expected) > 20), (expected, True))
 
 
 @case
@@ -328,7 +334,7 @@ def rows_of_dask_frames_in_two_processes(room):
 
 @case
 def linkage_and_clusters(room):
-    expect_tests(room, "test_linkage.Worked", "test_linkage.Refused", "test_linkage.Drawn")
+    expect_tests(room, "test_linkage.Worked", "test_linkage.Rejected", "test_linkage.Drawn")
 
 
 @case
@@ -352,18 +358,20 @@ def drawn_points_and_clusters(room):
 
 
 @case
-def drawn_cases_at_length_tell_what_is_wrong(room):
-    """`make soak` over the wheel's library: right cases pass, and one that is planted is told with the words that repeat it."""
-    words = [sys.executable, f"{ROOT}/tests/soak_python.py", "--minutes", "0.05", "--seed", "7", f"{LIBRARIES}/libboruvka.so"]
-    status, told, errors = run(words, env=PLAIN)
-    last = re.fullmatch(r"(\d+) cases, 0 mismatches", told.decode().splitlines()[-1])
+def drawn_cases_report_what_is_wrong(room):
+    """`make soak` on the wheel's library: right cases pass, and a planted one is reported with the arguments that
+    repeat it.
+    """
+    command = [sys.executable, f"{ROOT}/tests/soak_python.py", "--minutes", "0.05", "--seed", "7", f"{LIBRARIES}/libboruvka.so"]
+    status, printed, errors = run(command, env=PLAIN)
+    last = re.fullmatch(r"(\d+) cases, 0 mismatches", printed.decode().splitlines()[-1])
     is_so((status, bool(last) and int(last[1]) > 1, errors), (0, True, b""))
     written(f"{room}/drawn_wrong.py", b"def wrong(draw):\n    raise AssertionError(int(draw.integers(100)))\n\n\nSORTS = {'planted': wrong}\n")
-    words += ["--drawn", room]
-    status, told, _ = run(words, env=PLAIN)
-    first = re.search(r"^soak: --seed 7 --sort 'planted' --case 0\n(?s:.*?)AssertionError: (\d+)$", told.decode(), re.M)
+    command += ["--drawn", room]
+    status, printed, _ = run(command, env=PLAIN)
+    first = re.search(r"^soak: --seed 7 --sort 'planted' --case 0\n(?s:.*?)AssertionError: (\d+)$", printed.decode(), re.M)
     is_so((status, bool(first)), (1, True))
-    again = run([*words, "--sort", "planted", "--case", "0"], env=PLAIN)[1].decode()
+    again = run([*command, "--sort", "planted", "--case", "0"], env=PLAIN)[1].decode()
     is_so((f"AssertionError: {first[1]}\n" in again, again.splitlines()[-1]), (True, "1 cases, 1 mismatches"))
 
 
@@ -373,7 +381,7 @@ def ctrl_c_ends_a_long_call(room):
 
 
 @case
-def linkage_beside_scipys(room):
+def linkage_compared_with_scipys(room):
     expect_tests(room, "test_linkage.Scipys")
 
 
@@ -383,11 +391,11 @@ def estimators_of_scikit_learn(room):
 
 
 @case
-def sparse_matrices_beside_scipys(room):
+def sparse_matrices_compared_with_scipys(room):
     expect_tests(room, "test_sparse")
 
 
-# what networkx does with backends when it is imported, from version 3.2 on
+# what networkx, from version 3.2 on, does with backends when it is imported
 STARTED = """
 from importlib.metadata import entry_points
 found = entry_points()
@@ -398,7 +406,10 @@ infos = {it.name: it.load()() for it in found if it.name == "boruvka"}
 
 @case
 def networkx_starts_without_loading_the_package(room):
-    """And the backend can be imported first. A stand-in does what networkx does, so that any Python can try it."""
+    """The backend can also be imported first.
+
+    A replacement for networkx does what networkx does, so any Python can run this.
+    """
     os.makedirs(f"{room}/stand-in/networkx")
     written(f"{room}/stand-in/networkx/__init__.py", STARTED.encode())
     env = {**WITHOUT, "PYTHONPATH": os.pathsep.join([f"{room}/stand-in", site(room)]), "PYTHONDONTWRITEBYTECODE": "1"}
@@ -410,13 +421,13 @@ def networkx_starts_without_loading_the_package(room):
 
 
 @case
-def graphs_of_networkx_beside_its_own(room):
-    expect_tests(room, "test_networkx.Functions", more=[lent_networkx(room, python())])
+def graphs_of_networkx_compared_with_its_own(room):
+    expect_tests(room, "test_networkx.Functions", more=[borrowed_networkx(room, python())])
 
 
 @case
 def networkx_finds_the_backend(room):
-    expect_tests(room, "test_networkx.Found", more=[lent_networkx(room, python())])
+    expect_tests(room, "test_networkx.Found", more=[borrowed_networkx(room, python())])
 
 
 @case
@@ -431,7 +442,7 @@ def points_in_the_page(room):
 
 @case
 def each_class_of_the_packages_tests_is_run(_room):
-    """Its file is named by a case, or the class itself."""
+    """A case names its file, or the class itself."""
     with open(__file__, encoding="utf-8") as it:
         cases = it.read()
     names, lacking = [it.removesuffix(".py") for it in os.listdir(f"{PACKAGE}/tests") if it.startswith("test_")], []

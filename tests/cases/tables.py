@@ -1,6 +1,9 @@
-"""The recipes of docs/RECIPES.md that read tables and databases: each script as it stands there, over the Python package
-and the built library. The ids that they print are compared with a forest that is computed here. A recipe is skipped if a
-package of Python or a server that it needs isn't there; Spark, which Debian lacks, has a stand-in."""
+"""The recipes of docs/RECIPES.md that read tables and databases: each script as it is shown, with the package and the
+built library.
+
+The ids that they print are compared with a forest that is computed here. A recipe is skipped if a package of Python or
+a server that it needs isn't installed. Spark, which Debian doesn't have, is replaced.
+"""
 import contextlib
 import glob
 import os
@@ -37,22 +40,25 @@ def script(room, name):
     return written(f"{room}/recipe.py", code.encode())
 
 
-def ran_by(path, *words, **more):
-    """Status, standard output and standard error of Python with these words."""
+def ran_by(path, *arguments, **more):
+    """Status, standard output and standard error of Python with these arguments."""
     env = {**os.environ, "PYTHONPATH": f"{ROOT}/python", "BORUVKA_LIBRARY": libraries()[1], "PYTHONDONTWRITEBYTECODE": "1"}
-    return run([path, "-W", "error", *words], env=env, **more)
+    return run([path, "-W", "error", *arguments], env=env, **more)
 
 
-def expect_error(found, told):
+def expect_error(found, message):
     """It fails, and its last line says this."""
     status, output, errors = found
-    if not status or output or not re.search(told.encode(), errors.splitlines()[-1]):
-        raise AssertionError(f"wanted an error {told}, found {found!r:.900}")
+    if not status or output or not re.search(message.encode(), errors.splitlines()[-1]):
+        raise AssertionError(f"wanted an error {message}, found {found!r:.900}")
 
 
 def ids_of(rows):
-    """The ids of the forest of rows (id, end, end, cost), lightest first, where ends are ranked by their order; of equal links
-    the least id counts."""
+    """The ids of the forest of rows (id, endpoint, endpoint, cost), lightest first, where endpoints are ranked by their
+    order.
+
+    Among equal edges the least id counts.
+    """
     rank = {it: at for at, it in enumerate(sorted({it for _, u, v, _ in rows for it in (u, v)}), 1)}
     least = {}
     for id_, u, v, cost in rows:
@@ -65,10 +71,10 @@ def lines(ids):
     return "".join(f"{it}\n" for it in ids).encode()
 
 
-def drawn(seed, ends, costs, count=400):
-    """Rows in a drawn order, many of equal cost, loops and repeats among them."""
+def drawn(seed, endpoints, costs, count=400):
+    """Rows in a drawn order, many of equal cost, with loops and parallel edges."""
     draw = random.Random(seed)
-    rows = [(at, draw.choice(ends), draw.choice(ends), draw.choice(costs)) for at in range(-9, count)]
+    rows = [(at, draw.choice(endpoints), draw.choice(endpoints), draw.choice(costs)) for at in range(-9, count)]
     draw.shuffle(rows)
     return rows
 
@@ -88,13 +94,13 @@ def the_recipe_of_sqlite(room):
     names = [f"{it}{at}" for at in range(30) for it in ("Zürich ", "a", "Ž", "'")]
     for rows in [drawn(1, names, [0, 1, 2, 0.5]), drawn(2, range(60), [-1.5, 1e300, 0.1, -0.0]), drawn(3, range(9), [2**62, -(2**63), 0])]:
         expect(found(rows), 0, lines(ids_of(rows)), b"")
-    # two costs that are one as doubles
+    # two costs that are equal as doubles
     expect(found([(1, "a", "b", 2**53 + 1), (2, "b", "c", 2**53 + 1), (3, "c", "a", 2**53)]), 0, b"3\n1\n", b"")
-    for rows, told in [
+    for rows, message in [
         ([], "^roads has no rows$"), ([(1, "a", "b", None)], "^a field is NULL$"), ([(1, None, "b", 1)], "^a field is NULL$"),
         ([(1, "a", 7, 1)], "not supported between"), ([(1, "a", "b", "1")], "Error: "), ([(1, "a", "b", 2**53 + 1), (2, "b", "c", 0.5)], "Error: "),
     ]:
-        expect_error(found(rows), told)
+        expect_error(found(rows), message)
     expect_error(found([], table="streets"), "no such table: roads")
     os.remove(f"{room}/roads.db")
     expect_error(ran_by(path, recipe, f"{room}/roads.db"), "unable to open")
@@ -103,13 +109,13 @@ def the_recipe_of_sqlite(room):
 
 @contextlib.contextmanager
 def postgres():
-    """A server of its own, by the words that psycopg2 connects by."""
+    """A server of its own, as the arguments with which psycopg2 connects."""
     tools = max(glob.glob("/usr/lib/postgresql/*/bin"), default="", key=lambda it: int(it.split("/")[-2]))
     if not os.path.exists(f"{tools}/initdb"):
         raise Skipped("there is no PostgreSQL server")
     by = []
     if os.geteuid() == 0:
-        # (it refuses to be run by root)
+        # (it doesn't run as root)
         if not shutil.which("runuser") or "postgres" not in [it.pw_name for it in pwd.getpwall()]:
             raise Skipped("root can't start a PostgreSQL server here, and there is no user postgres")
         by = ["runuser", "-u", "postgres", "--"]
@@ -143,10 +149,10 @@ database.commit()
             expect(ran_by(path, "-c", make, where, kind, source=repr(rows).encode()), 0, b"", b"")
             return ran_by(path, recipe, where)
 
-        ends = [-(2**63), -1, 0, *range(5, 60), 2**63 - 1]
-        for rows, kind in [(drawn(4, ends, [0.0, 0.5, -0.25, 1e300]), "double precision"), (drawn(5, ends, [2**53, 2**53 + 1, -(2**63)]), "bigint"), ([], "bigint")]:
+        endpoints = [-(2**63), -1, 0, *range(5, 60), 2**63 - 1]
+        for rows, kind in [(drawn(4, endpoints, [0.0, 0.5, -0.25, 1e300]), "double precision"), (drawn(5, endpoints, [2**53, 2**53 + 1, -(2**63)]), "bigint"), ([], "bigint")]:
             expect(found(rows, kind), 0, lines(ids_of(rows)), b"")
-        # so many NULLs that the bytes of rows without them would come out even
+        # so many NULLs that the number of bytes would fit rows without them
         rows = [(at, at, at + 1, None) for at in range(25)]
         for some in (rows, rows[:1], [(at, None, 1, 2) for at in range(100)], [(None, 1, 2, 3), (1, 1, 2, 3)]):
             expect_error(found(some, "bigint"), "^a field is NULL$")
@@ -181,15 +187,15 @@ for fid, shape, cost in eval(sys.stdin.read()):
         return ran_by(path, "-W", "ignore", recipe, f"{room}/roads.gpkg")
 
     def drawn_lines(seed, costs):
-        """Lines with points between their ends, and the rows that they mean."""
+        """Lines with points between their endpoints, and the rows that they stand for."""
         draw = random.Random(seed)
         places = [(x / 4, y / 4) for x in range(-4, 5) for y in range(-4, 5)]
         rows = [(id_ + 20, u, v, cost) for id_, u, v, cost in drawn(seed, places, costs)]
         shapes = []
         for id_, u, v, cost in rows:
-            # (a zero has either sign)
-            ends = [" ".join(f"-{it}" if it == 0 and draw.random() < 0.5 else str(it) for it in end) for end in (u, v)]
-            shapes.append((id_, f"LINESTRING({ends[0]},{'7 7,' * draw.randint(0, 3)}{ends[1]})", cost))
+            # (a zero may have either sign)
+            endpoints = [" ".join(f"-{it}" if it == 0 and draw.random() < 0.5 else str(it) for it in end) for end in (u, v)]
+            shapes.append((id_, f"LINESTRING({endpoints[0]},{'7 7,' * draw.randint(0, 3)}{endpoints[1]})", cost))
         return rows, shapes
 
     for seed, kind, costs in [(6, "real", [0.0, 1.5, -2.25]), (7, "whole", [2**53, 2**53 + 1, 0])]:
@@ -206,7 +212,7 @@ for fid, shape, cost in eval(sys.stdin.read()):
     expect_error(found([line, (9, "LINESTRING(1 1,1e400 2)", 1)]), "^a coordinate isn't finite$")
 
 
-STAND_IN = """import pathlib, random, sys, pandas
+REPLACEMENT = """import pathlib, random, sys, pandas
 
 class Frame:
     schema = "any"
@@ -241,10 +247,10 @@ print(*sorted(found["id"]))
 
 @case
 def the_recipe_of_spark(room):
-    """Any partitions have the ids of the whole, none of them or all of the rows in one."""
+    """Any partitions give the ids of the whole, also if some are empty, or one has all rows."""
     path, recipe = python("numpy", "pandas"), script(room, "Spark")
     for seed, n, count, costs in [(8, 50, 900, [0.0, 0.25, 1.5]), (9, 40, 300, [2**53, 2**53 + 1]), (10, 5, 0, [1])]:
         rows = drawn(seed, range(n), costs, count) if count else []
         ids = " ".join(map(str, sorted(ids_of(rows)))) + "\n"
         for partitions in (1, 3, 16, 40):
-            expect(ran_by(path, "-c", STAND_IN, recipe, str(partitions), source=repr((n, partitions, rows)).encode()), 0, ids.encode(), b"")
+            expect(ran_by(path, "-c", REPLACEMENT, recipe, str(partitions), source=repr((n, partitions, rows)).encode()), 0, ids.encode(), b"")

@@ -232,7 +232,8 @@ def invalid_arguments(_room):
     for word, shown in [("--wrong", "--wrong"), ("-o", "-o"), ("-j4", "-j"), ("--max", "--max"), ("--output=a.gr", "--output")]:
         expect(ran([word], SMALL_NET), 2, b"", f"error: unexpected argument '{shown}' found".encode() + usage)
     tip = b"\n\n  tip: a similar argument exists: '--plain'"
-    expect(ran(["--plane"], SMALL_NET), 2, b"", b"error: unexpected argument '--plane' found" + tip + usage)
+    given = usage.replace(b"[OPTIONS]", b"--plain")
+    expect(ran(["--plane"], SMALL_NET), 2, b"", b"error: unexpected argument '--plane' found" + tip + given)
     numbers = [["--threads", "0"], ["--threads=65"], ["--threads", "x"], ["--threads=-1"], ["--threads"]]
     for words in [["--workers=65"], ["--workers=-1"], ["--shards=0"], ["--shards", "4097"], ["--workers"], *numbers]:
         for more in [[], ["--plain"]]:

@@ -1,7 +1,6 @@
-"""A plugin of pytest that has a peer's own tests try this package: its functions stand in for the peer's.
+"""A plugin of pytest that runs a peer's own tests on this package, by replacing the peer's functions.
 
-PEER names the peer, one of PEERS. The last line counts the calls that this package answered; the run fails if there are
-none.
+PEER names the peer, one of PEERS. The last line counts the calls that this package answered. The run fails if there are none.
 """
 
 import os
@@ -28,7 +27,7 @@ def scipy_trees():
 
 
 def scipy_linkage():
-    """Single linkage of points and of distances; in the best order of leaves, which scipy finds, if that is asked for."""
+    """Single linkage of points and of distances; scipy orders the leaves if `optimal_ordering` is true."""
     from scipy.cluster import hierarchy
 
     own, ours = hierarchy.linkage, counted(single_linkage)
@@ -42,7 +41,7 @@ def scipy_linkage():
 
 
 class Trees:
-    """Scikit-learn's inner module, with the tree of points by this package."""
+    """scikit-learn's inner module, with the tree of points from this package."""
 
     def __init__(self, own):
         self.own = own
@@ -61,7 +60,7 @@ class Trees:
 
 
 def sklearn():
-    """The trees of points, and those of sparse matrices, of which its single linkage is made."""
+    """The trees of points and of sparse matrices, from which scikit-learn computes single linkage."""
     from sklearn.cluster import _agglomerative
 
     _agglomerative._hierarchical = Trees(_agglomerative._hierarchical)
@@ -70,13 +69,13 @@ def sklearn():
 
 
 def networkx():
-    """Its own choice of a backend; NETWORKX_TEST_BACKEND names it."""
+    """networkx's own dispatch to a backend; NETWORKX_TEST_BACKEND names it."""
     import scipy.sparse
 
     from boruvka import networkx_backend
 
     if not hasattr(scipy.sparse, "sparray"):
-        # (what its tests name is there from scipy 1.11 on)
+        # (networkx's tests use this class, which scipy has from 1.11 on)
         scipy.sparse.sparray = type("sparray", (), {})
     networkx_backend._edges = counted(networkx_backend._edges)
 
