@@ -5,8 +5,8 @@
  *         {.weight = 17, .low = 1, .high = 2}, {.weight = 10, .low = 3, .high = 1}, {.weight = 2, .low = 3, .high = 2}};
  *     int64_t count = boruvka_forest(3, links, 3);
  *
- * The count is 2, and the first two links are the forest: {2, 2, 3} and {10, 1, 3}. Name the fields, as the example does: a
- * link whose weight was written where an endpoint belongs compiles, and gives another forest.
+ * The count is 2, and the first two links are the forest: {2, 2, 3} and {10, 1, 3}. Name the fields, as the example does: if
+ * you write a weight where an endpoint belongs, the code compiles all the same, and gives another forest.
  *
  * Errors
  * ------
@@ -22,10 +22,11 @@
  * comment of a call says so.
  * - A pointer points to as many elements as the count after it says, aligned as their type requires. It may be null if the
  *   count is 0; that is tested, not proved.
- * - What a pointer without `const` points to may be read and written by the call. Nothing else accesses it during the call,
- *   and it overlaps nothing that another parameter points to. What a `const` pointer points to is only read, and may be
- *   shared.
- * - malloc, realloc and free belong to one allocator. It aligns a block to each power of two up to 16 that divides its size.
+ * - The call may read and write the elements of a pointer without `const`. Nothing else accesses these elements during the
+ *   call, and they overlap nothing that another parameter points to. The call only reads the elements of a `const` pointer.
+ *   These may be shared.
+ * - malloc, realloc and free belong to one allocator. It aligns each block to the greatest power of two that divides the
+ *   block's size, but at most to 16.
  * - No call is made from a signal handler, or in a forked child of a process with threads.
  * - A call has 128 KiB of stack, and the processor supports x86-64-v2.
  *
@@ -117,16 +118,16 @@ BORUVKA_INLINE int boruvka_overlap(const void *one, size_t size, const void *oth
  * Errors, in this order: BORUVKA_TOO_MANY_VERTICES, BORUVKA_TOO_MANY_LINKS, BORUVKA_BAD_END, BORUVKA_NO_MEMORY. */
 int64_t boruvka_forest(uint32_t n, struct boruvka_link *links, size_t m);
 
-/* Finds the minimum spanning forest of a graph in three columns, and writes which of the edges it consists of. The edge at
+/* Finds the minimum spanning forest of a graph in three columns, and writes the indices of the forest's edges. The edge at
  * index i joins u[i] and v[i] and has the weight w[i]. The vertices are base to base + n - 1. The edges may come in any order;
  * loops and repeated edges are allowed. `room` is the number of elements of `places`.
  *
- * On success the indices of the forest's edges, counted from 0, are the first elements of `places`, sorted as the links are.
- * If an edge is repeated with the same weight, in either direction, its first index is written. The other elements of `places`
- * are unchanged.
+ * On success the first elements of `places` are the indices of the forest's edges, counted from 0. They are in the order in
+ * which links are ordered. If an edge is repeated with the same weight, in either direction, its first index is written. The
+ * other elements of `places` are unchanged.
  *
- * The lesser of m and n - 1 elements is always enough for `places`, where m is the number of edges. No input makes the call
- * slow: in addition to finding the forest, it makes two passes over the edges, and at worst sorts them.
+ * For a graph with m edges, `places` never needs more elements than the lesser of m and n - 1. No input makes the call slow:
+ * in addition to finding the forest, it makes two passes over the edges, and at worst sorts them.
  *
  * Returns: the number of edges of the forest.
  * Errors, in this order: BORUVKA_LENGTHS_DIFFER, those of boruvka_forest, BORUVKA_TOO_FEW_PLACES. */
@@ -152,8 +153,8 @@ BORUVKA_INLINE int64_t boruvka_places(uint32_t n, uint32_t base, const uint32_t 
  * On success label[v - 1] is the least vertex of the component of vertex v.
  *
  * Returns: n.
- * Errors, in this order: BORUVKA_TOO_MANY_VERTICES, BORUVKA_TOO_MANY_LINKS, BORUVKA_BAD_END, BORUVKA_CYCLE for a loop, and
- * either BORUVKA_CYCLE for another cycle or BORUVKA_NO_MEMORY. */
+ * Errors, in this order: BORUVKA_TOO_MANY_VERTICES, BORUVKA_TOO_MANY_LINKS, BORUVKA_BAD_END, BORUVKA_CYCLE for a loop. After
+ * these come BORUVKA_CYCLE for another cycle and BORUVKA_NO_MEMORY, in no fixed order. */
 int64_t boruvka_labels_in(const struct boruvka_link *links, size_t k, uint32_t *label, size_t n);
 
 /* Does the same. `label` has n elements.
@@ -170,9 +171,9 @@ BORUVKA_INLINE int64_t boruvka_labels(uint32_t n, const struct boruvka_link *lin
  * boruvka_forest leaves them, and contain no cycle. `room` is the number of elements of `merges`.
  *
  * The clusters 0 to n - 1 are the points; cluster v - 1 is vertex v. On success links[i] merges the two clusters of merges[i]
- * into the cluster n + i. With the weights as heights, n - 1 merges are a linkage matrix; those of a minimum spanning forest
- * are single linkage. Fewer merges describe several trees, which no linkage matrix can. To cut the tree into clusters, call
- * boruvka_labels with the first links only.
+ * into the cluster n + i. With the weights as heights, n - 1 merges are a linkage matrix. If the links are a minimum spanning
+ * forest, it is the matrix of single linkage. Fewer than n - 1 merges describe several trees, and no linkage matrix can do
+ * that. To cut the tree into clusters, call boruvka_labels with the first links only.
  *
  * Returns: k.
  * Errors, in this order: BORUVKA_LENGTHS_DIFFER if `room` isn't k, those of boruvka_labels_in, BORUVKA_DESCENDING. */
@@ -194,7 +195,8 @@ void boruvka_total(const struct boruvka_link *links, size_t k, struct boruvka_su
 /* Returns the index of the first of m links with an endpoint outside 1 to n, or m if there is none. */
 size_t boruvka_bad_link(uint32_t n, const struct boruvka_link *links, size_t m);
 
-/* Returns the index of the first of m endpoints, a column of edges, outside base to base + n - 1, or m if there is none. */
+/* Looks for an endpoint outside base to base + n - 1 in a column of m endpoints. Returns the index of the first one, or m if
+ * there is none. */
 size_t boruvka_bad_end(uint32_t n, uint32_t base, const uint32_t *ends, size_t m);
 
 /* Finds the minimum spanning forest of a graph in .gr text, and writes it as .gr text into the `room` bytes of `into`. If it
@@ -224,8 +226,8 @@ uint32_t boruvka_release(void);
 #define BORUVKA_NAN INT64_MIN /* the key of every NaN */
 
 /* Returns the key of a double, for use as a weight: a smaller number has a smaller key, and 0.0 and -0.0 have the key 0. Every
- * NaN has the key BORUVKA_NAN, and no number has. Check for it before a call, because calls treat it as the lightest weight.
- * A sum of keys, as boruvka_total writes it, means nothing. */
+ * NaN has the key BORUVKA_NAN, and no number has this key. Check for BORUVKA_NAN before a call, because calls treat it as the
+ * lightest weight. A sum of keys, as boruvka_total writes it, means nothing. */
 BORUVKA_INLINE int64_t boruvka_key(double weight) {
     const uint64_t infinite = (uint64_t)0x7ff << 52;
     uint64_t bits;
@@ -247,8 +249,8 @@ BORUVKA_INLINE double boruvka_weight(int64_t key) {
     return weight;
 }
 
-/* ---- Calls within memory that the caller provides, of libboruvka_within.a. Each does what the call of its name without
- * `_within` does, but allocates from the memory that it is given. Those of places, labels and merges do what
+/* ---- Calls that allocate from memory that the caller provides. They are in libboruvka_within.a. Each does what the call
+ * without `_within` in its name does. But boruvka_places_within, boruvka_labels_within and boruvka_merges_within do what
  * boruvka_places_in, boruvka_labels_in and boruvka_merges_in do. The library needs memcpy, memmove and memset, and no malloc. */
 
 /* The memory that a call may use: `size` bytes from `start` on. `start` is never null, and is aligned to 16 bytes. Nothing else
@@ -256,8 +258,8 @@ BORUVKA_INLINE double boruvka_weight(int64_t key) {
  * belong to the caller again.
  *
  * The call uses whole pages of 4096 bytes. If they are too few, it returns BORUVKA_NO_MEMORY, and all outputs are unchanged
- * except `fault`, so the same call may be made again with more memory. These are enough, with 16384 bytes more for each call.
- * That isn't proved: tests measure the tightest cases.
+ * except `fault`, so the same call may be made again with more memory. The table below has amounts of memory. These are enough,
+ * with 16384 bytes more for each call. This isn't proved: tests measure the tightest cases.
  *
  *     boruvka_forest_within         29 bytes per link and 12 per vertex
  *     boruvka_places_within         29 bytes per arc and 29 per vertex

@@ -5,11 +5,11 @@
  *         {.weight = 17, .low = 1, .high = 2}, {.weight = 10, .low = 3, .high = 1}, {.weight = 2, .low = 3, .high = 2}};
  *     std::span<boruvka_link> found = boruvka::forest(3, links);
  *
- * Then found has two links, {2, 2, 3} and {10, 1, 3}, which are the first of links.
+ * Then `found` has two links, {2, 2, 3} and {10, 1, 3}, which are the first elements of `links`.
  *
- * On error a call throws a boruvka::refused. If BORUVKA_EXPECTED is defined, which needs C++23, it returns that in a
- * std::expected instead. Files of both kinds can be linked into one program. If a vector can't be allocated, std::bad_alloc is
- * thrown in both. The comments of boruvka.h list the errors of each call.
+ * On error a call throws a boruvka::refused. If BORUVKA_EXPECTED is defined, which needs C++23, the call returns the
+ * boruvka::refused in a std::expected instead. Files with and without this definition can be linked into one program. In both,
+ * a call throws std::bad_alloc if a vector can't be allocated. The comments of boruvka.h list the errors of each call.
  *
  * The calls follow the rules of boruvka.h for pointers and lengths. The caller makes sure that no other thread accesses a span
  * during a call. */
@@ -53,13 +53,15 @@ struct refused : std::runtime_error {
     }
 };
 
-/* Returns the pointer of a span. That of an empty span may be null, for which nothing is proved: then an element stands in. */
+/* Returns the pointer of a span. The pointer of an empty span may be null, and nothing is proved for null pointers. So an empty
+ * span gets a pointer to an unused element. */
 template <class T> T *first_of(std::span<T> all) {
     static std::remove_const_t<T> none{};
     return all.empty() ? &none : all.data();
 }
 
-/* Returns a number of vertices in 32 bits. One that doesn't fit, such as a negative one, stays too large. */
+/* Returns a number of vertices in 32 bits. A number that doesn't fit, such as a negative one, becomes UINT32_MAX, which is still
+ * too large. */
 inline std::uint32_t of_32_bits(std::uint64_t n) {
     return static_cast<std::uint32_t>(std::min<std::uint64_t>(n, UINT32_MAX));
 }
@@ -71,7 +73,7 @@ inline boruvka_sum total(std::span<const boruvka_link> links) {
     return sum;
 }
 
-/* A function that returns in two ways has a namespace for each way, so that a linker doesn't mix them up. */
+/* Each of the two ways to return an error has a namespace of its own, so that a linker doesn't mix them up. */
 #ifdef BORUVKA_EXPECTED
 inline namespace with_expected {
 template <class T> using answer = std::expected<T, refused>;
@@ -82,7 +84,7 @@ template <class T> using answer = T;
 template <class T> T refuse(std::int64_t code) { throw refused(code); }
 #endif
 
-/* Finds the minimum spanning forest of links between the vertices 1 to n. It overwrites the first links, and is returned. */
+/* Finds the minimum spanning forest of links between the vertices 1 to n. The forest overwrites the first links, and is returned. */
 [[nodiscard]] inline answer<std::span<boruvka_link>> forest(std::uint64_t n, std::span<boruvka_link> links) {
     const std::int64_t count = boruvka_forest(of_32_bits(n), first_of(links), links.size());
     if (count < 0) return refuse<std::span<boruvka_link>>(count);
@@ -93,7 +95,7 @@ template <class T> T refuse(std::int64_t code) { throw refused(code); }
 [[nodiscard]] inline answer<std::vector<std::uint32_t>> places(std::uint64_t n, std::uint64_t base,
                                                                std::span<const std::uint32_t> u, std::span<const std::uint32_t> v,
                                                                std::span<const std::int64_t> w) {
-    /* no endpoint is a vertex past 32 bits */
+    /* (an endpoint has 32 bits, so it can't be one of these vertices) */
     if (base > UINT32_MAX && n <= BORUVKA_MAX_VERTICES) n = 0;
     std::vector<std::uint32_t> found(std::min<std::uint64_t>(u.size(), n > 0 ? n - 1 : 0));
     const std::int64_t count = boruvka_places_in(of_32_bits(n), of_32_bits(base), first_of(u), u.size(), first_of(v), v.size(),

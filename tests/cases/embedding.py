@@ -377,7 +377,7 @@ def the_example_of_the_header_for_cpp(room):
     with open(f"{ROOT}/include/boruvka.hpp", encoding="utf-8") as it:
         head = it.read().split("#ifndef")[0]
     code = "".join(re.findall(r"^ \*     (.*\n)", head, re.M))
-    told = re.search(r"has two links, \{(.*?)\} and \{(.*?)\}, which are the first of links", head).groups()
+    told = re.search(r"has two links, \{(.*?)\} and \{(.*?)\}, which are the first elements of `links`", head).groups()
     source = f"""#include <boruvka.hpp>
 #include <cstdio>
 int main() {{
