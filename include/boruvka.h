@@ -11,8 +11,8 @@
  * Errors
  * ------
  * A call that returns an int64_t (except boruvka_key) returns a count or, on error, a negative enum boruvka_refusal. After an
- * error all outputs are unchanged, except `fault`. If several errors apply, the call returns the first one in the order that
- * its comment gives. boruvka_fault_text writes the text of an error.
+ * error all outputs are unchanged, except the parameter `fault`. If several errors apply, the call returns the first one in the
+ * order that its comment gives. boruvka_fault_text writes the text of an error.
  *
  * Rules for the caller
  * --------------------
@@ -134,7 +134,7 @@ int64_t boruvka_forest(uint32_t n, struct boruvka_link *links, size_t m);
 int64_t boruvka_places_in(uint32_t n, uint32_t base, const uint32_t *u, size_t u_count, const uint32_t *v, size_t v_count,
                           const int64_t *w, size_t w_count, uint32_t *places, size_t room);
 
-/* Does the same with m edges. `places` has as many elements as the lesser of m and n - 1.
+/* Does what boruvka_places_in does, with m edges. `places` has as many elements as the lesser of m and n - 1.
  *
  * Errors, in this order: BORUVKA_OVERLAP if `places` overlaps u, v or w; those of boruvka_places_in. */
 BORUVKA_INLINE int64_t boruvka_places(uint32_t n, uint32_t base, const uint32_t *u, const uint32_t *v, const int64_t *w, size_t m,
@@ -147,7 +147,7 @@ BORUVKA_INLINE int64_t boruvka_places(uint32_t n, uint32_t base, const uint32_t 
     return boruvka_places_in(n, base, u, m, v, m, w, m, places, room);
 }
 
-/* Labels each of the vertices 1 to n by its component in the graph of these k links. The links may come in any order, with
+/* Labels each of the vertices 1 to n by its component in the graph of the k links. The links may come in any order, with
  * their endpoints in either order, but contain no cycle: the links of a forest, or some of them.
  *
  * On success label[v - 1] is the least vertex of the component of vertex v.
@@ -157,7 +157,7 @@ BORUVKA_INLINE int64_t boruvka_places(uint32_t n, uint32_t base, const uint32_t 
  * these come BORUVKA_CYCLE for another cycle and BORUVKA_NO_MEMORY, in no fixed order. */
 int64_t boruvka_labels_in(const struct boruvka_link *links, size_t k, uint32_t *label, size_t n);
 
-/* Does the same. `label` has n elements.
+/* Does what boruvka_labels_in does. `label` has n elements.
  *
  * Errors, in this order: BORUVKA_OVERLAP if `label` overlaps the links; those of boruvka_labels_in. */
 BORUVKA_INLINE int64_t boruvka_labels(uint32_t n, const struct boruvka_link *links, size_t k, uint32_t *label) {
@@ -179,7 +179,7 @@ BORUVKA_INLINE int64_t boruvka_labels(uint32_t n, const struct boruvka_link *lin
  * Errors, in this order: BORUVKA_LENGTHS_DIFFER if `room` isn't k, those of boruvka_labels_in, BORUVKA_DESCENDING. */
 int64_t boruvka_merges_in(uint32_t n, const struct boruvka_link *links, size_t k, struct boruvka_merge *merges, size_t room);
 
-/* Does the same. `merges` has k elements.
+/* Does what boruvka_merges_in does. `merges` has k elements.
  *
  * Errors, in this order: BORUVKA_OVERLAP if `merges` overlaps the links; those of boruvka_merges_in. */
 BORUVKA_INLINE int64_t boruvka_merges(uint32_t n, const struct boruvka_link *links, size_t k, struct boruvka_merge *merges) {
@@ -209,9 +209,9 @@ size_t boruvka_bad_end(uint32_t n, uint32_t base, const uint32_t *ends, size_t m
  * and returns the first error that it meets. */
 int64_t boruvka_forest_text(const uint8_t *text, size_t length, uint8_t *into, size_t room, struct boruvka_fault *fault);
 
-/* Writes the text of an error into the `room` bytes of `into`, as snprintf does: a 0 byte ends the text, and what doesn't fit
- * before that is left out. The bytes after the 0 are unchanged. If `room` is 0, nothing is written. A number that isn't an
- * error has the text `not an error code`.
+/* Writes the text of an error into the `room` bytes of `into`, as snprintf does: a 0 byte ends the text, and a longer text
+ * is truncated so that the 0 fits too. The bytes after the 0 are unchanged. If `room` is 0, nothing is written. A number that
+ * isn't an error has the text `not an error code`.
  *
  * Returns: the length of the whole text without the 0, at most 29 today. If it is `room` or more, the text was truncated. */
 size_t boruvka_fault_text(int64_t kind, char *into, size_t room);
@@ -258,8 +258,8 @@ BORUVKA_INLINE double boruvka_weight(int64_t key) {
  * belong to the caller again.
  *
  * The call uses whole pages of 4096 bytes. If they are too few, it returns BORUVKA_NO_MEMORY, and all outputs are unchanged
- * except `fault`, so the same call may be made again with more memory. The table below has amounts of memory. These are enough,
- * with 16384 bytes more for each call. This isn't proved: tests measure the tightest cases.
+ * except `fault`, so the same call may be made again with more memory. The table below has the bytes per link, arc, vertex
+ * or byte of text. These are enough, with 16384 bytes more for each call. This isn't proved: tests measure the tightest cases.
  *
  *     boruvka_forest_within         29 bytes per link and 12 per vertex
  *     boruvka_places_within         29 bytes per arc and 29 per vertex
