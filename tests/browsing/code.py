@@ -97,4 +97,4 @@ def colours_are_written_once(_room):
 def state_is_in_one_place(_room):
     """Only state.js has changing state; the other modules have only constants. Three variables are exceptions."""
     found = [(name, line) for name in scripts() for line in text_of(name).splitlines() if re.match(r"(export )?(let|var) ", line)]
-    is_so(found, [("solver.js", "let underway = 1;"), ("worker.js", "let module;"), ("worker.js", "let seen; // what pictures are drawn of")])
+    is_so(found, [("solver.js", "let underway = 1;"), ("worker.js", "let module;"), ("worker.js", "let seen; // the result that pictures show")])

@@ -123,15 +123,16 @@ def an_input_byte_by_byte_by_threads(room):
 
 @case
 def reads_that_fail_after_what_threads_share(room):
-    # 16 reads give the first MiB, one more gives the rest, and the next finds the end
+    # 16 reads give the first MiB, each further one at most another MiB, and the last finds the end
     file, _ = drawn()
     front, behind = file[: 1 << 20].count(b"\n") + 1, file.count(b"\n") + 1
-    if not 1 << 20 < len(file) < 5 << 20:
+    last = 17 + len(file) // (1 << 20)
+    if len(file) % (1 << 20) > (1 << 20) - 3 or last < 19:
         raise AssertionError(f"the file has {len(file)} bytes")
     name, faulty = written(f"{room}/good.gr", file), written(f"{room}/faulty.gr", file[:-1] + b" 0\n")
     at_front, at_end = b"boruvka: line %d: read failed\n" % front, b"boruvka: line %d: read failed\n" % behind
     fault = b"boruvka: line %d: BadArc\n" % (behind - 1)
-    wanted = {name: {17: (3, at_front, b"x"), 18: (3, at_end, b"x")}, faulty: {17: (3, at_front, b"x"), 18: (1, fault, b"")}}
+    wanted = {name: {17: (3, at_front, b"x"), last: (3, at_end, b"x")}, faulty: {17: (3, at_front, b"x"), last: (1, fault, b"")}}
     for threads in [2, 4]:
         for it, ends in wanted.items():
             for number, (status, errors, failed) in ends.items():
