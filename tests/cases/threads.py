@@ -16,6 +16,8 @@ from cases.running import (
     case,
     drawn_graph,
     expect,
+    file_of,
+    forest_text,
     ran,
     with_library,
     written,
@@ -182,9 +184,13 @@ def threads_that_do_not_start(room):
 
 @case
 def the_threads_that_are_asked_for(room):
-    # on any number of processors exactly so many threads run at once, the first included; the file is long enough for more than
-    # fifty, and so are two files
-    name, text = large_graph(room)
+    # on any number of processors exactly so many threads run at once, the first included: the 1.8 million edges are enough for
+    # more than fifty, and so are those of two files. The light edges form a path, which is the forest
+    vertices = 600_000
+    path = [(v, v + 1, v % 7) for v in range(1, vertices)]
+    heavier = [(v, v + step, 10 + v % 5) for step in (2, 3) for v in range(1, vertices - step + 1)]
+    name = written(f"{room}/long.gr", file_of(vertices, path + heavier))
+    text = forest_text(vertices, sorted((weight, u, v) for u, v, weight in path))
     for names in [[name], [name, name]]:
         for threads in THREADS:
             found, told = with_library(room, [Program.path, *by(threads), *names], b"", {"PROCESSORS": "1", "STARTED": "0"})
