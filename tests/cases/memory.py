@@ -133,8 +133,8 @@ def each_allocation_of_the_help_fails(room):
 @case
 def each_allocation_of_invalid_arguments_fails(room):
     more = b"\n\nFor more information, try '--help'.\n"
-    workers = b"error: invalid value '65' for '--workers <N>': 65 is not in 0..=64"
-    shards = b"error: invalid value '0' for '--shards <S>': 0 is not in 1..=4096"
+    workers = b"error: invalid value '65' for '--workers <N>': 65 is not in 0 to 64"
+    shards = b"error: invalid value '0' for '--shards <S>': 0 is not in 1 to 4096"
     each_fails(room, ["--workers", "65"], SMALL_NET, b"", workers + more, 2)
     each_fails(room, ["--shards", "0"], SMALL_NET, b"", shards + more, 2)
 
