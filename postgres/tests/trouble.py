@@ -110,9 +110,11 @@ def a_killed_process(server):
     table = filled(server, EDGES)
     call = dict(calls(table))["linkage"]
     wanted = server.expect(call)
-    started = server.start(f"/* to kill */ {'; '.join([call] * 20)}")
-    time.sleep(0.3)
-    pid = int(server.expect("SELECT pid FROM pg_stat_activity WHERE query LIKE '/* to kill%'"))
+    started = server.start(f"/* to kill */ {'; '.join([call] * 200)}")
+    until, pid = time.monotonic() + 60, ""
+    while not pid and time.monotonic() < until:  # a busy machine takes its time to start the process
+        pid = server.expect("SELECT pid FROM pg_stat_activity WHERE query LIKE '/* to kill%'")
+    pid = int(pid)
     if f"{server.folder}/" not in os.readlink(f"/proc/{pid}/exe"):
         raise AssertionError(f"the process {pid} is not one of this server")
     os.kill(pid, signal.SIGKILL)
