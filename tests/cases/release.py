@@ -709,7 +709,7 @@ def a_package_says_what_make_test_passed(room):
         expect(run([*git, "commit", "-q", "-m", "a note"]), 0, b"", b"")
 
     def gate(between="pass"):
-        code = f"import sys; sys.path.insert(0, 'tools'); import record; gate = record.Gate(); {between}; gate.keep(['1 passed, 0 failed'])"
+        code = f"import sys; sys.path.insert(0, 'tools'); import record; gate = record.Run(); {between}; gate.keep(['1 passed, 0 failed'])"
         expect(run([sys.executable, "-B", "-c", code], cwd=top, env=KIT), 0, b"", b"")
 
     def told():
