@@ -518,7 +518,7 @@ class Estimators(unittest.TestCase):
         longs = np.array([[1], [2], [3]], np.longdouble)
         for points, output in [
             (1 + longs * np.finfo(np.longdouble).eps, "dtype float128"),
-            (np.array([["1"], ["2"], ["9007199254740993"]]), r"dtype <U16, as X\[0, 0\] is '1'"),
+            (np.array([["1"], ["2"], ["9007199254740993"]]), r"dtype <U16, because X\[0, 0\] is '1'"),
             (np.array([["2020-01-01"], ["2020-01-02"], ["2020-03-02"]], "M8[D]"), r"dtype datetime64\[D\]"),
             (np.array([[1], [2], [5]], "m8[s]"), r"dtype timedelta64\[s\]"),
         ]:
